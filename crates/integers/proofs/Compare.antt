@@ -1,0 +1,46 @@
+-- The tests of a branch on signed numbers, as facts. `tests` are rules for `omega`. Assumes nothing.
+use mathlib.Core.Path.{_≡_, refl, sym, ap, _∙_, subst}
+use mathlib.Core.Bool.{Bool, true, false, not}
+use Prim.Native.Nat.{ℕ, _+_, _≤_, _<_}
+use lib.Dec.{T}
+use lib.IntN.{ℤ, pos, negsuc, natAbs}
+use lib.Signed.{ltZ, leZ, nonNeg, ltZ-yes, ltZ-no, leZ-yes}
+use mir.Syntax.{Width}
+use mir.Val.{SFits, toZ, ofZ}
+use mir.ValLaws.{toZ-ofZ}
+use borrow.Author.Tests.{ltb-false, eq-eqb, ne-eqb}
+use Rattle.integers.specs.Limit.{eqZ}
+use Rattle.integers.proofs.Difference.{up, dn, of-le, of-lt}
+
+pub lt-true : (x y : ℤ) → ltZ x y ≡ true → up x + dn y < up y + dn x
+lt-true x y e = of-lt {x = x} {y = y} (ltZ-yes (subst T (sym e) tt))
+
+pub lt-false : (x y : ℤ) → ltZ x y ≡ false → up y + dn x ≤ up x + dn y
+lt-false x y e = of-le {x = y} {y = x} (ltZ-no (subst (λ (b : Bool). T (not b)) (sym e) tt))
+
+pub le-true : (x y : ℤ) → leZ x y ≡ true → up x + dn y ≤ up y + dn x
+le-true x y e = of-le {x = x} {y = y} (leZ-yes (subst T (sym e) tt))
+
+pub ruleset tests = (lt-true, lt-false, le-true)
+
+-- a number that two tests keep from 0 to b: a cast to an unsigned type keeps it
+pub kept-in : (z : ℤ) {b : ℕ} → ltZ z (pos 0) ≡ false → ltZ (pos b) z ≡ false → (T (nonNeg z)) × (natAbs z ≤ b) × (pos (natAbs z) ≡ z)
+kept-in (pos n) {b} h k = (tt, ltb-false b n k, refl)
+kept-in (negsuc n) h k = absurd (subst T h tt)
+
+pub eqZ-refl : (x : ℤ) → eqZ x x ≡ true
+eqZ-refl (pos a) = eq-eqb a a refl
+eqZ-refl (negsuc a) = eq-eqb a a refl
+
+pub eq-eqZ : (x y : ℤ) → x ≡ y → eqZ x y ≡ true
+eq-eqZ x y e = ap (eqZ x) (sym e) ∙ eqZ-refl x
+
+pub ne-eqZ : (x y : ℤ) → (x ≡ y → ⊥) → eqZ x y ≡ false
+ne-eqZ (pos a) (pos b) h = ne-eqb a b (λ e. h (ap pos e))
+ne-eqZ (pos a) (negsuc b) h = refl
+ne-eqZ (negsuc a) (pos b) h = refl
+ne-eqZ (negsuc a) (negsuc b) h = ne-eqb a b (λ e. h (ap negsuc e))
+
+-- `==` compares the bits
+pub bits-eq : (w : Width) {x y : ℤ} → SFits w x → SFits w y → ofZ w x ≡ ofZ w y → x ≡ y
+bits-eq w {x} {y} f g e = sym (toZ-ofZ w x f) ∙ ap (toZ w) e ∙ toZ-ofZ w y g

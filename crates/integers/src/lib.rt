@@ -1,0 +1,1 @@
+// Whole numbers: definitions that contracts cite (specs/) and laws (proofs/). No code.

@@ -1,0 +1,4 @@
+pub mod Tab
+pub mod Scatter
+pub mod Part
+pub mod Test

@@ -1,0 +1,1 @@
+// Lists by index: definitions that contracts cite (specs/) and their laws (proofs/). No code.

@@ -1,0 +1,75 @@
+-- The refusals and their numbers (document 01, "Refusals by who can cause them"). No other definition holds a refusal's number.
+use Prim.Native.Nat.{ℕ}
+use Rattle.refusals.specs.declared.Refusal.{Refusal}
+use Rattle.refusals.specs.declared.Refusal.the-variants.{
+  FileEmpty,
+  Version,
+  RecordCut,
+  RecordKind,
+  OutOfTurn,
+  BodyLength,
+  FileEnds,
+  Header,
+  Matrix,
+  QuantizerScale,
+  SliceStart,
+  MacroblockType,
+  AddressIncrement,
+  VectorCode,
+  Pattern,
+  Coefficient,
+  DcCoefficient,
+  VectorOutside,
+  OutputLength,
+  ForwardLength,
+  BackwardLength,
+  NumberOutOfRange,
+}
+
+-- the answer's number where nothing is refused
+abbrev pub accepted : ℕ
+accepted = 0
+
+abbrev pub numberOf : Refusal → ℕ
+-- the file is empty
+numberOf FileEmpty = 1
+-- its version is not 3
+numberOf Version = 2
+-- a record is cut: fewer than 3 bytes left, length 0, or past the end
+numberOf RecordCut = 3
+-- a record's kind is not 1..4
+numberOf RecordKind = 4
+-- a record is out of turn
+numberOf OutOfTurn = 5
+-- a record's body is too short or too long
+numberOf BodyLength = 6
+-- the file ends with macroblocks or the header missing
+numberOf FileEnds = 7
+-- a header field
+numberOf Header = 8
+-- a matrix: which above 1, given twice, a weight 0, intra first weight not 8
+numberOf Matrix = 9
+-- a quantizer scale
+numberOf QuantizerScale = 10
+-- a slice's start is not the next address
+numberOf SliceStart = 11
+-- a macroblock's type
+numberOf MacroblockType = 12
+-- an address increment
+numberOf AddressIncrement = 13
+-- a vector's code or residual
+numberOf VectorCode = 14
+-- a pattern
+numberOf Pattern = 15
+-- a block's count, level, or position past 63
+numberOf Coefficient = 16
+-- a DC difference outside -255..255, or a DC outside 0..2040
+numberOf DcCoefficient = 17
+-- a vector doesn't fit
+numberOf VectorOutside = 18
+-- the length of the output, of the forward and of the backward reference
+numberOf OutputLength = 19
+numberOf ForwardLength = 20
+numberOf BackwardLength = 21
+-- a number out of range, given straight to the coefficient, transform or vector entry
+numberOf NumberOutOfRange = 22

@@ -1,0 +1,63 @@
+// The refusals of every public entry, and their numbers. An answer is this number; 0 is an acceptance.
+ghost use mathlib.Core.Path.{_≡_};
+ghost use Rattle.refusals.specs.Refusal.{numberOf};
+
+pub enum Refusal {
+    // Caused by the writer of the file.
+    FileEmpty,
+    Version,
+    RecordCut,
+    RecordKind,
+    OutOfTurn,
+    BodyLength,
+    FileEnds,
+    // Caused by the encoder.
+    Header,
+    Matrix,
+    QuantizerScale,
+    SliceStart,
+    MacroblockType,
+    AddressIncrement,
+    VectorCode,
+    Pattern,
+    Coefficient,
+    DcCoefficient,
+    VectorOutside,
+    // Caused by the caller.
+    OutputLength,
+    ForwardLength,
+    BackwardLength,
+    NumberOutOfRange,
+}
+
+pub const ACCEPTED: u32 = 0;
+
+// The number by which an answer names a refusal.
+pub fn number(refusal: Refusal) -> u32
+    ensures { λ r. ⌜ r ≡ numberOf refusal ⌝ }
+{
+    match refusal {
+        Refusal::FileEmpty => 1,
+        Refusal::Version => 2,
+        Refusal::RecordCut => 3,
+        Refusal::RecordKind => 4,
+        Refusal::OutOfTurn => 5,
+        Refusal::BodyLength => 6,
+        Refusal::FileEnds => 7,
+        Refusal::Header => 8,
+        Refusal::Matrix => 9,
+        Refusal::QuantizerScale => 10,
+        Refusal::SliceStart => 11,
+        Refusal::MacroblockType => 12,
+        Refusal::AddressIncrement => 13,
+        Refusal::VectorCode => 14,
+        Refusal::Pattern => 15,
+        Refusal::Coefficient => 16,
+        Refusal::DcCoefficient => 17,
+        Refusal::VectorOutside => 18,
+        Refusal::OutputLength => 19,
+        Refusal::ForwardLength => 20,
+        Refusal::BackwardLength => 21,
+        Refusal::NumberOutOfRange => 22,
+    }
+}
