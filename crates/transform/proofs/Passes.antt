@@ -2,22 +2,29 @@
 use Prim.Native.Nat.{ℕ, _+_, _*_, _/_, _%_, _<_}
 use mathlib.Core.Bool.{Bool, true, false, cond}
 use mathlib.Core.List.{List}
-use mathlib.Core.Path.{_≡_, refl, ap, _∙_}
+use mathlib.Core.Path.{_≡_, refl, sym, ap, _∙_, subst}
+use native.Mathlib.Decide.{decLt}
 use native.Mathlib.Omega.{arith}
 use lib.Dec.{T, leb}
 use lib.IntN.{ℤ, pos, negsuc, natAbs, _*ℤ_}
+use lib.ListN.{length}
 use lib.Signed.{ltZ}
-use Rattle.integers.proofs.Bound.{abs-le, within-mul, within-literal, tab-within}
+use Rattle.integers.proofs.Bound.{abs-le, within-mul, within-literal, within-eq, tab-within}
 use Rattle.integers.proofs.Compare.{lt-false}
+use Rattle.integers.proofs.Difference.{of-le}
+use Rattle.integers.proofs.Limit.{Between, range-between}
 use Rattle.integers.proofs.Sum.{sum-ext, within-sum, separable}
 use Rattle.integers.specs.Bound.{Within, at, AllWithin}
+use Rattle.integers.specs.Limit.{inRange}
 use Rattle.integers.specs.Sum.{sumTo}
 use Rattle.lists.proofs.Tab.{tab-at, tab-ext}
-use Rattle.lists.proofs.Test.{at-below₂}
+use Rattle.lists.proofs.Test.{at-below, at-below₂}
 use Rattle.lists.specs.Tab.{tab}
 use Rattle.lists.specs.Test.{allBelow}
+use Rattle.transform.specs.Answer.{coefficientsInRange}
 use Rattle.transform.specs.Line.{lineSum, rowOf, columnPlace, passed, residueOf}
 use Rattle.transform.specs.Transform.{angle, factorOf, factor, doubleSum, inverseTransform, limitedResidue, residuesBy}
+use lib.ListN.{List·getD-eq-default}
 
 -- ---- sizes
 small : ℕ → ℕ → Bool
@@ -90,3 +97,21 @@ column c q p hq hp =
 pub passes : (c : List ℤ) → tab 64 (λ k. residueOf (passed (tab 64 (passed c)) k)) ≡ residuesBy inverseTransform c
 unfolding residuesBy inverseTransform
 passes c = tab-ext 64 _ _ (λ k h. ap residueOf (column c (k / 8) (k % 8) (omega arith) (omega arith)))
+
+-- ---- coefficients that were tested
+pub in-range-within : (c : List ℤ) → length c ≡ 64 → coefficientsInRange c ≡ true → AllWithin 2048 c
+unfolding coefficientsInRange
+in-range-within c long e = record { all = λ k. elim (decLt k 64) [
+  | yes h ↦ bounded (at c k) (range-between (negsuc 2047) (pos 2047) (at c k) (passes-at k h))
+  | no h ↦ within-eq (List·getD-eq-default c (pos 0) (omega (arith, long))) (within-literal tt)
+] }
+  where
+    bounded : (z : ℤ) → Between (negsuc 2047) (pos 2047) z → Within 2048 z
+    bounded z b = record { within = abs-le z (omega (arith, of-le (b .upper))) (omega (arith, of-le (b .lower))) }
+
+    truth : (b : Bool) → T b → b ≡ true
+    truth true t = refl
+    truth false t = absurd t
+
+    passes-at : (k : ℕ) → k < 64 → inRange (negsuc 2047) (pos 2047) (at c k) ≡ true
+    passes-at k h = truth _ (at-below 64 _ (subst T (sym e) tt) k h)
