@@ -36,4 +36,3 @@ module _ {A : Type 0} where
   pub columns-all : {f : ℕ → A} {d : A} {v : ℕ} {l : List A} → Columns f d v l → 8 ≤ v → l ≡ tab 64 f
   columns-all {f} {d} {v} {l} p h = ext-getD d l (tab 64 f) (p .long ∙ sym (tab-length 64 f))
       (λ k q. p .made k (omega (arith, p .long)) (omega arith) ∙ sym (tab-at 64 f k d (omega (arith, p .long))))
-

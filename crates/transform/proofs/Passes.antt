@@ -1,6 +1,6 @@
 -- Rows in and columns out, twice, is the double sum; and the size of every number on the way. Assumes nothing.
 use Prim.Native.Nat.{ℕ, _+_, _*_, _/_, _%_, _<_}
-use mathlib.Core.Bool.{Bool, true, false, cond}
+use mathlib.Core.Bool.{Bool, true, false}
 use mathlib.Core.List.{List}
 use mathlib.Core.Path.{_≡_, refl, sym, ap, _∙_, subst}
 use native.Mathlib.Decide.{decLt}
@@ -8,11 +8,8 @@ use native.Mathlib.Omega.{arith}
 use lib.Dec.{T, leb}
 use lib.IntN.{ℤ, pos, negsuc, natAbs, _*ℤ_}
 use lib.ListN.{length}
-use lib.Signed.{ltZ}
-use Rattle.integers.proofs.Bound.{abs-le, within-mul, within-literal, within-eq, tab-within}
-use Rattle.integers.proofs.Compare.{lt-false}
-use Rattle.integers.proofs.Difference.{of-le}
-use Rattle.integers.proofs.Limit.{Between, range-between}
+use Rattle.integers.proofs.Bound.{within-mul, within-literal, within-eq, tab-within}
+use Rattle.integers.proofs.Limit.{range-between, limited-within, between-within}
 use Rattle.integers.proofs.Sum.{sum-ext, within-sum, separable}
 use Rattle.integers.specs.Bound.{Within, at, AllWithin}
 use Rattle.integers.specs.Limit.{inRange}
@@ -50,13 +47,8 @@ row-within {b} c v s = tab-within b 8 _ (λ u h. s .all (8 * v + u))
 pub pass-within : (c : List ℤ) → AllWithin 2048 c → AllWithin 17179869184 (tab 64 (passed c))
 pass-within c s = tab-within 17179869184 64 _ (λ k h. lineSum-within (8 * (k % 8)) (k / 8) s (omega arith))
 
-pub limited-within : (z : ℤ) → Within 256 (limitedResidue z)
-limited-within z = go (ltZ z (negsuc 255)) (ltZ (pos 255) z) refl refl
-  where
-    go : (a b : Bool) → ltZ z (negsuc 255) ≡ a → ltZ (pos 255) z ≡ b → Within 256 (cond a (negsuc 255) (cond b (pos 255) z))
-    go true b p q = within-literal tt
-    go false true p q = within-literal tt
-    go false false p q = record { within = abs-le z (omega (arith, lt-false (pos 255) z q)) (omega (arith, lt-false z (negsuc 255) p)) }
+pub residue-within : (z : ℤ) → Within 256 (limitedResidue z)
+residue-within z = limited-within (negsuc 255) (pos 255) z (within-literal tt) (within-literal tt)
 
 -- ---- a row that was taken out of a block, and where its numbers go
 row-sum : (c : List ℤ) (v p : ℕ) → lineSum (rowOf c v) 0 p ≡ lineSum c (8 * v) p
@@ -101,14 +93,13 @@ passes c = tab-ext 64 _ _ (λ k h. ap residueOf (column c (k / 8) (k % 8) (omega
 -- ---- coefficients that were tested
 pub in-range-within : (c : List ℤ) → length c ≡ 64 → coefficientsInRange c ≡ true → AllWithin 2048 c
 unfolding coefficientsInRange
-in-range-within c long e = record { all = λ k. elim (decLt k 64) [
-  | yes h ↦ bounded (at c k) (range-between (negsuc 2047) (pos 2047) (at c k) (passes-at k h))
-  | no h ↦ within-eq (List·getD-eq-default c (pos 0) (omega (arith, long))) (within-literal tt)
-] }
+in-range-within c long e = record {
+  all = λ k. elim (decLt k 64) [
+    | yes h ↦ between-within (range-between (negsuc 2047) (pos 2047) (at c k) (passes-at k h)) (within-literal tt) (within-literal tt)
+    | no h ↦ within-eq (List·getD-eq-default c (pos 0) (omega (arith, long))) (within-literal tt)
+  ];
+}
   where
-    bounded : (z : ℤ) → Between (negsuc 2047) (pos 2047) z → Within 2048 z
-    bounded z b = record { within = abs-le z (omega (arith, of-le (b .upper))) (omega (arith, of-le (b .lower))) }
-
     truth : (b : Bool) → T b → b ≡ true
     truth true t = refl
     truth false t = absurd t

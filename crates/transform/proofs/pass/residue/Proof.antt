@@ -3,7 +3,7 @@ use borrow.Author.Needs.{needs}
 use mir.Syntax.{w16, w64}
 use mir.ValLaws.{toZ-ofZ}
 use Rattle.integers.proofs.Machine.{Held, fits, kept, result}
-use Rattle.transform.proofs.Passes.{limited-within}
+use Rattle.transform.proofs.Passes.{residue-within}
 use Rattle.transform.specs.Line.{residueOf}
 use Rattle.transform.specs.Transform.{divided}
 use Rattle.transform.proofs.pass.residue.Statement.{statement}
@@ -13,7 +13,7 @@ round-residue-requires : tie.Need-round-residue-requires
 round-residue-requires c κs = search needs
 
 abbrev held : (c : tie.After-round-residue) → Held (residueOf (c .before .args .z))
-held c = result w64 (c .round-residue .ensures ∙ ap residueOf (toZ-ofZ w64 (c .before .args .z) (c .before .fits .z))) (limited-within (divided (c .before .args .z))) tt
+held c = result w64 (c .round-residue .ensures ∙ ap residueOf (toZ-ofZ w64 (c .before .args .z) (c .before .fits .z))) (residue-within (divided (c .before .args .z))) tt
 
 cast-result : tie.Need-cast-result
 cast-result c = fits (held c) tt
