@@ -1,0 +1,2 @@
+pub mod OrderedRing
+pub mod Cosines
