@@ -1,2 +1,5 @@
 pub mod OrderedRing
 pub mod Cosines
+pub mod About
+pub mod Nearness
+pub mod Accuracy

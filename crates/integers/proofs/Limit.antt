@@ -25,6 +25,14 @@ range-between low high z e = go (ltZ z low) refl (ltZ high z) refl e
     go false p true q t = absurd (subst T (sym t) tt)
     go false p false q t = record { lower = le-of low z (omega (arith, tests)); upper = le-of z high (omega (arith, tests)) }
 
+pub between-range : {low high z : ℤ} → Between low high z → inRange low high z ≡ true
+between-range {low} {high} {z} b = go (ltZ z low) refl (ltZ high z) refl
+  where
+    go : (s : Bool) → ltZ z low ≡ s → (t : Bool) → ltZ high z ≡ t → cond s false (cond t false true) ≡ true
+    go true p t q = absurd (omega (arith, tests, of-le (b .lower)))
+    go false p true q = absurd (omega (arith, tests, of-le (b .upper)))
+    go false p false q = refl
+
 pub sign-within : (z : ℤ) → Within 1 (signOf z)
 sign-within z = within-cond (ltZ z (pos 0)) (within-literal tt) (within-cond (ltZ (pos 0) z) (within-literal tt) (within-literal tt))
 
