@@ -1,0 +1,2 @@
+pub mod Pel
+pub mod Prediction
