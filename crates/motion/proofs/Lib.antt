@@ -1,2 +1,3 @@
-pub mod Mean
-pub mod Pel
+pub mod MeanLaws
+pub mod PelLaws
+pub mod VectorLaws

@@ -1,2 +1,3 @@
 pub mod Pel
 pub mod Prediction
+pub mod Vector

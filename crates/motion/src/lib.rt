@@ -2,3 +2,4 @@
 // prediction and residue and put into a plane.
 pub mod block;
 pub mod prediction;
+pub mod vector;

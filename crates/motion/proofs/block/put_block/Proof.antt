@@ -7,7 +7,7 @@ use lib.ListN.{length, getD, length-set}
 use Rattle.lists.specs.Scatter.{scatter}
 use Rattle.lists.proofs.Scatter.{scatter-none, scatter-next}
 use Rattle.motion.specs.Pel.{cell}
-use Rattle.motion.proofs.Pel.{CellFits, cell-fits}
+use Rattle.motion.proofs.PelLaws.{CellFits, cell-fits}
 use Rattle.motion.proofs.block.put_block.Statement.{statement}
 use Rattle.motion.proofs.block.put_block.Tie as tie
 

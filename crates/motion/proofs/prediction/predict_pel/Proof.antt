@@ -4,7 +4,7 @@ use Prim.Native.Nat.{_+_, _/_, _%_}
 use native.Mathlib.Nat.{add-zero}
 use native.Mathlib.Omega.{arith}
 use Rattle.motion.specs.Prediction.{predictedPel, pelAt}
-use Rattle.motion.proofs.Mean.{mean-interpolated, whole-interpolated}
+use Rattle.motion.proofs.MeanLaws.{mean-interpolated, whole-interpolated}
 use borrow.Author.Needs.{needs}
 use Rattle.motion.proofs.prediction.predict_pel.Statement.{statement}
 use Rattle.motion.proofs.prediction.predict_pel.Tie as tie

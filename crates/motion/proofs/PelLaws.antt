@@ -1,5 +1,5 @@
 -- Laws of a block's place in a plane. Assumes nothing.
-use mathlib.Core.Path.{_≡_, refl, ap, _∙_, sym}
+use mathlib.Core.Path.{_≡_, ap, _∙_, sym}
 use mathlib.Core.Bool.{Bool, _&&_, cond}
 use mathlib.Core.List.{List}
 use Prim.Native.Nat.{ℕ, _+_, _-_, _*_, _/_, _%_, _<_, _≤_}
@@ -12,7 +12,6 @@ use lib.Dec.{ltb, leb}
 use lib.ListN.{length, getD}
 use lib.Seq.{ext-getD}
 use Rattle.lists.specs.Tab.{tab}
-use Rattle.lists.specs.Scatter.{scatter}
 use Rattle.lists.proofs.Tab.{tab-length, tab-at}
 use Rattle.lists.proofs.Scatter.{scatter-length, scatter-at, scatter-other}
 use Rattle.motion.specs.Pel.{cell, withBlock}
