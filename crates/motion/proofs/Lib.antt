@@ -1,3 +1,4 @@
+pub mod FitLaws
 pub mod MeanLaws
 pub mod PelLaws
 pub mod VectorLaws

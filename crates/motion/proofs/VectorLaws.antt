@@ -188,7 +188,7 @@ pub past-known : (f : ℕ) (past : ℤ) → pastInRange f past ≡ true → Betw
 unfolding pastInRange
 past-known f past e = range-between (lowest (pos f)) (highest (pos f)) past e
 
-both-true : (a b : Bool) → a && b ≡ true → (a ≡ true) × (b ≡ true)
+pub both-true : (a b : Bool) → a && b ≡ true → (a ≡ true) × (b ≡ true)
 both-true true b e = (refl, e)
 both-true false b e = absurd (subst T (sym e) tt)
 

@@ -1,11 +1,11 @@
 -- `block::reconstruct_pel` meets its contract: the two tests are those of `limited`, and the sum that passes both is its own size. Assumes nothing.
 use Prim.Native.Nat.{suc-le-suc}
+use borrow.Author.Needs.{needs}
 use lib.IntN.{pos, _+ℤ_}
 use mir.Syntax.{w16}
 use Rattle.integers.proofs.Compare.{kept-in}
 use Rattle.integers.proofs.Machine.{Held, parameter, unsigned, fits, kept, _⊞_}
 use Rattle.motion.specs.Pel.{reconstructedPel}
-use borrow.Author.Needs.{needs}
 use Rattle.motion.proofs.block.reconstruct_pel.Statement.{statement}
 use Rattle.motion.proofs.block.reconstruct_pel.Tie as tie
 

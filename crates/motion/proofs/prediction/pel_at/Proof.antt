@@ -1,8 +1,8 @@
 -- `prediction::pel_at` meets its contract: column x of line y is below the count of whole lines. Assumes nothing.
 use Prim.Native.Nat.{_+_, _*_, _<_}
 use native.Mathlib.Omega.{arith}
-use lib.Arith.{digits-lt}
 use borrow.Author.Needs.{needs}
+use lib.Arith.{digits-lt}
 use Rattle.motion.proofs.prediction.pel_at.Statement.{statement}
 use Rattle.motion.proofs.prediction.pel_at.Tie as tie
 

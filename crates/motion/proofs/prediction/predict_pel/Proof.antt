@@ -3,9 +3,9 @@ use mathlib.Core.Path.{_∙_}
 use Prim.Native.Nat.{_+_, _/_, _%_}
 use native.Mathlib.Nat.{add-zero}
 use native.Mathlib.Omega.{arith}
+use borrow.Author.Needs.{needs}
 use Rattle.motion.specs.Prediction.{predictedPel, pelAt}
 use Rattle.motion.proofs.MeanLaws.{mean-interpolated, whole-interpolated}
-use borrow.Author.Needs.{needs}
 use Rattle.motion.proofs.prediction.predict_pel.Statement.{statement}
 use Rattle.motion.proofs.prediction.predict_pel.Tie as tie
 

@@ -1,12 +1,11 @@
 -- `vector::all_in_range` meets its contract: its tests are those of the definition, in its order. Assumes nothing.
 use mathlib.Core.Path.{_≡_, ap, sym, _∙_}
+use borrow.Author.Tests.{not-true, not-false, le-leb, lt-leb}
+use borrow.Author.Needs.{needs}
 use mir.Syntax.{w32}
 use mir.ValLaws.{toZ-ofZ}
-use borrow.Author.Tests.{not-true, not-false, le-leb, lt-leb}
-use Rattle.integers.proofs.Machine.{result, fits}
 use Rattle.motion.specs.Vector.{factorOf, codeInRange, residualInRange, pastInRange, allInRange}
 use Rattle.motion.proofs.VectorLaws.{factor-most}
-use borrow.Author.Needs.{needs}
 use Rattle.motion.proofs.vector.all_in_range.Statement.{statement}
 use Rattle.motion.proofs.vector.all_in_range.Tie as tie
 

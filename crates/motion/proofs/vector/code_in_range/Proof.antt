@@ -1,7 +1,6 @@
 -- `vector::code_in_range` meets its contract: its tests are those of `inRange`. Assumes nothing.
 use mir.Syntax.{w32}
 use mir.ValLaws.{toZ-ofZ}
-use Rattle.integers.proofs.Machine.{fits}
 use Rattle.motion.specs.Vector.{codeInRange}
 use Rattle.motion.proofs.vector.code_in_range.Statement.{statement}
 use Rattle.motion.proofs.vector.code_in_range.Tie as tie

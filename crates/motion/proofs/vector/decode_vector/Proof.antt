@@ -1,14 +1,14 @@
 -- `vector::decode_vector` meets its contract: the test decides both fields, and where it passes the numbers are small enough for `next_vector`. Assumes nothing.
 use mathlib.Core.Path.{_≡_, refl, sym, _∙_}
-use mir.Syntax.{w32}
-use mir.ValLaws.{toZ-ofZ}
-use borrow.Author.Tests.{not-true, not-false}
 use mathlib.Core.Bool.{false}
 use native.Mathlib.Nat.{lt-of-lt-of-le}
-use Rattle.integers.proofs.Machine.{number, parameter, result, returned, fits, bound}
+use borrow.Author.Tests.{not-true, not-false}
+use borrow.Author.Needs.{needs}
+use mir.Syntax.{w32}
+use mir.ValLaws.{toZ-ofZ}
+use Rattle.integers.proofs.Machine.{parameter, returned, bound}
 use Rattle.motion.specs.Vector.{vectorOf, allInRange}
 use Rattle.motion.proofs.VectorLaws.{factor-most, InRange, all-known, between-within}
-use borrow.Author.Needs.{needs}
 use Rattle.motion.proofs.vector.decode_vector.Statement.{statement}
 use Rattle.motion.proofs.vector.decode_vector.Tie as tie
 

@@ -1,10 +1,10 @@
 -- `vector::difference` meets its contract: the code's size is the code or its negation, and the sign goes onto the steps. Assumes nothing.
 use mathlib.Core.Path.{_∙_}
+use borrow.Author.Needs.{needs}
 use lib.IntN.{ℤ, pos, _+ℤ_, _-ℤ_, _*ℤ_}
 use mir.Syntax.{w32}
 use Rattle.integers.proofs.Machine.{Held, parameter, literal, result, fits, kept, bound, tested, _⊞_, _⊟_, _⊠_}
 use Rattle.motion.proofs.VectorLaws.{difference-below, difference-above, difference-none}
-use borrow.Author.Needs.{needs}
 use Rattle.motion.proofs.vector.difference.Statement.{statement}
 use Rattle.motion.proofs.vector.difference.Tie as tie
 

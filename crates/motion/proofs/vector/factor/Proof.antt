@@ -2,10 +2,10 @@
 use mathlib.Core.Path.{ap, _∙_}
 use Prim.Native.Nat.{ℕ, _%_}
 use native.Mathlib.Omega.{arith}
-use lib.Pow.{pow-lt}
 use native.Mathlib.Nat.{mod-eq-of-lt, one-mul}
-use Rattle.motion.specs.Vector.{factorOf}
 use borrow.Author.Needs.{needs}
+use lib.Pow.{pow-lt}
+use Rattle.motion.specs.Vector.{factorOf}
 use Rattle.motion.proofs.vector.factor.Statement.{statement}
 use Rattle.motion.proofs.vector.factor.Tie as tie
 

@@ -1,14 +1,14 @@
 -- `vector::next_vector` meets its contract: the past and the difference are added and wrapped, and no step of it leaves the type. Assumes nothing.
 use mathlib.Core.Path.{_≡_, _∙_}
 use Prim.Native.Nat.{ℕ, _≤_, suc-le-suc}
+use native.Mathlib.Nat.{le-of-lt}
+use borrow.Author.Needs.{needs}
 use lib.IntN.{pos, _+ℤ_}
 use mir.Syntax.{w32}
 use mir.Val.{toZ}
-use native.Mathlib.Nat.{le-of-lt}
 use Rattle.integers.proofs.Machine.{Held, parameter, unsigned, result, returned, fits, kept, bound, _⊞_}
 use Rattle.motion.specs.Vector.{differenceOf, wrapped, vectorOf}
 use Rattle.motion.proofs.VectorLaws.{difference-within}
-use borrow.Author.Needs.{needs}
 use Rattle.motion.proofs.vector.next_vector.Statement.{statement}
 use Rattle.motion.proofs.vector.next_vector.Tie as tie
 

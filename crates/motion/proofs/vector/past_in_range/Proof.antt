@@ -1,11 +1,11 @@
 -- `vector::past_in_range` meets its contract: its tests are those of `inRange`, at ends that do not leave the type. Assumes nothing.
 use Prim.Native.Nat.{suc-le-suc}
+use borrow.Author.Needs.{needs}
 use lib.IntN.{pos, _*ℤ_}
 use mir.Syntax.{w32}
 use Rattle.integers.proofs.Bound.{within-mag}
 use Rattle.integers.proofs.Machine.{Held, parameter, literal, unsigned, fits, kept, tested, _⊟_, _⊠_}
 use Rattle.motion.specs.Vector.{lowest, highest, pastInRange}
-use borrow.Author.Needs.{needs}
 use Rattle.motion.proofs.vector.past_in_range.Statement.{statement}
 use Rattle.motion.proofs.vector.past_in_range.Tie as tie
 

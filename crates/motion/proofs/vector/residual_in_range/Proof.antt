@@ -1,11 +1,10 @@
 -- `vector::residual_in_range` meets its contract: its tests are those of the definition. Assumes nothing.
 use mathlib.Core.Path.{ap}
 use lib.IntN.{pos}
-use mir.Syntax.{w32}
 use lib.Dec.{lit<}
+use mir.Syntax.{w32}
 use mir.Val.{ofZ}
 use Rattle.integers.proofs.Compare.{bits-eq, eq-eqZ, ne-eqZ}
-use Rattle.integers.proofs.Machine.{fits}
 use Rattle.motion.specs.Vector.{residualInRange}
 use Rattle.motion.proofs.vector.residual_in_range.Statement.{statement}
 use Rattle.motion.proofs.vector.residual_in_range.Tie as tie
