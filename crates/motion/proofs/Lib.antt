@@ -1,0 +1,4 @@
+pub mod FitLaws
+pub mod MeanLaws
+pub mod PelLaws
+pub mod VectorLaws

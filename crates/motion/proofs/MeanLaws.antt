@@ -1,0 +1,38 @@
+-- Laws of means, for one, two and four pels and for both directions. Assumes nothing.
+use mathlib.Core.Path.{_≡_, refl, ap, _∙_, sym}
+use Prim.Native.Nat.{ℕ, zero, suc, _+_, _*_, _/_, _≤_, _<_}
+use native.Mathlib.Nat.{div-add-mod', mod-lt, div-div-eq-div-mul}
+use native.Mathlib.Omega.{arith}
+use Rattle.motion.specs.Prediction.{meanOf, interpolated}
+
+-- halves up: n times the mean is at most the sum and half of n, and n more is above them
+pub record Rounded (n sum mean : ℕ) : Type 0 where
+  pub lower : n * mean ≤ sum + n / 2
+  pub upper : sum + n / 2 < n * mean + n
+
+pub mean-rounded : (n sum : ℕ) → 0 < n → Rounded n sum (meanOf n sum)
+mean-rounded n sum h = record {
+  lower = omega (arith, div-add-mod' (sum + n / 2) n);
+  upper = omega (arith, div-add-mod' (sum + n / 2) n, mod-lt (sum + n / 2) h);
+}
+
+-- each pel taken twice, the mean is the same
+pub mean-twice : (n sum : ℕ) → meanOf (2 * n) (2 * sum) ≡ meanOf n sum
+mean-twice n sum = sym (div-div-eq-div-mul (2 * sum + 2 * n / 2) 2 n) ∙ ap (λ (s : ℕ). s / n) (omega arith)
+
+-- the mean of four, in which an even place makes two of them the same pel, is the mean of two; and of two, the pel
+pub mean-interpolated : (across down : ℕ) (pel : ℕ → ℕ → ℕ) → across < 2 → down < 2
+    → meanOf 4 (pel 0 0 + pel across 0 + pel 0 down + pel across down) ≡ interpolated across down (pel 0 0) (pel 1 0) (pel 0 1) (pel 1 1)
+mean-interpolated zero zero pel a d = ap (meanOf 4) (omega arith) ∙ mean-twice 2 (2 * pel 0 0) ∙ mean-twice 1 (pel 0 0) ∙ omega arith
+mean-interpolated (suc zero) zero pel a d = ap (meanOf 4) (omega arith) ∙ mean-twice 2 (pel 0 0 + pel 1 0)
+mean-interpolated zero (suc zero) pel a d = ap (meanOf 4) (omega arith) ∙ mean-twice 2 (pel 0 0 + pel 0 1)
+mean-interpolated (suc zero) (suc zero) pel a d = refl
+mean-interpolated (suc (suc across)) down pel a d = absurd (omega arith)
+mean-interpolated zero (suc (suc down)) pel a d = absurd (omega arith)
+mean-interpolated (suc zero) (suc (suc down)) pel a d = absurd (omega arith)
+
+-- at a place of whole pels it is the pel
+pub whole-interpolated : (across down pel right below diagonal : ℕ) → across + down ≡ 0 → pel ≡ interpolated across down pel right below diagonal
+whole-interpolated zero zero pel right below diagonal e = refl
+whole-interpolated (suc across) down pel right below diagonal e = absurd (omega arith)
+whole-interpolated zero (suc down) pel right below diagonal e = absurd (omega arith)

@@ -1,0 +1,59 @@
+-- `vector::next_vector` meets its contract: the past and the difference are added and wrapped, and no step of it leaves the type. Assumes nothing.
+use mathlib.Core.Path.{_≡_, _∙_}
+use Prim.Native.Nat.{ℕ, _≤_, suc-le-suc}
+use native.Mathlib.Nat.{le-of-lt}
+use borrow.Author.Needs.{needs}
+use lib.IntN.{pos, _+ℤ_}
+use mir.Syntax.{w32}
+use mir.Val.{toZ}
+use Rattle.integers.proofs.Machine.{Held, parameter, unsigned, result, returned, fits, kept, bound, _⊞_}
+use Rattle.motion.specs.Vector.{differenceOf, wrapped, vectorOf}
+use Rattle.motion.proofs.VectorLaws.{difference-within}
+use Rattle.motion.proofs.vector.next_vector.Statement.{statement}
+use Rattle.motion.proofs.vector.next_vector.Tie as tie
+
+-- an unsigned number up to 64, cast
+abbrev small : (n : ℕ) → n ≤ 64 → Held (pos n)
+small n h = record { raw = toZ w32 n; cap = 64; is = unsigned w32 n (suc-le-suc h) tt .is; size = record { within = h } }
+
+abbrev f : (c : tie.Start) → Held (pos (c .args .f))
+f c = small (c .args .f) (c .pre .0)
+
+abbrev code : (c : tie.Start) → Held (c .args .code)
+code c = parameter (c .fits .code) (c .pre .2)
+
+abbrev residual : (c : tie.Start) → Held (pos (c .args .residual))
+residual c = small (c .args .residual) (le-of-lt (c .pre .3))
+
+-- the sum of past and difference
+difference-is : (c : tie.After-difference) → let a = c .before .args in c .difference .result ≡ differenceOf (pos (a .f)) (a .code) (pos (a .residual))
+difference-is c = c .difference .ensures ∙ (λ i. differenceOf (f (c .before) .is i) (code (c .before) .is i) (residual (c .before) .is i))
+
+abbrev moved : (c : tie.After-difference) → let a = c .before .args in Held (a .past +ℤ differenceOf (pos (a .f)) (a .code) (pos (a .residual)))
+moved c =
+    let s = c .before in
+    parameter (s .fits .past) (s .pre .1) ⊞ result w32 (difference-is c) (difference-within (f s .size) (s .pre .2) (residual s .size)) tt
+
+cast-by : tie.Need-cast-by
+cast-by c = search needs
+
+cast-difference : tie.Need-cast-difference
+cast-difference c = search needs
+
+difference-requires : tie.Need-difference-requires
+difference-requires c κs = (bound (f c) tt, bound (code c) tt, bound (residual c) tt)
+
+add-moved : tie.Need-add-moved
+add-moved c = fits (moved c) tt
+
+wrap-requires : tie.Need-wrap-requires
+wrap-requires c κs = (bound (f (c .before)) tt, bound (kept w32 (moved c) tt) tt)
+
+returns : tie.Need-returns
+unfolding vectorOf
+returns c = returned w32 (c .wrap .ok) (c .wrap .ensures ∙ (λ i. wrapped (f (c .before .before) .is i) (kept w32 (moved (c .before)) tt .is i)))
+
+pub next-vector-spec : {M : Type 1} → statement M
+next-vector-spec =
+    tie.close
+    (tie.spec cast-by cast-difference difference-requires add-moved wrap-requires returns)

@@ -1,0 +1,4 @@
+pub mod Fit
+pub mod Pel
+pub mod Prediction
+pub mod Vector

@@ -1,0 +1,46 @@
+// A block of pels: prediction plus residue, limited, and the block put into a plane.
+ghost use mathlib.Core.Path.{_≡_};
+ghost use Prim.Native.Nat.{_+_, _*_, _≤_};
+ghost use lib.ListN.{length};
+ghost use Rattle.integers.specs.Bound.{Within, AllWithin};
+ghost use Rattle.motion.specs.Pel.{reconstructedPel, reconstructed, withBlock};
+
+fn reconstruct_pel(predicted: u8, residue: i16) -> u8
+    requires { ⌜ Within 256 residue ⌝ }
+    ensures { λ r. ⌜ r ≡ reconstructedPel predicted residue ⌝ }
+{
+    let sum = predicted as i16 + residue;
+    if sum < 0 {
+        return 0;
+    }
+    if 255 < sum {
+        return 255;
+    }
+    sum as u8
+}
+
+// The pels of a block. The prediction of an intra block is 0 at each place.
+pub fn reconstruct_block(predicted: [u8; 64], residue: [i16; 64]) -> [u8; 64]
+    requires { ⌜ AllWithin 256 residue ⌝ }
+    ensures { λ r. ⌜ r ≡ reconstructed predicted residue ⌝ }
+{
+    let mut block = [0u8; 64];
+    for k in 0..64 {
+        block[k] = reconstruct_pel(predicted[k], residue[k]);
+    }
+    block
+}
+
+// The block at column x of line y. Lines and columns in two loops: the inner one becomes a store of eight bytes.
+pub fn put_block(plane: &mut [u8], stride: usize, x: usize, y: usize, block: [u8; 64])
+    requires { ⌜ (x + 8 ≤ stride) × ((y + 8) * stride ≤ length (now plane)) ⌝ }
+    ensures { λ _. ⌜ now (plane .exit) ≡ withBlock stride x y block (now (plane .entry)) ⌝ }
+{
+    for j in 0..8 {
+        for i in 0..8 {
+            let k = 8 * j + i;
+            let at = (y + k / 8) * stride + (x + k % 8);
+            plane[at] = block[k];
+        }
+    }
+}

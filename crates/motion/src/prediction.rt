@@ -1,0 +1,73 @@
+// The prediction of an 8 by 8 block from a plane of a reference picture, at a place that counts half pels.
+ghost use mathlib.Core.Path.{_≡_};
+ghost use Prim.Native.Nat.{_+_, _*_, _≤_, _<_};
+ghost use lib.ListN.{length};
+ghost use Rattle.motion.specs.Prediction.{meanOf, pelAt, predictedPel, prediction, meanOfBoth};
+
+// The mean of four pels, halves up. With two of them equal to the other two it is the mean of two, and of four equal ones the pel.
+fn mean_of_four(a: u8, b: u8, c: u8, d: u8) -> u8
+    ensures { λ r. ⌜ r ≡ meanOf 4 (a + b + c + d) ⌝ }
+{
+    ((a as u32 + b as u32 + c as u32 + d as u32 + 2) / 4) as u8
+}
+
+fn mean_of_two(a: u8, b: u8) -> u8
+    ensures { λ r. ⌜ r ≡ meanOf 2 (a + b) ⌝ }
+{
+    ((a as u32 + b as u32 + 1) / 2) as u8
+}
+
+// The pel at column x of line y.
+fn pel_at(plane: &[u8], stride: usize, lines: usize, x: usize, y: usize) -> u8
+    requires { ⌜ (x < stride) × (y < lines) × (lines * stride ≤ length (now plane)) ⌝ }
+    ensures { λ r. ⌜ r ≡ pelAt (now (plane .entry)) stride x y ⌝ }
+{
+    plane[y * stride + x]
+}
+
+// Pel k of the block at (px, py). Where either is odd it is a mean of four, in which an even one makes two of them the same pel: one vector
+// loop then serves all three cases with a half pel.
+fn predict_pel(plane: &[u8], stride: usize, lines: usize, px: usize, py: usize, k: usize) -> u8
+    requires { ⌜ (px + 16 ≤ 2 * stride) × (py + 16 ≤ 2 * lines) × (lines * stride ≤ length (now plane)) × (k < 64) ⌝ }
+    ensures { λ r. ⌜ r ≡ predictedPel (now (plane .entry)) stride px py k ⌝ }
+{
+    let x = px / 2 + k % 8;
+    let y = py / 2 + k / 8;
+    let pel = pel_at(plane, stride, lines, x, y);
+    let odd = px % 2 + py % 2;
+    if odd == 0 {
+        return pel;
+    }
+    let x2 = x + px % 2;
+    let y2 = y + py % 2;
+    let right = pel_at(plane, stride, lines, x2, y);
+    let below = pel_at(plane, stride, lines, x, y2);
+    let diagonal = pel_at(plane, stride, lines, x2, y2);
+    mean_of_four(pel, right, below, diagonal)
+}
+
+// The prediction of the block at (px, py), in half pels, from a plane of `lines` lines of `stride` pels.
+pub fn predict_block(plane: &[u8], stride: usize, lines: usize, px: usize, py: usize) -> [u8; 64]
+    requires { ⌜ (px + 16 ≤ 2 * stride) × (py + 16 ≤ 2 * lines) × (lines * stride ≤ length (now plane)) ⌝ }
+    ensures { λ r. ⌜ r ≡ prediction (now (plane .entry)) stride px py ⌝ }
+{
+    let mut block = [0u8; 64];
+    for j in 0..8 {
+        for i in 0..8 {
+            let k = 8 * j + i;
+            block[k] = predict_pel(plane, stride, lines, px, py, k);
+        }
+    }
+    block
+}
+
+// The mean of the predictions of both directions.
+pub fn mean_of_both(forward: [u8; 64], backward: [u8; 64]) -> [u8; 64]
+    ensures { λ r. ⌜ r ≡ meanOfBoth forward backward ⌝ }
+{
+    let mut block = [0u8; 64];
+    for k in 0..64 {
+        block[k] = mean_of_two(forward[k], backward[k]);
+    }
+    block
+}
