@@ -1,2 +1,4 @@
 pub mod Chain
 pub mod Size
+pub mod Field
+pub mod Record

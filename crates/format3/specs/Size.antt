@@ -1,6 +1,6 @@
 -- The picture's size in macroblocks (document 01, "The picture and its size").
 use mathlib.Core.Bool.{Bool, _&&_}
-use Prim.Native.Nat.{ℕ, _+_, _*_, _/_, _%_, _≤_}
+use Prim.Native.Nat.{ℕ, _*_, _/_, _%_, _≤_}
 use lib.Dec.{leb}
 use Rattle.format3.specs.declared.size.PictureSize.{PictureSize}
 use Rattle.format3.specs.declared.size.NewSize.{NewSize}

@@ -14,7 +14,9 @@ pub enum NewSize {
 
 impl PictureSize {
     pub const WIDEST: usize = 48;
+
     pub const HIGHEST: usize = 36;
+
     pub const MOST: usize = 396;
 
     // The size, where it is at least 1 by 1 and within the limits.

@@ -1,7 +1,7 @@
 -- Facts about the picture's size, over any limit on the count of macroblocks up to 396. Assumes nothing.
-use mathlib.Core.Path.{_≡_, refl, sym, _∙_}
+use mathlib.Core.Path.{_≡_, refl}
 use mathlib.Core.Bool.{Bool, true, false, _&&_}
-use Prim.Native.Nat.{ℕ, _+_, _*_, _/_, _%_, _≤_, _<_}
+use Prim.Native.Nat.{ℕ, _+_, _*_, _≤_, _<_}
 use native.Mathlib.Omega.{arith}
 use native.Mathlib.Nat.{le-mul-of-pos-right, div-lt-iff-lt-mul, mod-lt, mul-comm}
 use borrow.Author.Tests.{leb-true}
@@ -9,7 +9,6 @@ use lib.Dec.{leb}
 use Rattle.format3.specs.declared.size.PictureSize.{PictureSize}
 use Rattle.format3.specs.declared.size.NewSize.{NewSize}
 use Rattle.format3.specs.declared.size.NewSize.the-variants.{Fits, Beyond}
-use Rattle.format3.specs.Chain.{only}
 use Rattle.format3.specs.Size.{legalSize, sizeOf, count, bytes, startOfCb, startOfCr, column, row, SizeWithin}
 use Rattle.format3.proofs.Laws.Chain.{only-all}
 
