@@ -2,3 +2,4 @@ pub mod Chain
 pub mod Size
 pub mod Field
 pub mod Record
+pub mod Header

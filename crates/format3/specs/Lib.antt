@@ -2,3 +2,7 @@ pub mod Chain
 pub mod Size
 pub mod Field
 pub mod Record
+pub mod Header
+pub mod Lengths
+pub mod Slice
+pub mod Turn

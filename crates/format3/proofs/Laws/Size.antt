@@ -1,6 +1,6 @@
 -- Facts about the picture's size, over any limit on the count of macroblocks up to 396. Assumes nothing.
 use mathlib.Core.Path.{_≡_, refl}
-use mathlib.Core.Bool.{Bool, true, false, _&&_}
+use mathlib.Core.Bool.{Bool, true, false}
 use Prim.Native.Nat.{ℕ, _+_, _*_, _≤_, _<_}
 use native.Mathlib.Omega.{arith}
 use native.Mathlib.Nat.{le-mul-of-pos-right, div-lt-iff-lt-mul, mod-lt, mul-comm}
@@ -9,12 +9,9 @@ use lib.Dec.{leb}
 use Rattle.format3.specs.declared.size.PictureSize.{PictureSize}
 use Rattle.format3.specs.declared.size.NewSize.{NewSize}
 use Rattle.format3.specs.declared.size.NewSize.the-variants.{Fits, Beyond}
+use Rattle.format3.specs.Chain.{only}
 use Rattle.format3.specs.Size.{legalSize, sizeOf, count, bytes, startOfCb, startOfCr, column, row, SizeWithin}
-use Rattle.format3.proofs.Laws.Chain.{only-all}
-
-both : (a b : Bool) → a && b ≡ true → (a ≡ true) × (b ≡ true)
-both true b e = (refl, e)
-both false b e = absurd (let z : _≡_ {A = ℕ} 0 1 = cc in omega arith)
+use Rattle.format3.proofs.Laws.Chain.{only-all, both}
 
 pub legal-within : (w h : ℕ) → legalSize w h ≡ true → SizeWithin 396 (record { width = w; height = h })
 unfolding legalSize
@@ -34,6 +31,23 @@ unfolding sizeOf
 made-within w h = only-all Sound (legalSize w h) Beyond (Fits (record { width = w; height = h }))
     (record { within = λ s e. absurd (let z : _≡_ {A = ℕ} 0 1 = cc in omega arith) })
     (λ legal. record { within = λ s e. let p : _≡_ {A = PictureSize} (record { width = w; height = h }) s = cc in rw (← p) (legal-within w h legal) })
+
+-- what the answer tells of the two numbers
+pub made : (w h : ℕ) (s : PictureSize) → sizeOf w h ≡ Fits s → (legalSize w h ≡ true) × (s ≡ record { width = w; height = h })
+unfolding sizeOf only
+made w h s e = go (legalSize w h) e
+  where
+    go : (b : Bool) → only b Beyond (Fits (record { width = w; height = h })) ≡ Fits s → (b ≡ true) × (s ≡ record { width = w; height = h })
+    go true e = (refl, cc)
+    go false e = absurd (let z : _≡_ {A = ℕ} 0 1 = cc in omega arith)
+
+pub not-made : (w h : ℕ) → sizeOf w h ≡ Beyond → legalSize w h ≡ false
+unfolding sizeOf only
+not-made w h e = go (legalSize w h) e
+  where
+    go : (b : Bool) → only b Beyond (Fits (record { width = w; height = h })) ≡ Beyond → b ≡ false
+    go true e = absurd (let z : _≡_ {A = ℕ} 0 1 = cc in omega arith)
+    go false e = refl
 
 module _ {most : ℕ} {s : PictureSize} (size : SizeWithin most s) (limit : most ≤ 396) where
   -- neither side is longer than the count
