@@ -3,3 +3,5 @@ pub mod Size
 pub mod Field
 pub mod Record
 pub mod Header
+pub mod MacroblockHead
+pub mod VectorCodes

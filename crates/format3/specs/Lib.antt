@@ -6,3 +6,5 @@ pub mod Header
 pub mod Lengths
 pub mod Slice
 pub mod Turn
+pub mod VectorCodes
+pub mod MacroblockHead

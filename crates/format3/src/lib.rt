@@ -2,8 +2,10 @@
 pub mod field;
 pub mod header;
 pub mod lengths;
+pub mod macroblock_head;
 pub mod record;
 pub mod size;
 pub mod slice;
 pub mod turn;
+pub mod vector_codes;
 pub mod verdict;
