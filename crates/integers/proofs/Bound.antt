@@ -55,8 +55,8 @@ pub within-more : {a b : ℕ} {x : ℤ} → Within a x → a ≤ b → Within b 
 within-more p h = record { within = le-trans (p .within) h }
 
 -- ---- it fits, where the bound computes to a number below the width's
-pub fits : {w : Width} {b : ℕ} {z : ℤ} → Within b z → T (ltb b (2 ^ hbits w)) → SFits w z
-fits {w} {b} {z} p t = record { sfits = lt-of-le-of-lt (le-trans (mag-abs z) (p .within)) (ltb→lt b (2 ^ hbits w) t) }
+pub within-fits : {w : Width} {b : ℕ} {z : ℤ} → Within b z → T (ltb b (2 ^ hbits w)) → SFits w z
+within-fits {w} {b} {z} p t = record { sfits = lt-of-le-of-lt (le-trans (mag-abs z) (p .within)) (ltb→lt b (2 ^ hbits w) t) }
 
 -- a bound that a contract states on `mag`
 pub within-mag : {b : ℕ} {z : ℤ} → mag z < b → Within b z

@@ -30,7 +30,7 @@ literal z = record { raw = z; cap = natAbs z; is = refl; size = B.within-self z 
 
 -- an operation's need, and the operation's result as the machine keeps it
 pub fits : {w : Width} {z : ℤ} (p : Held z) → T (ltb (p .cap) (2 ^ hbits w)) → SFits w (p .raw)
-fits {w} p t = subst (SFits w) (sym (p .is)) (B.fits (p .size) t)
+fits {w} p t = subst (SFits w) (sym (p .is)) (B.within-fits (p .size) t)
 
 abbrev pub kept : (w : Width) {z : ℤ} (p : Held z) → T (ltb (p .cap) (2 ^ hbits w)) → Held z
 kept w {z} p t = record { raw = toZ w (ofZ w (p .raw)); cap = p .cap; is = toZ-ofZ w (p .raw) (fits p t) ∙ p .is; size = p .size }
@@ -41,7 +41,7 @@ parameter {w} {b} {z} f p = record { raw = toZ w (ofZ w z); cap = b; is = toZ-of
 
 -- a loop's variable, whose bits the invariant says
 abbrev pub variable : (w : Width) {b n : ℕ} {z : ℤ} → n ≡ ofZ w z → Within b z → T (ltb b (2 ^ hbits w)) → Held z
-variable w {b} {n} {z} e p t = record { raw = toZ w n; cap = b; is = ap (toZ w) e ∙ toZ-ofZ w z (B.fits p t); size = p }
+variable w {b} {n} {z} e p t = record { raw = toZ w n; cap = b; is = ap (toZ w) e ∙ toZ-ofZ w z (B.within-fits p t); size = p }
 
 -- an unsigned number that a cast made signed: n below 2 ^ 8, say, for a `u8`
 abbrev pub unsigned : (w : Width) (n : ℕ) {b : ℕ} → n < b → T (leb b (2 ^ hbits w)) → Held (pos n)
@@ -53,7 +53,7 @@ bound {b} p t = subst (Within b) (sym (p .is)) (B.within-more (p .size) (leb→l
 
 -- a call's result r, of which the contract says what it is
 abbrev pub result : (w : Width) {b : ℕ} {r z : ℤ} → r ≡ z → Within b z → T (ltb b (2 ^ hbits w)) → Held z
-result w {b} {r} {z} e p t = record { raw = toZ w (ofZ w r); cap = b; is = ap (λ (x : ℤ). toZ w (ofZ w x)) e ∙ toZ-ofZ w z (B.fits p t); size = p }
+result w {b} {r} {z} e p t = record { raw = toZ w (ofZ w r); cap = b; is = ap (λ (x : ℤ). toZ w (ofZ w x)) e ∙ toZ-ofZ w z (B.within-fits p t); size = p }
 
 -- a call's result that is stored or handed on as it is
 pub returned : (w : Width) {r z : ℤ} → mag r < 2 ^ hbits w → r ≡ z → toZ w (ofZ w r) ≡ z

@@ -1,0 +1,52 @@
+-- `coefficient::coefficient` meets its contract: where the test passes the level is scaled, else all is as refused. Assumes nothing.
+use mathlib.Core.Bool.{Bool}
+use mathlib.Core.Path.{_≡_, sym, _∙_}
+use borrow.Author.Needs.{needs}
+use lib.IntN.{ℤ}
+use mir.Syntax.{w16, w32}
+use mir.Val.{SFits}
+use Rattle.coefficient.proofs.Ranges.{Ranges, legal-ranges}
+use Rattle.coefficient.specs.Answer.{legal}
+use Rattle.coefficient.specs.Scaling.{coefficientOf}
+use Rattle.integers.proofs.Bound.{within-self}
+use Rattle.integers.proofs.Machine.{Held, parameter, bound, returned}
+use Rattle.coefficient.proofs.coefficient.Statement.{statement}
+use Rattle.coefficient.proofs.coefficient.Tie as tie
+
+abbrev held : {z : ℤ} → SFits w32 z → Held z
+held {z} f = parameter f (within-self z)
+
+test : (c : tie.After-in-ranges) {b : Bool} → c .in-ranges .result ≡ b → legal (c .before .args .level) (c .before .args .scale) (c .before .args .weight) ≡ b
+test c t =
+    let f = c .before .fits in
+    sym (c .in-ranges .ensures ∙ (λ i. legal (held (f .level) .is i) (held (f .scale) .is i) (held (f .weight) .is i))) ∙ t
+
+ranges : (c : tie.Then1) → let a = c .before .before .args in Ranges (a .level) (a .scale) (a .weight)
+ranges c = legal-ranges _ _ _ (test (c .before) (c .if1 .taken))
+
+in-ranges-requires : tie.Need-in-ranges-requires
+in-ranges-requires c κs = search needs
+
+scale-level-requires : tie.Need-scale-level-requires
+scale-level-requires c κs =
+    let f = c .before .before .fits in
+    (bound (parameter (f .level) (ranges c .level-within)) tt, bound (parameter (f .scale) (ranges c .scale-within)) tt, bound (parameter (f .weight) (ranges c .weight-within)) tt)
+
+returns : tie.Need-returns
+returns c =
+    let s = c .before .before .before in
+    let e = test (c .before .before) (c .before .if1 .taken) in (
+      rw e,
+      rw e (returned w16 (c .scale-level .ok) (c .scale-level .ensures ∙ (λ i. coefficientOf (s .args .intra) (held (s .fits .level) .is i) (held (s .fits .scale) .is i) (held (s .fits .weight) .is i)))),
+    )
+
+number-requires : tie.Need-number-requires
+number-requires c κs = search needs
+
+returns-2 : tie.Need-returns-2
+returns-2 c =
+    let e = test (c .before .before) (c .before .if1 .left) in
+    (rw e (c .number .ensures), rw e)
+
+pub coefficient-spec : {M : Type 1} → statement M
+coefficient-spec = tie.close (tie.spec in-ranges-requires scale-level-requires returns number-requires returns-2)

@@ -1,0 +1,32 @@
+-- The way of the code: a line of eight, whole and by its even and odd halves. That it gives the double sum is proved (proofs/Passes.antt).
+use mathlib.Core.List.{List, [], _∷_}
+use Prim.Native.Nat.{ℕ, _+_, _*_, _/_, _%_}
+use lib.IntN.{ℤ, pos, negsuc, _*ℤ_}
+use Rattle.lists.specs.Tab.{tab}
+use Rattle.integers.specs.Bound.{at}
+use Rattle.integers.specs.Sum.{sumTo}
+use Rattle.transform.specs.Transform.{factor, divided, limitedResidue}
+
+-- the sum of eight products at place p, over the eight numbers of c from `start`
+abbrev pub lineSum : List ℤ → ℕ → ℕ → ℤ
+lineSum c start p = sumTo (λ u. factor p u *ℤ at c (start + u)) 8
+
+-- one half of a line, with its four factors: the even frequencies (first 0) or the odd ones (first 1)
+abbrev pub halfSum : List ℤ → List ℤ → ℕ → ℤ
+halfSum f x first = sumTo (λ j. at f j *ℤ at x (first + 2 * j)) 4
+
+-- row v of a block
+abbrev pub rowOf : List ℤ → ℕ → List ℤ
+rowOf c v = tab 8 (λ u. at c (8 * v + u))
+
+-- where number u of column v stands
+abbrev pub columnPlace : ℕ → ℕ → ℕ
+columnPlace v u = 8 * u + v
+
+-- a pass over a block: each row is transformed and becomes a column
+abbrev pub passed : List ℤ → ℕ → ℤ
+passed c k = lineSum c (8 * (k % 8)) (k / 8)
+
+-- the residue of an exact sum
+abbrev pub residueOf : ℤ → ℤ
+residueOf z = limitedResidue (divided z)

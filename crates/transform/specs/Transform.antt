@@ -1,0 +1,53 @@
+-- The inverse transform (document 01, "Inverse transform"): sixty-four coefficients, row by row, the row being the vertical frequency.
+use mathlib.Core.Bool.{cond}
+use mathlib.Core.List.{List}
+use Prim.Native.Nat.{ℕ, _+_, _-_, _*_, _/_, _%_, _^_}
+use lib.Dec.{ltb, eqb}
+use lib.IntN.{ℤ, pos, negsuc, _+ℤ_, _-ℤ_, _*ℤ_}
+use lib.Signed.{shrZ}
+use Rattle.lists.specs.Tab.{tab}
+use Rattle.integers.specs.Bound.{at}
+use Rattle.integers.specs.Limit.{limited}
+use Rattle.integers.specs.Sum.{sumTo}
+use Rattle.tables.specs.Tables.{cosines}
+
+-- an angle of k sixteenths of pi, k below 32, brought to 0..16: cos(2 × pi - x) is cos(x)
+abbrev pub folded : ℕ → ℕ
+folded k = cond (ltb k 16) k (32 - k)
+
+-- the angle of frequency u at place p
+unfoldable pub angle : ℕ → ℕ → ℕ
+angle p u = folded ((2 * p + 1) * u % 32)
+
+-- what stands for the cosine of k sixteenths of pi, k from 1 to 15 but 8: the entry of that size, with its sign
+abbrev pub signed : {A : Type 0} → (A → A) → (ℕ → A) → ℕ → A
+signed negated entry k = cond (ltb k 8) (entry (k - 1)) (negated (entry (15 - k)))
+
+-- "The factor for frequency u at place p (0..7) stands for cos((2p+1) × u × pi / 16) .. for u = 0 it is the fourth entry",
+-- for a table of any kind of number
+unfoldable pub factorOf : {A : Type 0} → (A → A) → (ℕ → A) → ℕ → ℕ → A
+factorOf negated entry p u = cond (eqb u 0) (entry 3) (signed negated entry (angle p u))
+
+-- the factor by the table of whole numbers
+unfoldable pub factor : ℕ → ℕ → ℤ
+factor p u = factorOf (λ z. pos 0 -ℤ z) (at cosines) p u
+
+-- "the sum over all 64 coefficients of horizontal factor × vertical factor × coefficient", at row q and column p
+unfoldable pub doubleSum : List ℤ → ℕ → ℕ → ℤ
+doubleSum c q p = sumTo (λ v. sumTo (λ u. (factor p u *ℤ factor q v) *ℤ at c (8 * v + u)) 8) 8
+
+-- "plus 2^41, divided by 2^42 downwards"
+abbrev pub divided : ℤ → ℤ
+divided z = shrZ (z +ℤ pos (2 ^ 41)) (2 ^ 42)
+
+-- document 01's inverse transform: the number before limiting at place k of a block
+unfoldable pub inverseTransform : List ℤ → ℕ → ℤ
+inverseTransform c k = divided (doubleSum c (k / 8) (k % 8))
+
+-- "then limited to -256..255"
+abbrev pub limitedResidue : ℤ → ℤ
+limitedResidue z = limited (negsuc 255) (pos 255) z
+
+-- the residues of a block by an inverse transform: its sixty-four numbers, limited
+unfoldable pub residuesBy : (List ℤ → ℕ → ℤ) → List ℤ → List ℤ
+residuesBy transform c = tab 64 (λ k. limitedResidue (transform c k))

@@ -1,0 +1,60 @@
+// The inverse transform, exact: rows, then columns, nothing rounded between.
+ghost use mathlib.Core.Path.{_≡_};
+ghost use Rattle.integers.specs.Bound.{AllWithin};
+ghost use Rattle.transform.specs.Transform.{inverseTransform, residuesBy};
+ghost use Rattle.transform.specs.Answer.{coefficientsInRange, transformNumber, transformResidues};
+use refusals::Refusal;
+
+mod line;
+mod pass;
+
+// The transform entry's answer: 0 or a refusal's number, and the residues, all zeros when refused.
+pub struct Transformed {
+    pub number: u32,
+    pub residues: [i16; 64],
+}
+
+// The residues of sixty-four coefficients that are known to be in range.
+pub fn inverse_transform(coefficients: [i16; 64]) -> [i16; 64]
+    requires { ⌜ AllWithin 2048 coefficients ⌝ }
+    ensures { λ r. ⌜ r ≡ residuesBy inverseTransform coefficients ⌝ }
+{
+    let rows = pass::row_pass(coefficients);
+    pass::column_pass(rows)
+}
+
+// Whether every coefficient is in -2048..2047.
+fn in_range(coefficients: &[i16; 64]) -> bool
+    ensures { λ r. ⌜ r ≡ coefficientsInRange (now (coefficients .entry)) ⌝ }
+{
+    for k in 0..64 {
+        let c = coefficients[k];
+        if c < -2048 {
+            return false;
+        }
+        if 2047 < c {
+            return false;
+        }
+    }
+    true
+}
+
+// The transform entry: any sixty-four numbers.
+pub fn transform(coefficients: [i16; 64]) -> Transformed
+    ensures { λ r. ⌜ r .number ≡ transformNumber coefficients ⌝ }
+    ensures { λ r. ⌜ r .residues ≡ transformResidues coefficients ⌝ }
+{
+    let legal = in_range(&coefficients);
+    if legal {
+        let residues = inverse_transform(coefficients);
+        return Transformed {
+            number: refusals::ACCEPTED,
+            residues: residues,
+        };
+    }
+    let number = refusals::number(Refusal::NumberOutOfRange);
+    Transformed {
+        number: number,
+        residues: [0i16; 64],
+    }
+}
