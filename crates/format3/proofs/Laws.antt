@@ -5,3 +5,4 @@ pub mod Record
 pub mod Header
 pub mod MacroblockHead
 pub mod VectorCodes
+pub mod Matrix

@@ -8,3 +8,4 @@ pub mod Slice
 pub mod Turn
 pub mod VectorCodes
 pub mod MacroblockHead
+pub mod Matrix

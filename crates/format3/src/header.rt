@@ -1,7 +1,6 @@
 // The header of a picture (kind 1).
 ghost use mathlib.Core.Path.{_≡_};
-ghost use lib.ListN.{length};
-ghost use Rattle.format3.specs.Header.{fieldsOf, usesForward, usesBackward, legalCoding, legalCodings, headerWith, headerOf};
+ghost use Rattle.format3.specs.Header.{usesForward, usesBackward, legalCoding, legalCodings, headerWith, headerOf};
 use crate::size::NewSize;
 use crate::size::PictureSize;
 use refusals::Refusal;

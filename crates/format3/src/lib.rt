@@ -3,6 +3,7 @@ pub mod field;
 pub mod header;
 pub mod lengths;
 pub mod macroblock_head;
+pub mod matrix;
 pub mod record;
 pub mod size;
 pub mod slice;
