@@ -1,11 +1,4 @@
 pub mod Chain
-pub mod Size
 pub mod Field
 pub mod Record
-pub mod Header
-pub mod Lengths
-pub mod Slice
 pub mod Turn
-pub mod VectorCodes
-pub mod MacroblockHead
-pub mod Matrix
