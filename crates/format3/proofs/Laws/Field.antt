@@ -1,0 +1,59 @@
+-- What the field readers find, from the length and the elements. Assumes nothing.
+use mathlib.Core.Path.{_≡_, refl, sym, _∙_}
+use mathlib.Core.List.{List, [], _∷_}
+use Prim.Native.Nat.{ℕ, _+_, _-_, _*_, _<_, _≤_}
+use native.Mathlib.Omega.{arith}
+use lib.IntN.{ℤ, pos, negsuc, negℤ, _-ℤ_}
+use lib.Signed.{mag}
+use mir.Syntax.{w16}
+use mir.Val.{SFits}
+use lib.ListN.{length, getD, take, drop, length-drop, drop-of-length-le}
+use lib.Seq.{take-all, drop-length}
+use Rattle.integers.proofs.Difference.{up, dn, parts-add, parts-neg}
+use Rattle.format3.specs.declared.field.ByteField.the-variants as B
+use Rattle.format3.specs.declared.field.WordField.the-variants as W
+use Rattle.format3.specs.Field.{bigEndian, byteOf, wordOf}
+
+pub byte-short : (l : List ℕ) → length l < 1 → B.Short ≡ byteOf l
+unfolding byteOf
+byte-short [] h = refl
+byte-short (a ∷ l) h = absurd (omega arith)
+
+pub byte-read : (l : List ℕ) → 1 ≤ length l → B.Value (getD l 0 0) (record { at = 1 }) ≡ byteOf l
+unfolding byteOf
+byte-read [] h = absurd (omega arith)
+byte-read (a ∷ l) h = refl
+
+pub word-short : (l : List ℕ) → length l < 2 → W.Short ≡ wordOf l
+unfolding wordOf
+word-short [] h = refl
+word-short (a ∷ []) h = refl
+word-short (a ∷ b ∷ l) h = absurd (omega arith)
+
+pub word-read : (l : List ℕ) → 2 ≤ length l → W.Value (bigEndian (getD l 0 0) (getD l 1 0)) (record { at = 2 }) ≡ wordOf l
+unfolding wordOf
+word-read [] h = absurd (omega arith)
+word-read (a ∷ []) h = absurd (omega arith)
+word-read (a ∷ b ∷ l) h = refl
+
+-- the part from n on, as a slice gives it
+pub rest-from : (n : ℕ) (l : List ℕ) → take (length l - n) (drop n l) ≡ drop n l
+rest-from n l = take-all (length l - n) (drop n l) (simp length-drop (omega arith))
+
+pub rest-none : (n : ℕ) (l : List ℕ) → length l ≤ n → take (length l - length l) (drop (length l) l) ≡ drop n l
+rest-none n l h = rest-from (length l) l ∙ drop-length l ∙ sym (drop-of-length-le l h)
+
+-- ---- a number in two's complement of at most 16 bits
+mag-below : (z : ℤ) → up z < dn z + 32768 → dn z ≤ up z + 32768 → mag z < 32768
+mag-below (pos n) h k = omega arith
+mag-below (negsuc n) h k = omega arith
+
+pub lower-fits : (half n : ℕ) → half ≤ 32768 → n < half → SFits w16 (pos n)
+lower-fits half n h k = record { sfits = omega arith }
+
+pub upper-fits : (half n : ℕ) → half ≤ 32768 → n < 2 * half → half ≤ n → SFits w16 (pos n -ℤ pos (2 * half))
+upper-fits half n h k l =
+    let z = pos n -ℤ pos (2 * half) in
+    let sum : up z + (0 + dn (negℤ (pos (2 * half)))) ≡ n + up (negℤ (pos (2 * half))) + dn z = parts-add (pos n) (negℤ (pos (2 * half))) in
+    let neg = parts-neg (pos (2 * half)) in
+    record { sfits = mag-below z (omega (arith, sum, neg)) (omega (arith, sum, neg)) }

@@ -1,0 +1,49 @@
+-- The tests of a record's length, as the code makes them, and that a record that is found lies within its file. Assumes nothing.
+use mathlib.Core.Path.{_≡_}
+use mathlib.Core.Bool.{true, false}
+use mathlib.Core.List.{List}
+use Prim.Native.Nat.{ℕ, _+_, _-_, _<_, _≤_}
+use native.Mathlib.Omega.{arith}
+use borrow.Author.Tests.{le-leb, lt-leb, leb-true}
+use lib.Dec.{leb}
+use lib.ListN.{length}
+use Rattle.refusals.specs.declared.Refusal.{Refusal}
+use Rattle.format3.specs.declared.record.Record.{Record}
+use Rattle.format3.specs.declared.record.Record.the-variants.{Refused}
+use Rattle.format3.specs.Record.{recordOf, startOf, bodyLengthOf}
+use Rattle.format3.proofs.Laws.Chain.{only-all}
+
+-- in a file of n bytes, fewer than 3 are left from the offset on
+pub none-left : (offset n : ℕ) → n ≤ offset → leb (offset + 3) n ≡ false
+none-left offset n h = lt-leb (offset + 3) n (omega arith)
+
+pub few-left : (offset n : ℕ) → n - offset < 3 → leb (offset + 3) n ≡ false
+few-left offset n h = lt-leb (offset + 3) n (omega arith)
+
+module _ (offset n : ℕ) (left : 3 ≤ n - offset) where
+  -- 3 are left
+  pub head-left : leb (offset + 3) n ≡ true
+  head-left = le-leb (offset + 3) n (omega arith)
+
+  -- the length goes past the end, or not
+  pub past-end : (k : ℕ) → n - offset - 2 < k → leb (offset + 2 + k) n ≡ false
+  past-end k h = lt-leb (offset + 2 + k) n (omega arith)
+
+  pub before-end : (k : ℕ) → k ≤ n - offset - 2 → leb (offset + 2 + k) n ≡ true
+  before-end k h = le-leb (offset + 2 + k) n (omega arith)
+
+pub record Inside (file : List ℕ) (r : Record) : Type 0 where
+  pub fits : startOf r + bodyLengthOf r ≤ length file
+
+refused : {file : List ℕ} {refusal : Refusal} → Inside file (Refused refusal)
+refused = record { fits = omega arith }
+
+-- a record that is found lies within the file
+pub inside : (file : List ℕ) (offset : ℕ) → Inside file (recordOf file offset)
+unfolding recordOf
+inside file offset =
+    only-all (Inside file) _ _ _ refused λ head.
+    only-all (Inside file) _ _ _ refused λ some.
+    only-all (Inside file) _ _ _ refused λ whole.
+    only-all (Inside file) _ _ _ refused λ kind.
+    record { fits = omega (arith, leb-true) }

@@ -1,0 +1,33 @@
+-- `read_i16` meets its contract: the two bytes, if there are two, stand for a signed number. Assumes nothing.
+use mathlib.Core.Path.{refl}
+use mir.Syntax.{w16}
+use Rattle.integers.proofs.Machine.{returned}
+use Rattle.format3.specs.Field.{signedWordOf}
+use borrow.Author.Needs.{needs}
+use Rattle.format3.proofs.field.read_i16.Statement.{statement}
+use Rattle.format3.proofs.field.read_i16.Tie as tie
+
+read-u16-requires : tie.Need-read-u16-requires
+read-u16-requires c κs = search needs
+
+enum-known-value : tie.Need-enum-known-value
+enum-known-value c = search needs
+
+enum-told : tie.Need-enum-told
+enum-told c = search needs
+
+returns : tie.Need-returns
+unfolding signedWordOf
+returns c = rw (← c .before .before .read-u16 .ensures, c .enum-told .given .1)
+
+signed-requires : tie.Need-signed-requires
+signed-requires c κs = search needs
+
+returns-2 : tie.Need-returns-2
+unfolding signedWordOf
+returns-2 c = rw (← c .before .before .before .before .read-u16 .ensures, c .before .before .value .given .1, ← c .signed .ensures, returned w16 (c .signed .ok) refl)
+
+pub read-i16-spec : {M : Type 1} → statement M
+read-i16-spec =
+    tie.close
+    (tie.spec read-u16-requires enum-known-value enum-told returns signed-requires returns-2)

@@ -1,0 +1,98 @@
+-- `record_at` meets its contract: its tests are those of `recordOf`, in the same order. Assumes nothing.
+use native.Mathlib.Omega.{arith}
+use Prim.Native.Nat.{_+_}
+use borrow.Author.Tests.{le-leb, lt-leb}
+use Rattle.format3.specs.Chain.{only}
+use Rattle.format3.specs.Record.{recordOf, lengthAt, kindAt}
+use Rattle.format3.proofs.Laws.Record.{none-left, few-left, head-left, past-end, before-end}
+use borrow.Author.Needs.{needs}
+use Rattle.format3.proofs.record.record_at.Statement.{statement}
+use Rattle.format3.proofs.record.record_at.Tie as tie
+
+returns : tie.Need-returns
+unfolding recordOf lengthAt kindAt only
+returns c = rw (none-left _ _ (c .if1 .taken))
+
+sub-left : tie.Need-sub-left
+sub-left c = search needs
+
+returns-2 : tie.Need-returns-2
+unfolding recordOf lengthAt kindAt only
+returns-2 c = rw (few-left _ _ (c .if2 .taken))
+
+shared-slice-read-high : tie.Need-shared-slice-read-high
+shared-slice-read-high c = search needs
+
+cast-high : tie.Need-cast-high
+cast-high c = omega (arith, c .shared-slice-known .given (c .before .before .before .args .offset))
+
+add-low : tie.Need-add-low
+add-low c = search needs
+
+shared-slice-read-low : tie.Need-shared-slice-read-low
+shared-slice-read-low c = search needs
+
+cast-low : tie.Need-cast-low
+cast-low c = omega (arith, c .shared-slice-known2 .given (c .before .before .before .before .args .offset + 1))
+
+mul-length : tie.Need-mul-length
+mul-length c = omega (arith, c .before .shared-slice-known .given (c .before .before .before .before .args .offset))
+
+add-length : tie.Need-add-length
+add-length c = omega (arith, c .before .shared-slice-known .given (c .before .before .before .before .args .offset), c .shared-slice-known2 .given (c .before .before .before .before .args .offset + 1))
+
+returns-3 : tie.Need-returns-3
+unfolding recordOf lengthAt kindAt only
+returns-3 c = rw (head-left _ _ (c .before .before .before .if2 .left), lt-leb _ _ (c .if3 .taken))
+
+sub-if4 : tie.Need-sub-if4
+sub-if4 c = search needs
+
+returns-4 : tie.Need-returns-4
+unfolding recordOf lengthAt kindAt only
+returns-4 c = rw (head-left _ _ (c .before .before .before .before .if2 .left), le-leb _ _ (c .before .if3 .left), past-end _ _ (c .before .before .before .before .if2 .left) _ (c .if4 .taken))
+
+add-kind : tie.Need-add-kind
+add-kind c = search needs
+
+shared-slice-read-kind : tie.Need-shared-slice-read-kind
+shared-slice-read-kind c = search needs
+
+returns-5 : tie.Need-returns-5
+unfolding recordOf lengthAt kindAt only
+returns-5 c = rw (head-left _ _ (c .before .before .before .before .before .before .if2 .left), le-leb _ _ (c .before .before .before .if3 .left), before-end _ _ (c .before .before .before .before .before .before .if2 .left) _ (c .before .before .if4 .left), lt-leb _ _ (c .if5 .taken))
+
+returns-6 : tie.Need-returns-6
+unfolding recordOf lengthAt kindAt only
+returns-6 c = rw (head-left _ _ (c .before .before .before .before .before .before .before .if2 .left), le-leb _ _ (c .before .before .before .before .if3 .left), before-end _ _ (c .before .before .before .before .before .before .before .if2 .left) _ (c .before .before .before .if4 .left), le-leb _ _ (c .before .if5 .left), lt-leb _ _ (c .if6 .taken))
+
+add-t8 : tie.Need-add-t8
+add-t8 c = search needs
+
+returns-7 : tie.Need-returns-7
+unfolding recordOf lengthAt kindAt only
+returns-7 c = rw (head-left _ _ (c .before .before .before .before .before .before .before .if2 .left), le-leb _ _ (c .before .before .before .before .if3 .left), before-end _ _ (c .before .before .before .before .before .before .before .if2 .left) _ (c .before .before .before .if4 .left), le-leb _ _ (c .before .if5 .left), le-leb _ _ (c .if6 .left))
+
+pub record-at-spec : {M : Type 1} → statement M
+record-at-spec =
+    tie.close
+    (tie.spec
+    returns
+    sub-left
+    returns-2
+    shared-slice-read-high
+    cast-high
+    add-low
+    shared-slice-read-low
+    cast-low
+    mul-length
+    add-length
+    returns-3
+    sub-if4
+    returns-4
+    add-kind
+    shared-slice-read-kind
+    returns-5
+    returns-6
+    add-t8
+    returns-7)

@@ -1,0 +1,4 @@
+pub mod Chain
+pub mod Field
+pub mod Record
+pub mod Turn

@@ -1,0 +1,93 @@
+// The fields of a body. Each reader is handed the part of the body that starts after what was read, and answers the value with a cursor,
+// or `Short` where the field is not wholly inside.
+ghost use mathlib.Core.Path.{_≡_};
+ghost use Prim.Native.Nat.{_*_, _<_, _≤_};
+ghost use lib.ListN.{drop};
+ghost use Rattle.format3.specs.Field.{byteOf, wordOf, signedByteOf, signedWordOf, twosComplement};
+
+// Where the next field starts, from the start of the part that was handed in.
+pub struct Cursor {
+    pub at: usize,
+}
+
+pub enum ByteField {
+    Value(u8, Cursor),
+    Short,
+}
+
+pub enum WordField {
+    Value(u16, Cursor),
+    Short,
+}
+
+pub enum SignedField {
+    Value(i16, Cursor),
+    Short,
+}
+
+// An unsigned byte.
+pub fn read_u8(rest: &[u8]) -> ByteField
+    ensures { λ r. ⌜ r ≡ byteOf (now (rest .entry)) ⌝ }
+{
+    if rest.len() < 1 {
+        return ByteField::Short;
+    }
+    ByteField::Value(rest[0], Cursor { at: 1 })
+}
+
+// An unsigned number of two bytes, big-endian.
+pub fn read_u16(rest: &[u8]) -> WordField
+    ensures { λ r. ⌜ r ≡ wordOf (now (rest .entry)) ⌝ }
+{
+    if rest.len() < 2 {
+        return WordField::Short;
+    }
+    let high = rest[0] as u16;
+    let low = rest[1] as u16;
+    let value = 256 * high + low;
+    WordField::Value(value, Cursor { at: 2 })
+}
+
+// The signed number whose two's complement is n, where half of the numbers are not negative.
+fn signed(n: u16, half: u16) -> i16
+    requires { ⌜ (n < 2 * half) × (half ≤ 32768) ⌝ }
+    ensures { λ r. ⌜ r ≡ twosComplement half n ⌝ }
+{
+    let value = n as i32;
+    if n < half {
+        return value as i16;
+    }
+    let less = value - 2 * (half as i32);
+    less as i16
+}
+
+// A signed byte.
+pub fn read_i8(rest: &[u8]) -> SignedField
+    ensures { λ r. ⌜ r ≡ signedByteOf (now (rest .entry)) ⌝ }
+{
+    let ByteField::Value(value, cursor) = read_u8(rest) else {
+        return SignedField::Short;
+    };
+    SignedField::Value(signed(value as u16, 128), cursor)
+}
+
+// A signed number of two bytes, big-endian.
+pub fn read_i16(rest: &[u8]) -> SignedField
+    ensures { λ r. ⌜ r ≡ signedWordOf (now (rest .entry)) ⌝ }
+{
+    let WordField::Value(value, cursor) = read_u16(rest) else {
+        return SignedField::Short;
+    };
+    SignedField::Value(signed(value, 32768), cursor)
+}
+
+// The part after the first n bytes; nothing where there are fewer.
+pub fn after(rest: &[u8], n: usize) -> &[u8]
+    ensures { λ r. ⌜ now r ≡ drop n (now (rest .entry)) ⌝ }
+{
+    if n <= rest.len() {
+        &rest[n..]
+    } else {
+        &rest[rest.len()..]
+    }
+}

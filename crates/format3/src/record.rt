@@ -1,0 +1,95 @@
+// The records of a file: a 2-byte length of what comes after it, a kind byte and a body.
+ghost use mathlib.Core.Path.{_≡_};
+ghost use Prim.Native.Nat.{_+_};
+ghost use Rattle.format3.specs.Record.{recordOf, answerOf, kindOf, startOf, bodyOf};
+use refusals::Refusal;
+
+pub const HEADER: u8 = 1;
+
+pub const MATRIX: u8 = 2;
+
+pub const SLICE: u8 = 3;
+
+pub const MACROBLOCK: u8 = 4;
+
+pub const LAST_KIND: u8 = 4;
+
+pub enum Record {
+    // A whole record: its kind, where its body starts, and how long that is.
+    Found {
+        kind: u8,
+        start: usize,
+        length: usize,
+    },
+    Refused(Refusal),
+}
+
+// The record at an offset: cut (3), of an unknown kind (4), or found.
+pub fn record_at(file: &[u8], offset: usize) -> Record
+    ensures { λ r. ⌜ r ≡ recordOf (now (file .entry)) offset ⌝ }
+{
+    if file.len() <= offset {
+        return Record::Refused(Refusal::RecordCut);
+    }
+    let left = file.len() - offset;
+    if left < 3 {
+        return Record::Refused(Refusal::RecordCut);
+    }
+    let high = file[offset] as usize;
+    let low = file[offset + 1] as usize;
+    let length = 256 * high + low;
+    if length < 1 {
+        return Record::Refused(Refusal::RecordCut);
+    }
+    if left - 2 < length {
+        return Record::Refused(Refusal::RecordCut);
+    }
+    let kind = file[offset + 2];
+    if kind < 1 {
+        return Record::Refused(Refusal::RecordKind);
+    }
+    if LAST_KIND < kind {
+        return Record::Refused(Refusal::RecordKind);
+    }
+    Record::Found {
+        kind,
+        start: offset + 3,
+        length: length - 1,
+    }
+}
+
+// The number of the refusal of the record at an offset; 0 where there is none.
+pub fn record_answer(file: &[u8], offset: usize) -> u32
+    ensures { λ r. ⌜ r ≡ answerOf (recordOf (now (file .entry)) offset) ⌝ }
+{
+    match record_at(file, offset) {
+        Record::Found {
+            kind: _,
+            start: _,
+            length: _,
+        } => refusals::ACCEPTED,
+        Record::Refused(refusal) => refusals::number(refusal),
+    }
+}
+
+// A record shown by itself: its body as the bytes of the file themselves, beside its kind; an empty part and kind 0 where it is refused.
+pub fn show_record<'a, 'b>(file: &'a [u8], offset: usize, kind: &'b mut usize) -> &'a [u8]
+    ensures { λ r. ⌜ now (kind .exit) ≡ kindOf (recordOf (now (file .entry)) offset) ⌝ }
+    ensures { λ r. ⌜ now r ≡ bodyOf (recordOf (now (file .entry)) offset) (now (file .entry)) ⌝ }
+    ensures { λ r. ⌜ r .ptr ≡ (file .entry .ptr .0, startOf (recordOf (now (file .entry)) offset) + file .entry .ptr .1) ⌝ }
+{
+    match record_at(file, offset) {
+        Record::Found {
+            kind: found,
+            start,
+            length,
+        } => {
+            *kind = found as usize;
+            &file[start..start + length]
+        }
+        Record::Refused(_) => {
+            *kind = 0;
+            &file[0..0]
+        }
+    }
+}

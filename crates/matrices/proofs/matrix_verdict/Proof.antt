@@ -1,0 +1,92 @@
+-- `matrix_verdict` meets its contract: its tests are those of `verdictOf`, in the same order. Assumes nothing.
+use borrow.Author.Tests.{le-leb, lt-leb, eq-eqb, ne-eqb, not-true, not-false}
+use Rattle.format3.specs.Chain.{only}
+use Rattle.matrices.specs.Matrix.{verdictOf}
+use Rattle.matrices.proofs.Laws.Matrix.{weights-long}
+use borrow.Author.Needs.{needs}
+use Rattle.matrices.proofs.matrix_verdict.Statement.{statement}
+use Rattle.matrices.proofs.matrix_verdict.Tie as tie
+
+returns : tie.Need-returns
+unfolding verdictOf only
+returns c = rw (ne-eqb _ _ (c .if1 .taken))
+
+shared-slice-read-which : tie.Need-shared-slice-read-which
+shared-slice-read-which c = search needs
+
+returns-2 : tie.Need-returns-2
+unfolding verdictOf only
+returns-2 c = rw (eq-eqb _ _ (c .before .before .if1 .left), lt-leb _ _ (c .if2 .taken))
+
+loaded-already-requires : tie.Need-loaded-already-requires
+loaded-already-requires c κs = search needs
+
+returns-3 : tie.Need-returns-3
+unfolding verdictOf only
+returns-3 c = rw (eq-eqb _ _ (c .before .before .before .before .if1 .left), le-leb _ _ (c .before .before .if2 .left), ← c .before .loaded-already .ensures, c .if3 .taken)
+
+after-requires : tie.Need-after-requires
+after-requires c κs = search needs
+
+all-positive-requires : tie.Need-all-positive-requires
+all-positive-requires c κs = rw (c .after .ensures) (weights-long (c .before .before .before .before .before .before .before .args .body .now) (c .before .before .before .before .before .if1 .left))
+
+returns-4 : tie.Need-returns-4
+unfolding verdictOf only
+returns-4 c =
+    let at-all-positive = c .before in
+    let at-after = at-all-positive .before in
+    let at-if3 = at-after .before in
+    let at-loaded-already = at-if3 .before in
+    let at-if2 = at-loaded-already .before in
+    let at-if1 = at-if2 .before .before in
+    rw (eq-eqb _ _ (at-if1 .if1 .left), le-leb _ _ (at-if2 .if2 .left), ← at-loaded-already .loaded-already .ensures, at-if3 .if3 .left, ← at-after .after .ensures, ← at-all-positive .all-positive .ensures, not-true (at-all-positive .all-positive .result) (c .if4 .taken))
+
+shared-slice-read-legal-first : tie.Need-shared-slice-read-legal-first
+shared-slice-read-legal-first c = search needs
+
+legal-first-requires : tie.Need-legal-first-requires
+legal-first-requires c κs = search needs
+
+returns-5 : tie.Need-returns-5
+unfolding verdictOf only
+returns-5 c =
+    let at-legal-first = c .before in
+    let at-if4 = at-legal-first .before .before in
+    let at-all-positive = at-if4 .before in
+    let at-after = at-all-positive .before in
+    let at-if3 = at-after .before in
+    let at-loaded-already = at-if3 .before in
+    let at-if2 = at-loaded-already .before in
+    let at-if1 = at-if2 .before .before in
+    rw (eq-eqb _ _ (at-if1 .if1 .left), le-leb _ _ (at-if2 .if2 .left), ← at-loaded-already .loaded-already .ensures, at-if3 .if3 .left, ← at-after .after .ensures, ← at-all-positive .all-positive .ensures, not-false (at-all-positive .all-positive .result) (at-if4 .if4 .left), ← at-legal-first .legal-first .ensures, not-true (at-legal-first .legal-first .result) (c .if5 .taken))
+
+returns-6 : tie.Need-returns-6
+unfolding verdictOf only
+returns-6 c =
+    let at-legal-first = c .before in
+    let at-if4 = at-legal-first .before .before in
+    let at-all-positive = at-if4 .before in
+    let at-after = at-all-positive .before in
+    let at-if3 = at-after .before in
+    let at-loaded-already = at-if3 .before in
+    let at-if2 = at-loaded-already .before in
+    let at-if1 = at-if2 .before .before in
+    rw (eq-eqb _ _ (at-if1 .if1 .left), le-leb _ _ (at-if2 .if2 .left), ← at-loaded-already .loaded-already .ensures, at-if3 .if3 .left, ← at-after .after .ensures, ← at-all-positive .all-positive .ensures, not-false (at-all-positive .all-positive .result) (at-if4 .if4 .left), ← at-legal-first .legal-first .ensures, not-false (at-legal-first .legal-first .result) (c .if5 .left))
+
+pub matrix-verdict-spec : {M : Type 1} → statement M
+matrix-verdict-spec =
+    tie.close
+    (tie.spec
+    returns
+    shared-slice-read-which
+    returns-2
+    loaded-already-requires
+    returns-3
+    after-requires
+    all-positive-requires
+    returns-4
+    shared-slice-read-legal-first
+    legal-first-requires
+    returns-5
+    returns-6)

@@ -1,0 +1,72 @@
+-- The quantizer matrices of a picture (document 01, kind 2, and refusals 6 and 9).
+use mathlib.Core.Bool.{Bool, true, cond, not}
+use mathlib.Core.List.{List}
+use Prim.Native.Nat.{ℕ}
+use lib.Dec.{leb, eqb}
+use lib.ListN.{length, getD, drop, replicate}
+use Rattle.lists.specs.Scatter.{scatter}
+use Rattle.lists.specs.Test.{allBelow}
+use Rattle.tables.specs.Tables.{zigzag, defaultIntra, defaultNonIntra}
+use Rattle.refusals.specs.declared.Refusal.the-variants as Refusal
+use Rattle.matrices.specs.declared.Matrices.{Matrices}
+use Rattle.matrices.specs.declared.Loaded.{Loaded}
+use Rattle.matrices.specs.declared.MatrixAnswer.{MatrixAnswer}
+use Rattle.format3.specs.declared.verdict.Verdict.{Verdict}
+use Rattle.format3.specs.declared.verdict.Verdict.the-variants.{Passed, Refused}
+use Rattle.format3.specs.Chain.{only, _$_}
+
+-- "without it the standard's default does"
+abbrev pub defaultMatrices : Matrices
+defaultMatrices = record { intra = defaultIntra; «non_intra» = defaultNonIntra }
+
+-- "which (0 intra, 1 non-intra), then 64 weights in zigzag order"
+abbrev pub whichOf : List ℕ → ℕ
+whichOf body = getD body 0 0
+
+abbrev pub weightsOf : List ℕ → List ℕ
+weightsOf body = drop 1 body
+
+-- not "a weight 0"
+unfoldable pub positive : List ℕ → Bool
+positive weights = allBelow 64 (λ k. leb 1 (getD weights k 0))
+
+-- not "intra first weight not 8"
+abbrev pub legalFirst : ℕ → ℕ → Bool
+legalFirst which first = cond (eqb which 0) (eqb first 8) true
+
+-- "given twice"
+abbrev pub loadedAlready : ℕ → Loaded → Bool
+loadedAlready which loaded = cond (eqb which 0) (loaded .intra) (loaded .«non_intra»)
+
+-- "Kind 2, matrix, 65 bytes": 6, then 9: "matrix first tests which, then given twice"
+unfoldable pub verdictOf : List ℕ → Loaded → Verdict
+verdictOf body loaded =
+    only (eqb (length body) 65) (Refused Refusal.BodyLength) $
+    only (leb (whichOf body) 1) (Refused Refusal.Matrix) $
+    only (not (loadedAlready (whichOf body) loaded)) (Refused Refusal.Matrix) $
+    only (positive (weightsOf body)) (Refused Refusal.Matrix) $
+    only (legalFirst (whichOf body) (getD body 1 0)) (Refused Refusal.Matrix) $
+    Passed
+
+-- each weight at the place of its position in zigzag order
+unfoldable pub placed : List ℕ → List ℕ
+placed weights = scatter (λ k. getD zigzag k 0) (λ k. getD weights k 0) 64 (replicate 64 0)
+
+-- "It holds for this picture only": the matrix that the record names, in the place of the one that held
+abbrev pub loadedWith : ℕ → List ℕ → Matrices → Matrices
+loadedWith which matrix m = record { intra = cond (eqb which 0) matrix (m .intra); «non_intra» = cond (eqb which 0) (m .«non_intra») matrix }
+
+abbrev pub nowLoaded : ℕ → Loaded → Loaded
+nowLoaded which l = record { intra = cond (eqb which 0) true (l .intra); «non_intra» = cond (eqb which 0) (l .«non_intra») true }
+
+-- a refused record changes nothing
+abbrev pub answerOf : Verdict → List ℕ → Matrices → Loaded → MatrixAnswer
+answerOf Passed body m l = record {
+  verdict = Passed;
+  matrices = loadedWith (whichOf body) (placed (weightsOf body)) m;
+  loaded = nowLoaded (whichOf body) l;
+}
+answerOf (Refused refusal) body m l = record { verdict = Refused refusal; matrices = m; loaded = l }
+
+unfoldable pub matrixOf : List ℕ → Matrices → Loaded → MatrixAnswer
+matrixOf body m l = answerOf (verdictOf body l) body m l

@@ -1,0 +1,55 @@
+-- `header_with` meets its contract: the size is legal where one is made, and the codings are tested after it. Assumes nothing.
+use borrow.Author.Tests.{not-true, not-false}
+use mathlib.Core.Path.{sym, _∙_}
+use Rattle.format3.specs.Chain.{only}
+use Rattle.picture_header.specs.Header.{headerWith, legalHeader}
+use Rattle.picture_header.proofs.Laws.Size.{made, not-made}
+use borrow.Author.Needs.{needs}
+use Rattle.picture_header.proofs.header.header_with.Statement.{statement}
+use Rattle.picture_header.proofs.header.header_with.Tie as tie
+
+cast-new : tie.Need-cast-new
+cast-new c = search needs
+
+cast-new-2 : tie.Need-cast-new-2
+cast-new-2 c = search needs
+
+new-requires : tie.Need-new-requires
+new-requires c κs = search needs
+
+enum-known-size : tie.Need-enum-known-size
+enum-known-size c = search needs
+
+enum-told : tie.Need-enum-told
+enum-told c = search needs
+
+returns : tie.Need-returns
+unfolding headerWith legalHeader only
+returns c = rw (not-made _ _ (sym (c .before .before .new .ensures) ∙ c .enum-told .given .1))
+
+legal-codings-requires : tie.Need-legal-codings-requires
+legal-codings-requires c κs = search needs
+
+returns-2 : tie.Need-returns-2
+unfolding headerWith legalHeader only
+returns-2 c = rw (made _ _ _ (sym (c .before .before .before .before .before .new .ensures) ∙ c .before .before .before .size .given .1) .0, ← c .before .legal-codings .ensures, not-true (c .before .legal-codings .result) (c .if1 .taken))
+
+returns-3 : tie.Need-returns-3
+unfolding headerWith legalHeader only
+returns-3 c =
+    let m = made _ _ _ (sym (c .before .before .before .before .before .before .before .new .ensures) ∙ c .before .before .before .before .before .size .given .1) in
+    rw (m .0, ← c .before .before .before .legal-codings .ensures, not-false (c .before .before .before .legal-codings .result) (c .before .before .if1 .left), m .1)
+
+pub header-with-spec : {M : Type 1} → statement M
+header-with-spec =
+    tie.close
+    (tie.spec
+    cast-new
+    cast-new-2
+    new-requires
+    enum-known-size
+    enum-told
+    returns
+    legal-codings-requires
+    returns-2
+    returns-3)

@@ -1,0 +1,52 @@
+-- `lent_lengths` meets its contract: its tests are those of `lengthsOf`, in the same order. Assumes nothing.
+use borrow.Author.Tests.{eq-eqb, ne-eqb}
+use Rattle.format3.specs.Chain.{only}
+use Rattle.picture_header.specs.Lengths.{lengthsOf}
+use borrow.Author.Needs.{needs}
+use Rattle.picture_header.proofs.lengths.lent_lengths.Statement.{statement}
+use Rattle.picture_header.proofs.lengths.lent_lengths.Tie as tie
+
+bytes-requires : tie.Need-bytes-requires
+bytes-requires c κs = search needs
+
+returns : tie.Need-returns
+unfolding lengthsOf only
+returns c = rw (← c .before .bytes .ensures, ne-eqb _ _ (c .if1 .taken))
+
+uses-forward-requires : tie.Need-uses-forward-requires
+uses-forward-requires c κs = search needs
+
+reference-length-requires : tie.Need-reference-length-requires
+reference-length-requires c κs = search needs
+
+returns-2 : tie.Need-returns-2
+unfolding lengthsOf only
+returns-2 c = rw (← c .before .before .before .before .bytes .ensures, eq-eqb _ _ (c .before .before .before .if1 .left), ← c .before .before .uses-forward .ensures, ← c .before .reference-length .ensures, ne-eqb _ _ (c .if2 .taken))
+
+uses-backward-requires : tie.Need-uses-backward-requires
+uses-backward-requires c κs = search needs
+
+reference-length-requires-2 : tie.Need-reference-length-requires-2
+reference-length-requires-2 c κs = search needs
+
+returns-3 : tie.Need-returns-3
+unfolding lengthsOf only
+returns-3 c = rw (← c .before .before .before .before .before .before .before .bytes .ensures, eq-eqb _ _ (c .before .before .before .before .before .before .if1 .left), ← c .before .before .before .before .before .uses-forward .ensures, ← c .before .before .before .before .reference-length .ensures, eq-eqb _ _ (c .before .before .before .if2 .left), ← c .before .before .uses-backward .ensures, ← c .before .reference-length2 .ensures, ne-eqb _ _ (c .if3 .taken))
+
+returns-4 : tie.Need-returns-4
+unfolding lengthsOf only
+returns-4 c = rw (← c .before .before .before .before .before .before .before .bytes .ensures, eq-eqb _ _ (c .before .before .before .before .before .before .if1 .left), ← c .before .before .before .before .before .uses-forward .ensures, ← c .before .before .before .before .reference-length .ensures, eq-eqb _ _ (c .before .before .before .if2 .left), ← c .before .before .uses-backward .ensures, ← c .before .reference-length2 .ensures, eq-eqb _ _ (c .if3 .left))
+
+pub lent-lengths-spec : {M : Type 1} → statement M
+lent-lengths-spec =
+    tie.close
+    (tie.spec
+    bytes-requires
+    returns
+    uses-forward-requires
+    reference-length-requires
+    returns-2
+    uses-backward-requires
+    reference-length-requires-2
+    returns-3
+    returns-4)

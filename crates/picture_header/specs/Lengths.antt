@@ -1,0 +1,25 @@
+-- The lengths of what the caller lends (document 01, refusals 19, 20 and 21).
+use mathlib.Core.Bool.{Bool, true, false}
+use Prim.Native.Nat.{ℕ}
+use lib.Dec.{eqb}
+use Rattle.refusals.specs.declared.Refusal.the-variants.{OutputLength, ForwardLength, BackwardLength}
+use Rattle.picture_header.specs.declared.size.PictureSize.{PictureSize}
+use Rattle.picture_header.specs.declared.header.Header.{Header}
+use Rattle.format3.specs.declared.verdict.Verdict.{Verdict}
+use Rattle.format3.specs.declared.verdict.Verdict.the-variants.{Passed, Refused}
+use Rattle.format3.specs.Chain.{only, _$_}
+use Rattle.picture_header.specs.Header.{usesForward, usesBackward}
+use Rattle.picture_header.specs.Size.{bytes}
+
+-- "a used reference too, an unused one is empty"
+abbrev pub referenceLength : Bool → PictureSize → ℕ
+referenceLength true size = bytes size
+referenceLength false size = 0
+
+-- "Output is 384 × N; a used reference too, an unused one is empty"
+unfoldable pub lengthsOf : Header → ℕ → ℕ → ℕ → Verdict
+lengthsOf h output forward backward =
+    only (eqb output (bytes (h .size))) (Refused OutputLength) $
+    only (eqb forward (referenceLength (usesForward (h .«coding_type»)) (h .size))) (Refused ForwardLength) $
+    only (eqb backward (referenceLength (usesBackward (h .«coding_type»)) (h .size))) (Refused BackwardLength) $
+    Passed

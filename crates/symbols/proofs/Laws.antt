@@ -1,0 +1,2 @@
+pub mod VectorCodes
+pub mod MacroblockHead

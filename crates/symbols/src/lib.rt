@@ -1,0 +1,4 @@
+// The symbols of slices and macroblocks.
+pub mod macroblock_head;
+pub mod slice;
+pub mod vector_codes;
