@@ -1,0 +1,6 @@
+//! Tests of the definitions against the world: another decoder of Format 3, cases made for both decoders, fixtures of
+//! another codec, and the IEEE P1180 measurement. Nothing here is shared with the crates that are tested.
+
+pub mod decoder;
+pub mod fixtures;
+pub mod sha256;
