@@ -3,4 +3,7 @@
 
 pub mod decoder;
 pub mod fixtures;
+pub mod generator;
+pub mod p1180;
+pub mod random;
 pub mod sha256;
