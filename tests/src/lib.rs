@@ -1,9 +1,12 @@
 //! Tests of the definitions against the world: another decoder of Format 3, cases made for both decoders, fixtures of
 //! another codec, and the IEEE P1180 measurement. Nothing here is shared with the crates that are tested.
 
+pub mod compare;
 pub mod decoder;
 pub mod fixtures;
 pub mod generator;
+#[cfg(feature = "library")]
+pub mod library;
 pub mod p1180;
 pub mod random;
 pub mod sha256;

@@ -1,1 +1,49 @@
-fn main() {}
+//! `compare PANEL [COUNT [SEED]]`: the exported library and the program `panel` against the other decoder, on COUNT single
+//! pictures and COUNT reels, and on the edges of every other entry.
+
+use std::path::Path;
+use std::process::ExitCode;
+
+use format3_tests::compare::{
+    changed_fields, coefficients, panel, pictures, require_every_answer, transforms, vectors,
+};
+use format3_tests::library::ENTRIES;
+
+const COUNT: u64 = 3000;
+const SEED: u64 = 1;
+
+fn main() -> ExitCode {
+    let arguments: Vec<String> = std::env::args().skip(1).collect();
+    let number = |index: usize, default: u64| match arguments.get(index) {
+        Some(argument) => argument
+            .parse()
+            .map_err(|_| format!("no number: {argument}")),
+        None => Ok(default),
+    };
+    let result = match arguments.first() {
+        Some(program) => number(1, COUNT)
+            .and_then(|count| Ok((count, number(2, SEED)?)))
+            .and_then(|(count, seed)| compare(Path::new(program), count, seed)),
+        None => Err("usage: compare PANEL [COUNT [SEED]]".into()),
+    };
+    match result {
+        Ok(()) => ExitCode::SUCCESS,
+        Err(difference) => {
+            eprintln!("compare: {difference}");
+            ExitCode::FAILURE
+        }
+    }
+}
+
+fn compare(program: &Path, count: u64, seed: u64) -> Result<(), String> {
+    println!("{} coefficients", coefficients(&ENTRIES)?);
+    println!("{} vectors", vectors(&ENTRIES)?);
+    println!("{} blocks", transforms(&ENTRIES, seed, 20_000)?);
+    println!("{} changed fields", changed_fields(&ENTRIES, seed, 4)?);
+    let counts = pictures(&ENTRIES, seed, count)?;
+    println!("{count} pictures, by answer: {counts:?}");
+    require_every_answer(&counts)?;
+    println!("{} lines of {count} reels", panel(program, seed, count)?);
+    println!("no difference");
+    Ok(())
+}
