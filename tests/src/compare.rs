@@ -79,14 +79,9 @@ fn same_picture(tested: &Entries, case: &Case, what: impl Fn() -> String) -> Res
     };
     let (ours, theirs) = (run(&ENTRIES), run(tested));
     require_same(&what, ours.0, theirs.0)?;
-    let differs = ours.1.iter().zip(&theirs.1).position(|(a, b)| a != b);
-    match differs {
-        Some(byte) => require_same(
-            || format!("{}, byte {byte}", what()),
-            ours.1[byte],
-            theirs.1[byte],
-        )?,
-        None => (),
+    if let Some(byte) = (0..case.output.len()).find(|byte| ours.1[*byte] != theirs.1[*byte]) {
+        let what = || format!("{}, byte {byte}", what());
+        require_same(what, ours.1[byte], theirs.1[byte])?;
     }
     Ok(ours.0.number)
 }

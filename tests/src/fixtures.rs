@@ -4,7 +4,7 @@ use std::fs;
 use std::path::{Path, PathBuf};
 
 use crate::decoder::panel::{play, text, Line, NO_LIMITS};
-use crate::decoder::Answer;
+use crate::decoder::Reconstruct;
 use crate::sha256;
 
 /// A reel within the limits of `panel`, and what it prints.
@@ -81,10 +81,7 @@ impl PanelFixture {
 impl StreamFixture {
     /// Every picture of the reel, made by `reconstruct`, has the line and the hash expected, and is within 1 a pel of the
     /// other codec's.
-    pub fn check(
-        &self,
-        reconstruct: fn(&[u8], &[u8], &[u8], &mut [u8]) -> Answer,
-    ) -> Result<(), String> {
+    pub fn check(&self, reconstruct: Reconstruct) -> Result<(), String> {
         let mut lines = play(&self.reel, NO_LIMITS, reconstruct);
         let pictures: Vec<u8> = lines
             .iter()

@@ -2,8 +2,7 @@
 
 use std::f64::consts::PI;
 
-/// An inverse transform under test: its number, 0, and 64 residues row by row.
-pub type Transform = fn(&[i16; 64]) -> (u32, [i16; 64]);
+use crate::decoder::Transform;
 
 const BLOCKS: usize = 10_000;
 

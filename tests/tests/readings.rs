@@ -145,7 +145,7 @@ fn skips() {
     assert_eq!(number(&[p, SLICE, next, &[4, 2, 0, 3]]), (13, 27, 1));
 }
 
-/// A B skip repeats the last vector, which is tested at its own place: two macroblocks to the right, it fits the first alone.
+/// A B skip repeats the last vector and is tested at its own place: two macroblocks to the right, it fits the first alone.
 #[test]
 fn a_skip_that_does_not_fit() {
     let header = &[1, 3, 1, 3, 0, 4, 0, 1];

@@ -4,6 +4,7 @@ use std::path::Path;
 use std::process::ExitCode;
 
 use format3_tests::compare::run_panel;
+use format3_tests::exit_code;
 use format3_tests::fixtures::{panel_fixtures, stream_fixtures};
 use format3_tests::library::ENTRIES;
 
@@ -12,13 +13,7 @@ fn main() -> ExitCode {
         Some(program) => check(Path::new(&program)),
         None => Err("usage: fixtures PANEL".into()),
     };
-    match result {
-        Ok(()) => ExitCode::SUCCESS,
-        Err(difference) => {
-            eprintln!("fixtures: {difference}");
-            ExitCode::FAILURE
-        }
-    }
+    exit_code("fixtures", result)
 }
 
 fn check(program: &Path) -> Result<(), String> {

@@ -2,8 +2,9 @@
 
 use std::process::ExitCode;
 
+use format3_tests::exit_code;
 use format3_tests::library::ENTRIES;
-use format3_tests::p1180::{measure, zero_gives_zero};
+use format3_tests::p1180::{measure, zero_gives_zero, Figures};
 
 fn main() -> ExitCode {
     let zero = zero_gives_zero(ENTRIES.transform);
@@ -15,9 +16,9 @@ fn main() -> ExitCode {
     for figures in &figures {
         println!("{}", figures.line());
     }
-    if zero && figures.iter().all(|figures| figures.met()) {
-        ExitCode::SUCCESS
-    } else {
-        ExitCode::FAILURE
-    }
+    let met = zero && figures.iter().all(Figures::met);
+    exit_code(
+        "p1180",
+        met.then_some(()).ok_or("a limit is not met".into()),
+    )
 }

@@ -14,11 +14,17 @@ pub struct Shown {
     pub length: usize,
 }
 
-/// The entries of an implementation. A number is 0, or that of a refusal.
+/// From a file, a forward and a backward reference to a picture in the output.
+pub type Reconstruct = fn(&[u8], &[u8], &[u8], &mut [u8]) -> Answer;
+
+/// From 64 coefficients to 64 residues, row by row.
+pub type Transform = fn(&[i16; 64]) -> (u32, [i16; 64]);
+
+/// The entries of an implementation. A number beside a value is 0, or that of a refusal.
 #[derive(Clone, Copy)]
 pub struct Entries {
-    pub reconstruct: fn(&[u8], &[u8], &[u8], &mut [u8]) -> Answer,
-    pub transform: fn(&[i16; 64]) -> (u32, [i16; 64]),
+    pub reconstruct: Reconstruct,
+    pub transform: Transform,
     pub intra_coefficient: fn(i32, i32, i32) -> (u32, i16),
     pub non_intra_coefficient: fn(i32, i32, i32) -> (u32, i16),
     pub vector: fn(i32, i32, i32, i32) -> (u32, i32),
@@ -35,14 +41,15 @@ pub const ENTRIES: Entries = Entries {
     show_record,
 };
 
-/// "22 a number out of the ranges above, given straight to the coefficient, transform or vector entry. These then give zeros."
-fn refused<T: Default>() -> (u32, T) {
-    (Refusal::NumberOutOfRange.number(), T::default())
+/// "22 a number out of the ranges above, given straight to the coefficient, transform or vector entry. These then give
+/// zeros."
+fn refused<T>(zeros: T) -> (u32, T) {
+    (Refusal::NumberOutOfRange.number(), zeros)
 }
 
 fn transform(coefficients: &[i16; 64]) -> (u32, [i16; 64]) {
     if coefficients.iter().any(|c| !(-2048..=2047).contains(c)) {
-        return (Refusal::NumberOutOfRange.number(), [0; 64]);
+        return refused([0; 64]);
     }
     let residues = inverse_transform(&coefficients.map(i64::from));
     (0, residues.map(|residue| residue as i16))
@@ -53,21 +60,21 @@ fn coefficient(rule: fn(i64, i64, i64) -> i64, level: i32, scale: i32, weight: i
     let in_range =
         (-255..=255).contains(&level) && (1..=31).contains(&scale) && (1..=255).contains(&weight);
     if !in_range {
-        return refused();
+        return refused(0);
     }
     (0, rule(level.into(), scale.into(), weight.into()) as i16)
 }
 
 fn vector(f_code: i32, past: i32, code: i32, residual: i32) -> (u32, i32) {
     if !(1..=7).contains(&f_code) {
-        return refused();
+        return refused(0);
     }
     let f = f_of(f_code.into());
     let [past, code, residual] = [past, code, residual].map(i64::from);
     let in_range =
         (-16 * f..16 * f).contains(&past) && code_legal(code) && residual_legal(f, code, residual);
     if !in_range {
-        return refused();
+        return refused(0);
     }
     (0, decoded(f, past, code, residual) as i32)
 }

@@ -26,7 +26,8 @@ pub fn version(file: &[u8]) -> Result<(), Refusal> {
     require(*first == VERSION, Refusal::Version)
 }
 
-/// The record whose length stands at `offset`. "3 record cut: fewer than 3 bytes left, length 0, or past the end. 4 kind not 1..4."
+/// The record whose length stands at `offset`. "3 record cut: fewer than 3 bytes left, length 0, or past the end."
+/// "4 kind not 1..4."
 pub fn record(file: &[u8], offset: usize) -> Result<Record<'_>, Refusal> {
     let left = file.get(offset..).ok_or(Refusal::RecordCut)?;
     let [high, low, kind, ..] = *left else {

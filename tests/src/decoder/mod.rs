@@ -12,6 +12,6 @@ pub mod size;
 pub mod transform;
 pub mod vectors;
 
-pub use entries::{Entries, ENTRIES};
+pub use entries::{Entries, Reconstruct, Transform, ENTRIES};
 pub use picture::reconstruct;
 pub use refusals::Answer;

@@ -1,5 +1,6 @@
 //! "The program `panel` reads a reel": what it prints for each picture, and the pictures themselves.
 
+use super::entries::Reconstruct;
 use super::file::{self, Header, PictureType};
 use super::refusals::Answer;
 use super::size::Size;
@@ -29,11 +30,7 @@ pub struct Line {
 }
 
 /// What a reel prints, its pictures made by `reconstruct`.
-pub fn play(
-    reel: &[u8],
-    limits: Limits,
-    reconstruct: fn(&[u8], &[u8], &[u8], &mut [u8]) -> Answer,
-) -> Vec<Line> {
+pub fn play(reel: &[u8], limits: Limits, reconstruct: Reconstruct) -> Vec<Line> {
     if reel.len() > limits.reel_bytes {
         return vec![word("long".into())];
     }
@@ -89,7 +86,8 @@ struct References {
 }
 
 impl References {
-    /// "A P uses the last accepted I or P, a B the last two, the newer or only one as backward; missing ones are lent empty."
+    /// "A P uses the last accepted I or P, a B the last two, the newer or only one as backward; missing ones are lent
+    /// empty."
     fn lent(&self, picture_type: PictureType) -> [&[u8]; 2] {
         match picture_type {
             PictureType::I => [&[], &[]],
@@ -120,7 +118,7 @@ fn picture_line(
     file: &[u8],
     limits: Limits,
     references: &mut References,
-    reconstruct: fn(&[u8], &[u8], &[u8], &mut [u8]) -> Answer,
+    reconstruct: Reconstruct,
 ) -> Line {
     let header = header_of(file);
     let mut output = vec![0; header.map_or(0, |header| lent_bytes(header.size, limits))];

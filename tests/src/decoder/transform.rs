@@ -17,7 +17,7 @@ fn cosine(angle: usize) -> i64 {
     }
 }
 
-/// "The factor for frequency u at place p (0..7) stands for cos((2p+1) × u × pi / 16) .. for u = 0 it is the fourth entry."
+/// "The factor for frequency u at place p (0..7) stands for cos((2p+1) × u × pi / 16)"; "for u = 0 it is the fourth entry."
 fn factor(frequency: usize, place: usize) -> i64 {
     if frequency == 0 {
         COSINES[3]
@@ -26,7 +26,7 @@ fn factor(frequency: usize, place: usize) -> i64 {
     }
 }
 
-/// "The sum over all 64 coefficients of horizontal factor × vertical factor × coefficient" at a column and row of the block.
+/// "The sum over all 64 coefficients of horizontal factor × vertical factor × coefficient", at a column and row.
 fn sum(coefficients: &Block, factors: &[[i64; 8]; 8], column: usize, row: usize) -> i64 {
     let mut sum = 0;
     for vertical in 0..8 {

@@ -23,7 +23,7 @@ pub struct Case {
 /// A case by its seed and number. One in four takes its size from all that fit, in turn.
 pub fn case(seed: u64, number: u64) -> Case {
     let random = &mut Random::new(&[seed, number]);
-    let size = if number % 4 == 0 {
+    let size = if number.is_multiple_of(4) {
         let sizes = Size::all();
         sizes[number as usize / 4 % sizes.len()]
     } else {

@@ -221,9 +221,9 @@ impl Writer<'_> {
     /// The vectors of the directions used, and what the slice keeps of them.
     fn vectors(&mut self, body: &mut File, chosen: u8, address: usize, stray: bool) {
         let mut vectors = [None; 2];
-        for way in 0..2 {
+        for (way, vector) in vectors.iter_mut().enumerate() {
             if chosen & (2 << way) != 0 {
-                vectors[way] = Some(self.vector(body, way, address, stray));
+                *vector = Some(self.vector(body, way, address, stray));
             }
         }
         if vectors == [None; 2] {
