@@ -54,15 +54,15 @@ pub fn pictures(tested: &Entries, seed: u64, count: u64) -> Result<Counts, Strin
 }
 
 /// Small pictures with each field in turn at and just past the ends of its range.
-pub fn changed_fields(tested: &Entries, seed: u64, rounds: u64) -> Result<usize, String> {
+pub fn changed_fields(tested: &Entries, seed: u64) -> Result<usize, String> {
     let mut compared = 0;
-    for (file, case) in (seed..seed + rounds).flat_map(small_cases) {
+    for (picture, (file, case)) in small_cases(seed).into_iter().enumerate() {
         for (number, changed) in file.each_field_changed().enumerate() {
             let case = Case {
                 file: changed,
                 ..case.clone()
             };
-            let what = || format!("change {number} of the small pictures of seed {seed}");
+            let what = || format!("change {number} of small picture {picture} of seed {seed}");
             same_picture(tested, &case, what)?;
             compared += 1;
         }
@@ -158,20 +158,7 @@ pub fn vectors(tested: &Entries) -> Result<usize, String> {
 /// Blocks of one coefficient at each place, then random ones: few or many coefficients, small, extreme or out of range.
 pub fn transforms(tested: &Entries, seed: u64, count: usize) -> Result<usize, String> {
     let random = &mut Random::new(&[seed]);
-    let ends = [
-        -2049,
-        -2048,
-        -2047,
-        -4,
-        -1,
-        1,
-        4,
-        8,
-        2047,
-        2048,
-        i16::MIN,
-        i16::MAX,
-    ];
+    let ends = [-32768, -2049, -2048, -4, -1, 1, 4, 8, 2047, 2048, 32767];
     let alone = (0..64).flat_map(|at| {
         ends.map(|end| std::array::from_fn(|place| if place == at { end } else { 0 }))
     });
@@ -187,18 +174,13 @@ pub fn transforms(tested: &Entries, seed: u64, count: usize) -> Result<usize, St
 
 fn random_block(random: &mut Random) -> [i16; 64] {
     let most = random.pick(&[3, 100, 2047]);
-    let zero_in = random.pick(&[1, 2, 60]);
     let extreme = random.once_in(4);
-    let mut block = std::array::from_fn(|_| {
-        if random.below(64) >= zero_in {
-            return 0;
-        }
-        let within = random.within(-most - 1, most);
-        if extreme {
-            random.pick(&[-2048, 2047])
-        } else {
-            within as i16
-        }
+    // How many of the 64 are not 0, about.
+    let count = random.pick(&[1, 2, 60]);
+    let mut block = std::array::from_fn(|_| match (random.below(64) < count, extreme) {
+        (false, _) => 0,
+        (true, true) => random.pick(&[-2048, 2047]),
+        (true, false) => random.within(-most - 1, most) as i16,
     });
     if random.once_in(20) {
         block[random.below(64)] = random.pick(&[-2049, 2048]);

@@ -9,7 +9,7 @@ const SEED: u64 = 2;
 fn compare(tested: &Entries) -> Result<(), String> {
     pictures(tested, SEED, 200)?;
     transforms(tested, SEED, 200)?;
-    changed_fields(tested, SEED, 1)?;
+    changed_fields(tested, SEED)?;
     coefficients(tested)?;
     vectors(tested)?;
     Ok(())

@@ -34,26 +34,30 @@ pub fn case(seed: u64, number: u64) -> Case {
     // Large pictures have short blocks, for the time that they take.
     let most_pairs = if size.macroblocks() > 60 { 5 } else { 64 };
     let style = Style::random(random, most_pairs);
-    match random.below(12) {
-        0..=5 => legal(random, header, style).1,
-        6..=8 => {
-            let (file, case) = legal(random, header, style);
-            Case {
-                file: damaged(random, &file),
-                legal: false,
-                ..case
-            }
-        }
-        9..=10 => stray(random, header, style),
-        _ => {
-            let (_, case) = legal(random, header, style);
-            lent_another_length(random, case)
-        }
+    let kind = random.below(12);
+    let stray_once_in = if kind < 2 {
+        random.pick(&[2, 8, 40])
+    } else {
+        0
+    };
+    let style = Style {
+        stray_once_in,
+        ..style
+    };
+    let (file, mut case) = written(random, header, style);
+    case.legal = kind >= 6;
+    // A stray picture, and one whose lent lengths are wrong, may be damaged besides: it matters what is tested first.
+    if (2..5).contains(&kind) || (kind < 6 && random.once_in(4)) {
+        case.file = damaged(random, &file);
     }
+    if kind == 5 {
+        lend_other_lengths(random, &mut case);
+    }
+    case
 }
 
-/// A legal picture, its references and its output.
-fn legal(random: &mut Random, header: Header, style: Style) -> (File, Case) {
+/// A picture that is legal but for its style's strays, its references and its output.
+fn written(random: &mut Random, header: Header, style: Style) -> (File, Case) {
     let file = picture(random, header, style);
     let bytes = header.size.bytes();
     let [forward, backward] = header
@@ -70,33 +74,18 @@ fn legal(random: &mut Random, header: Header, style: Style) -> (File, Case) {
     (file, case)
 }
 
-/// A picture in which, here and there, a vector or a DC is just out of its range.
-fn stray(random: &mut Random, header: Header, style: Style) -> Case {
-    let style = Style {
-        stray_once_in: random.pick(&[2, 8, 40]),
-        ..style
-    };
-    let (_, case) = legal(random, header, style);
-    Case {
-        legal: false,
-        ..case
+/// The output, a reference, or more of them have another length than the header asks for.
+fn lend_other_lengths(random: &mut Random, case: &mut Case) {
+    let lent = [&mut case.output, &mut case.forward, &mut case.backward];
+    let surely = random.below(3);
+    for (index, lent) in lent.into_iter().enumerate() {
+        if index == surely || random.once_in(3) {
+            let length = lent.len();
+            let longer = [length + 1, length + MACROBLOCK_BYTES];
+            let shorter = [0, length.saturating_sub(1)];
+            lent.resize(random.pick(&[longer, shorter].concat()), 77);
+        }
     }
-}
-
-/// The output or a reference has another length than the header asks for.
-fn lent_another_length(random: &mut Random, mut case: Case) -> Case {
-    let lent = match random.below(3) {
-        0 => &mut case.output,
-        1 => &mut case.forward,
-        _ => &mut case.backward,
-    };
-    let length = lent.len();
-    let longer = [length + 1, length + MACROBLOCK_BYTES];
-    let shorter = [0, length.saturating_sub(1)];
-    let other = random.pick(&[longer, shorter].concat());
-    lent.resize(other, 77);
-    case.legal = false;
-    case
 }
 
 /// A small legal picture of each type, to be changed field by field.
@@ -116,6 +105,6 @@ pub fn small_cases(seed: u64) -> [(File, Case); 3] {
             intra_once_in: 4,
             stray_once_in: 0,
         };
-        legal(random, header, style)
+        written(random, header, style)
     })
 }

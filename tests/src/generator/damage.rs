@@ -8,7 +8,7 @@ use crate::random::Random;
 /// The file's bytes, damaged in one way. It may happen to stay legal.
 pub fn damaged(random: &mut Random, file: &File) -> Vec<u8> {
     match random.below(10) {
-        0..=4 => field_changed(random, file),
+        0..=4 => fields_changed(random, file),
         5 => cut(random, file),
         6 => lengthened(random, file),
         7 => reordered(random, file),
@@ -17,17 +17,31 @@ pub fn damaged(random: &mut Random, file: &File) -> Vec<u8> {
     }
 }
 
-/// A field has one of the values worth a try. Each name of a field is as likely as any other.
-fn field_changed(random: &mut Random, file: &File) -> Vec<u8> {
+/// A field has one of the values worth a try, each name of a field being as likely as any other; then perhaps some of
+/// the fields after it, so that it matters which is tested first.
+fn fields_changed(random: &mut Random, file: &File) -> Vec<u8> {
     let names: BTreeSet<&str> = file.fields.iter().map(|field| field.name).collect();
     let name = random.pick(&Vec::from_iter(names));
-    let fields: Vec<&Field> = file
-        .fields
-        .iter()
-        .filter(|field| field.name == name)
+    let named: Vec<usize> = (0..file.fields.len())
+        .filter(|index| file.fields[*index].name == name)
         .collect();
-    let field = random.pick(&fields);
-    file.with(field, random.pick(&field.others))
+    let first = random.pick(&named);
+    let mut bytes = file.bytes.clone();
+    file.fields[first].change(random, &mut bytes);
+    if random.once_in(3) {
+        for field in file.fields[first + 1..].iter().take(8) {
+            if random.once_in(2) {
+                field.change(random, &mut bytes);
+            }
+        }
+    }
+    bytes
+}
+
+impl Field {
+    fn change(&self, random: &mut Random, bytes: &mut [u8]) {
+        put(bytes, self.offset, self.width, random.pick(&self.others));
+    }
 }
 
 /// The file ends early: anywhere, or at the start of a record.

@@ -92,16 +92,12 @@ impl File {
     /// The file with each field in turn set to each of its other values.
     pub fn each_field_changed(&self) -> impl Iterator<Item = Vec<u8>> + '_ {
         self.fields.iter().flat_map(|field| {
-            let changed = |value: &i64| self.with(field, *value);
-            field.others.iter().map(changed).collect::<Vec<_>>()
+            field.others.iter().map(|value| {
+                let mut bytes = self.bytes.clone();
+                put(&mut bytes, field.offset, field.width, *value);
+                bytes
+            })
         })
-    }
-
-    /// The bytes with another value in the place of a field.
-    pub fn with(&self, field: &Field, value: i64) -> Vec<u8> {
-        let mut bytes = self.bytes.clone();
-        put(&mut bytes, field.offset, field.width, value);
-        bytes
     }
 }
 

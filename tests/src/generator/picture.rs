@@ -56,7 +56,7 @@ pub fn picture(random: &mut Random, header: Header, style: Style) -> File {
         header,
         style,
         next: 0,
-        dc_pasts: [128; 3],
+        dc_pasts: [FIRST_DC; 3],
         vector_pasts: [[0; 2]; 2],
         last: None,
     };
@@ -71,6 +71,12 @@ pub fn picture(random: &mut Random, header: Header, style: Style) -> File {
     }
     writer.file
 }
+
+/// The ends of a scale's range, and those just past them.
+const SCALE_ENDS: [i64; 5] = [0, 1, 31, 32, 255];
+
+/// An eighth of the DC past at a slice's start.
+const FIRST_DC: i64 = 128;
 
 struct Writer<'a> {
     random: &'a mut Random,
@@ -135,7 +141,7 @@ impl Writer<'_> {
             file.byte("scale", scale, &SCALE_ENDS);
             file.word("start", start, &[start - 1, start + 1, start + 256, 0]);
         });
-        self.dc_pasts = [128; 3];
+        self.dc_pasts = [FIRST_DC; 3];
         self.vector_pasts = [[0; 2]; 2];
         self.last = None;
         loop {
@@ -153,36 +159,17 @@ impl Writer<'_> {
     }
 
     fn macroblock(&mut self) {
-        let left = self.header.size.macroblocks() - self.next;
         let stray = self.style.stray_once_in != 0 && self.random.once_in(self.style.stray_once_in);
-        let skipped = self.skipped(left - 1, stray);
-        if skipped > 0 {
-            self.dc_pasts = [128; 3];
-            if self.header.picture_type == PictureType::P {
-                self.vector_pasts = [[0; 2]; 2];
-            }
-        }
-        let address = self.next + skipped;
-        let chosen = self.macroblock_type();
         let mut body = File::empty();
-        body.byte(
-            "macroblock type",
-            chosen.into(),
-            &[0, 1, 2, 4, 8, 9, 10, 12, 15, 16, 18, 31, 32, 48, 255],
-        );
-        let left = left as i64;
-        body.word(
-            "increment",
-            skipped as i64 + 1,
-            &[0, 1, 2, left, left + 1, left + 256, 0xffff],
-        );
+        let chosen = self.macroblock_type(&mut body);
+        let address = self.increment(&mut body, stray);
         if chosen & 1 != 0 {
             body.byte("scale", self.scale(), &SCALE_ENDS);
         }
         self.vectors(&mut body, chosen, address, stray);
         let intra = chosen & 16 != 0;
         if !intra {
-            self.dc_pasts = [128; 3];
+            self.dc_pasts = [FIRST_DC; 3];
         }
         let pattern = self.pattern(&mut body, chosen);
         for block in 0..6 {
@@ -192,6 +179,34 @@ impl Writer<'_> {
         }
         self.file.record(MACROBLOCK, |file| file.append(body));
         self.next = address + 1;
+    }
+
+    fn macroblock_type(&mut self, body: &mut File) -> u8 {
+        let legal = legal_types(self.header.picture_type);
+        let chosen = if self.random.once_in(self.style.intra_once_in) {
+            self.random.pick(&[16, 17])
+        } else {
+            self.random.pick(legal)
+        };
+        let others = [0, 1, 2, 4, 8, 9, 10, 12, 15, 16, 18, 31, 32, 48, 255];
+        body.byte("macroblock type", chosen.into(), &others);
+        chosen
+    }
+
+    /// The increment, and what the skipped macroblocks leave of the pasts. Gives the macroblock's own address.
+    fn increment(&mut self, body: &mut File, stray: bool) -> usize {
+        let left = self.header.size.macroblocks() - self.next;
+        let skipped = self.skipped(left - 1, stray);
+        if skipped > 0 {
+            self.dc_pasts = [FIRST_DC; 3];
+            if self.header.picture_type == PictureType::P {
+                self.vector_pasts = [[0; 2]; 2];
+            }
+        }
+        let left = left as i64;
+        let others = [0, 1, 2, left, left + 1, left + 256, 0xffff];
+        body.word("increment", skipped as i64 + 1, &others);
+        self.next + skipped
     }
 
     /// How many macroblocks are skipped: where that is legal, and as far as the vectors to be repeated fit.
@@ -208,14 +223,6 @@ impl Writer<'_> {
             used.all(|vector| fits(self.header.size, *address, *vector))
         };
         (self.next..self.next + wanted).take_while(fit).count()
-    }
-
-    fn macroblock_type(&mut self) -> u8 {
-        let legal = legal_types(self.header.picture_type);
-        if self.random.once_in(self.style.intra_once_in) {
-            return self.random.pick(&[16, 17]);
-        }
-        self.random.pick(legal)
     }
 
     /// The vectors of the directions used, and what the slice keeps of them.
@@ -248,13 +255,13 @@ impl Writer<'_> {
         for (axis, (at, extent)) in [(column, width), (row, height)].into_iter().enumerate() {
             let low = (-32 * at as i64 / factor).max(-16 * f);
             let high = (32 * (extent - 1 - at) as i64 / factor).min(16 * f - 1);
-            let mut wanted = self.edge_or_within(low, high);
-            if stray {
-                wanted = self
-                    .random
-                    .pick(&[low - 1, high + 1, wanted])
-                    .clamp(-16 * f, 16 * f - 1);
-            }
+            let fit = self.edge_or_within(low, high);
+            let wanted = if stray {
+                let any = self.random.pick(&[low - 1, high + 1, fit]);
+                any.clamp(-16 * f, 16 * f - 1)
+            } else {
+                fit
+            };
             let past = self.vector_pasts[way][axis];
             self.code_and_residual(body, f, wanted - past);
             self.vector_pasts[way][axis] = wanted;
@@ -302,31 +309,24 @@ impl Writer<'_> {
             self.dc(body, component, stray);
         }
         let first = usize::from(intra);
-        let room = 64 - first;
-        let count = if self.random.once_in(50) {
-            self.style.most_pairs.min(room)
-        } else {
-            self.random.below(self.style.most_pairs.min(room) + 1)
-        };
-        // Without DC a block has a pair at least.
-        let count = count.max(1 - first);
+        let most = self.style.most_pairs.min(64 - first);
+        let within = self.random.below(most + 1);
+        // A block without DC has a pair at least.
+        let count = self
+            .random
+            .pick(&[within, within, within, most])
+            .max(1 - first);
         body.byte("count", count as i64, &[0, 1, 63, 64, 65, 255]);
         let mut from = first;
         for left in (1..=count).rev() {
             let most_run = 64 - from - left;
             let run = self.run(most_run);
-            body.byte(
-                "run",
-                run as i64,
-                &[0, most_run as i64, most_run as i64 + 1, 63, 64, 255],
-            );
-            from += run + 1;
+            let others = [0, 63, 64, 255, most_run as i64, most_run as i64 + 1];
+            body.byte("run", run as i64, &others);
             let level = self.level();
-            body.word(
-                "level",
-                level,
-                &[0, -1, 1, -255, 255, -256, 256, -32768, 32767],
-            );
+            let others = [0, -1, 1, -255, 255, -256, 256, -32768, 32767];
+            body.word("level", level, &others);
+            from += run + 1;
         }
     }
 
@@ -354,14 +354,8 @@ impl Writer<'_> {
             self.edge_or_within(0, 255)
         };
         let ends = [-1 - past, -past, 255 - past, 256 - past];
-        body.word(
-            "difference",
-            wanted - past,
-            &[&ends[..], &[-256, 256, -32768, 32767]].concat(),
-        );
+        let far = [-32768, -256, 256, 32767];
+        body.word("difference", wanted - past, &[ends, far].concat());
         self.dc_pasts[component] = wanted;
     }
 }
-
-/// The ends of a scale's range, and those just past them.
-const SCALE_ENDS: [i64; 5] = [0, 1, 31, 32, 255];
