@@ -17,8 +17,8 @@ pub fn damaged(random: &mut Random, file: &File) -> Vec<u8> {
     }
 }
 
-/// A field has one of the values worth a try, each name of a field being as likely as any other; then perhaps some of
-/// the fields after it, so that it matters which is tested first.
+/// A field has one of the values worth a try, each name of a field being as likely as any other. Then perhaps some of the
+/// fields after it, or its record ends there, so that it matters what is tested first.
 fn fields_changed(random: &mut Random, file: &File) -> Vec<u8> {
     let names: BTreeSet<&str> = file.fields.iter().map(|field| field.name).collect();
     let name = random.pick(&Vec::from_iter(names));
@@ -28,12 +28,16 @@ fn fields_changed(random: &mut Random, file: &File) -> Vec<u8> {
     let first = random.pick(&named);
     let mut bytes = file.bytes.clone();
     file.fields[first].change(random, &mut bytes);
-    if random.once_in(3) {
-        for field in file.fields[first + 1..].iter().take(8) {
-            if random.once_in(2) {
-                field.change(random, &mut bytes);
+    match random.below(6) {
+        0 => return file.ended_after(&file.fields[first], &bytes),
+        1 | 2 => {
+            for field in file.fields[first + 1..].iter().take(8) {
+                if random.once_in(2) {
+                    field.change(random, &mut bytes);
+                }
             }
         }
+        _ => (),
     }
     bytes
 }

@@ -89,15 +89,32 @@ impl File {
         self.bytes[self.records[index]..end].to_vec()
     }
 
-    /// The file with each field in turn set to each of its other values.
+    /// The file with each field in turn set to each of its other values; also with its record ended just after it.
     pub fn each_field_changed(&self) -> impl Iterator<Item = Vec<u8>> + '_ {
-        self.fields.iter().flat_map(|field| {
-            field.others.iter().map(|value| {
+        self.fields.iter().flat_map(move |field| {
+            field.others.iter().flat_map(move |value| {
                 let mut bytes = self.bytes.clone();
                 put(&mut bytes, field.offset, field.width, *value);
-                bytes
+                let ended = self.ended_after(field, &bytes);
+                [bytes, ended]
             })
         })
+    }
+
+    /// The file's bytes, changed or not, with the record of a field of its body ended just after that field.
+    pub fn ended_after(&self, field: &Field, bytes: &[u8]) -> Vec<u8> {
+        let mut ended = bytes.to_vec();
+        let next = self.records.partition_point(|start| *start <= field.offset);
+        let body_end = field.offset + field.width;
+        match next.checked_sub(1).map(|index| self.records[index]) {
+            Some(start) if start + 3 <= field.offset => {
+                let end = self.records.get(next).copied().unwrap_or(bytes.len());
+                ended.drain(body_end..end);
+                put(&mut ended, start, 2, (body_end - start - 2) as i64);
+            }
+            _ => (),
+        }
+        ended
     }
 }
 
