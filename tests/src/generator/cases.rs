@@ -20,6 +20,25 @@ pub struct Case {
     pub legal: bool,
 }
 
+/// What is wrong with a case.
+#[derive(Clone, Copy, PartialEq, Eq)]
+enum Fault {
+    None,
+    /// Here and there a vector or a DC is just out of its range.
+    Stray,
+    Damage,
+    /// The output or a reference has a wrong length.
+    Lengths,
+}
+
+/// How likely each fault is: half of the cases are legal.
+const FAULTS: [Fault; 12] = {
+    use Fault::{Damage, Lengths, None, Stray};
+    [
+        None, None, None, None, None, None, Stray, Stray, Damage, Damage, Damage, Lengths,
+    ]
+};
+
 /// A case by its seed and number. One in four takes its size from all that fit, in turn.
 pub fn case(seed: u64, number: u64) -> Case {
     let random = &mut Random::new(&[seed, number]);
@@ -33,24 +52,21 @@ pub fn case(seed: u64, number: u64) -> Case {
     let header = random_header(random, picture_type, size);
     // Large pictures have short blocks, for the time that they take.
     let most_pairs = if size.macroblocks() > 60 { 5 } else { 64 };
-    let style = Style::random(random, most_pairs);
-    let kind = random.below(12);
-    let stray_once_in = if kind < 2 {
-        random.pick(&[2, 8, 40])
-    } else {
-        0
-    };
-    let style = Style {
-        stray_once_in,
-        ..style
-    };
+    let mut style = Style::random(random, most_pairs);
+    let fault = random.pick(&FAULTS);
+    if fault == Fault::Stray {
+        style.stray_once_in = random.pick(&[2, 8, 40]);
+    }
     let (file, mut case) = written(random, header, style);
-    case.legal = kind >= 6;
-    // A stray picture, and one whose lent lengths are wrong, may be damaged besides: it matters what is tested first.
-    if (2..5).contains(&kind) || (kind < 6 && random.once_in(4)) {
+    if fault == Fault::None {
+        return case;
+    }
+    case.legal = false;
+    // Another fault may have damage besides, so that it matters what is tested first.
+    if fault == Fault::Damage || random.once_in(4) {
         case.file = damaged(random, &file);
     }
-    if kind == 5 {
+    if fault == Fault::Lengths {
         lend_other_lengths(random, &mut case);
     }
     case

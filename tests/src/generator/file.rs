@@ -81,12 +81,12 @@ impl File {
 
     /// The bytes of the record numbered `index`.
     pub fn record_bytes(&self, index: usize) -> Vec<u8> {
-        let end = self
-            .records
-            .get(index + 1)
-            .copied()
-            .unwrap_or(self.bytes.len());
-        self.bytes[self.records[index]..end].to_vec()
+        self.bytes[self.records[index]..self.record_end(index)].to_vec()
+    }
+
+    fn record_end(&self, index: usize) -> usize {
+        let next = self.records.get(index + 1);
+        next.copied().unwrap_or(self.bytes.len())
     }
 
     /// The file with each field in turn set to each of its other values; also with its record ended just after it.
@@ -101,18 +101,17 @@ impl File {
         })
     }
 
-    /// The file's bytes, changed or not, with the record of a field of its body ended just after that field.
+    /// The file's bytes, a field of them changed, with the record ended just after it if it is a field of a body.
     pub fn ended_after(&self, field: &Field, bytes: &[u8]) -> Vec<u8> {
         let mut ended = bytes.to_vec();
-        let next = self.records.partition_point(|start| *start <= field.offset);
-        let body_end = field.offset + field.width;
-        match next.checked_sub(1).map(|index| self.records[index]) {
-            Some(start) if start + 3 <= field.offset => {
-                let end = self.records.get(next).copied().unwrap_or(bytes.len());
-                ended.drain(body_end..end);
-                put(&mut ended, start, 2, (body_end - start - 2) as i64);
-            }
-            _ => (),
+        let in_body = |index: &usize| {
+            (self.records[*index] + 3..self.record_end(*index)).contains(&field.offset)
+        };
+        if let Some(index) = (0..self.records.len()).find(in_body) {
+            let start = self.records[index];
+            let end = field.offset + field.width;
+            ended.drain(end..self.record_end(index));
+            put(&mut ended, start, 2, (end - start - 2) as i64);
         }
         ended
     }
