@@ -1,0 +1,48 @@
+//! `compare PANEL [COUNT [SEED]]`: the exported library and the program `panel` against the other decoder, on COUNT single
+//! pictures and COUNT reels, and on the edges of every other entry. A small COUNT fails: it brings about too few answers.
+
+use std::path::Path;
+use std::process::ExitCode;
+
+use format3_tests::compare::{
+    changed_fields, coefficients, panel, pictures, require_every_answer, transforms, vectors,
+};
+use format3_tests::exit_code;
+use format3_tests::library::ENTRIES;
+
+/// Enough for every size of a picture that fits: they take turns in every fourth case.
+const COUNT: u64 = 4000;
+const SEED: u64 = 1;
+
+fn main() -> ExitCode {
+    let arguments: Vec<String> = std::env::args().skip(1).collect();
+    exit_code("compare", run(&arguments))
+}
+
+fn run(arguments: &[String]) -> Result<(), String> {
+    let number = |index: usize, default: u64| match arguments.get(index) {
+        Some(argument) => argument
+            .parse()
+            .map_err(|_| format!("no number: {argument}")),
+        None => Ok(default),
+    };
+    let program = arguments
+        .first()
+        .ok_or("usage: compare PANEL [COUNT [SEED]]")?;
+    compare(Path::new(program), number(1, COUNT)?, number(2, SEED)?)
+}
+
+fn compare(program: &Path, count: u64, seed: u64) -> Result<(), String> {
+    println!("{} coefficients", coefficients(&ENTRIES)?);
+    println!("{} vectors", vectors(&ENTRIES)?);
+    println!("{} blocks", transforms(&ENTRIES, seed, 20_000)?);
+    for seed in seed..seed + 4 {
+        println!("{} changed fields", changed_fields(&ENTRIES, seed)?);
+    }
+    let counts = pictures(&ENTRIES, seed, count)?;
+    println!("{count} pictures, by answer: {counts:?}");
+    require_every_answer(&counts)?;
+    println!("{} lines of {count} reels", panel(program, seed, count)?);
+    println!("no difference");
+    Ok(())
+}

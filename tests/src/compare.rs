@@ -1,0 +1,228 @@
+//! Compares an implementation's entries, and a program `panel`, with the other decoder. An error tells the first case
+//! that differs: its seed and number make it again.
+
+use std::fmt::Debug;
+use std::io::{ErrorKind, Write};
+use std::path::Path;
+use std::process::{Command, Stdio};
+
+use crate::decoder::entries::Shown;
+use crate::decoder::panel::{play, text, PANEL_LIMITS};
+use crate::decoder::refusals::Refusal;
+use crate::decoder::vectors::f_of;
+use crate::decoder::{reconstruct, Entries, ENTRIES};
+use crate::generator::{case, reel, small_cases, Case};
+use crate::random::Random;
+
+/// How often each answer from 0 to 21 was given.
+pub type Counts = [usize; Refusal::BackwardLength as usize + 1];
+
+/// Fails where an answer was never given: the cases then show too little.
+pub fn require_every_answer(counts: &Counts) -> Result<(), String> {
+    match counts.iter().position(|count| *count == 0) {
+        Some(answer) => Err(format!("no case was answered by {answer}")),
+        None => Ok(()),
+    }
+}
+
+fn require_same<T: PartialEq + Debug>(
+    what: impl FnOnce() -> String,
+    ours: T,
+    theirs: T,
+) -> Result<(), String> {
+    if ours == theirs {
+        return Ok(());
+    }
+    let what = what();
+    Err(format!(
+        "{what}: {ours:?} by the other decoder, {theirs:?} by the one tested"
+    ))
+}
+
+/// Pictures by their seed and number: the answer, and every byte of the output, of refused pictures too.
+pub fn pictures(tested: &Entries, seed: u64, count: u64) -> Result<Counts, String> {
+    let mut counts = Counts::default();
+    for number in 0..count {
+        let case = case(seed, number);
+        let what = || format!("picture {number} of seed {seed}");
+        let answer = same_picture(tested, &case, what)?;
+        counts[answer as usize] += 1;
+        let random = &mut Random::new(&[seed, number, 1]);
+        same_records_shown(tested, &case.file, random)?;
+    }
+    Ok(counts)
+}
+
+/// Small pictures with each field in turn at and just past the ends of its range.
+pub fn changed_fields(tested: &Entries, seed: u64) -> Result<usize, String> {
+    let mut compared = 0;
+    for (picture, (file, case)) in small_cases(seed).into_iter().enumerate() {
+        for (number, changed) in file.each_field_changed().enumerate() {
+            let case = Case {
+                file: changed,
+                ..case.clone()
+            };
+            let what = || format!("change {number} of small picture {picture} of seed {seed}");
+            same_picture(tested, &case, what)?;
+            compared += 1;
+        }
+    }
+    Ok(compared)
+}
+
+/// The answer's number, where both give the same answer and bytes.
+fn same_picture(tested: &Entries, case: &Case, what: impl Fn() -> String) -> Result<u32, String> {
+    let run = |entries: &Entries| {
+        let mut output = case.output.clone();
+        let answer = (entries.reconstruct)(&case.file, &case.forward, &case.backward, &mut output);
+        (answer, output)
+    };
+    let (ours, theirs) = (run(&ENTRIES), run(tested));
+    require_same(&what, ours.0, theirs.0)?;
+    if let Some(byte) = (0..case.output.len()).find(|byte| ours.1[*byte] != theirs.1[*byte]) {
+        let what = || format!("{}, byte {byte}", what());
+        require_same(what, ours.1[byte], theirs.1[byte])?;
+    }
+    Ok(ours.0.number)
+}
+
+/// Records shown from a few offsets of the file, and from past its end.
+fn same_records_shown(tested: &Entries, file: &[u8], random: &mut Random) -> Result<(), String> {
+    let [one, another] = [(); 2].map(|()| random.below(file.len() + 4));
+    for offset in [0, 1, one, another, file.len(), usize::MAX] {
+        let [ours, theirs] = [&ENTRIES, tested].map(|entries| {
+            let (number, shown) = (entries.show_record)(file, offset);
+            // Where an empty part would start after a refusal is left free.
+            let start = if number == 0 { shown.start } else { 0 };
+            (number, Shown { start, ..shown })
+        });
+        require_same(
+            || format!("record at {offset} of {file:02x?}"),
+            ours,
+            theirs,
+        )?;
+    }
+    Ok(())
+}
+
+/// Numbers far out of every range.
+const FAR: [i32; 4] = [i32::MIN, -40_000, 40_000, i32::MAX];
+
+/// The numbers from `low` to `high`, and those far out of every range.
+fn and_far(low: i64, high: i64) -> Vec<i32> {
+    (low as i32..=high as i32).chain(FAR).collect()
+}
+
+/// Every level, scale and weight in its range and just past it.
+pub fn coefficients(tested: &Entries) -> Result<usize, String> {
+    let weights = and_far(-1, 257);
+    let mut compared = 0;
+    for level in and_far(-257, 257) {
+        for scale in and_far(-1, 33) {
+            for &weight in &weights {
+                let what = |rule| format!("{rule}, level {level}, scale {scale}, weight {weight}");
+                let intra = |entries: &Entries| (entries.intra_coefficient)(level, scale, weight);
+                require_same(|| what("intra"), intra(&ENTRIES), intra(tested))?;
+                let non_intra =
+                    |entries: &Entries| (entries.non_intra_coefficient)(level, scale, weight);
+                require_same(|| what("non-intra"), non_intra(&ENTRIES), non_intra(tested))?;
+                compared += 2;
+            }
+        }
+    }
+    Ok(compared)
+}
+
+/// Every f_code, past, code and residual in its range and just past it.
+pub fn vectors(tested: &Entries) -> Result<usize, String> {
+    let mut compared = 0;
+    for f_code in and_far(-1, 9) {
+        let f = f_of(i64::from(f_code).clamp(1, 7));
+        let residuals = and_far(-1, f);
+        for past in and_far(-16 * f - 1, 16 * f) {
+            for code in and_far(-17, 17) {
+                for &residual in &residuals {
+                    let vector = |entries: &Entries| (entries.vector)(f_code, past, code, residual);
+                    let what = || {
+                        format!("vector of f_code {f_code}, past {past}, code {code}, {residual}")
+                    };
+                    require_same(what, vector(&ENTRIES), vector(tested))?;
+                    compared += 1;
+                }
+            }
+        }
+    }
+    Ok(compared)
+}
+
+/// Blocks of one coefficient at each place, then random ones: few or many coefficients, small, extreme or out of range.
+pub fn transforms(tested: &Entries, seed: u64, count: usize) -> Result<usize, String> {
+    let random = &mut Random::new(&[seed]);
+    let ends = [-32768, -2049, -2048, -4, -1, 1, 4, 8, 2047, 2048, 32767];
+    let alone = (0..64).flat_map(|at| {
+        ends.map(|end| std::array::from_fn(|place| if place == at { end } else { 0 }))
+    });
+    let mut blocks: Vec<[i16; 64]> = alone.collect();
+    blocks.extend((0..count).map(|_| random_block(random)));
+    for block in &blocks {
+        let transform = |entries: &Entries| (entries.transform)(block);
+        let what = || format!("transform of {block:?}");
+        require_same(what, transform(&ENTRIES), transform(tested))?;
+    }
+    Ok(blocks.len())
+}
+
+fn random_block(random: &mut Random) -> [i16; 64] {
+    let most = random.pick(&[3, 100, 2047]);
+    let extreme = random.once_in(4);
+    // How many of the 64 are not 0, about.
+    let count = random.pick(&[1, 2, 60]);
+    let mut block = std::array::from_fn(|_| match (random.below(64) < count, extreme) {
+        (false, _) => 0,
+        (true, true) => random.pick(&[-2048, 2047]),
+        (true, false) => random.within(-most - 1, most) as i16,
+    });
+    if random.once_in(20) {
+        block[random.below(64)] = random.pick(&[-2049, 2048]);
+    }
+    block
+}
+
+/// Reels by their seed and number: what the program prints.
+pub fn panel(program: &Path, seed: u64, count: u64) -> Result<usize, String> {
+    let mut lines = 0;
+    for number in 0..count {
+        let reel = reel(seed, number);
+        let expected = text(&play(&reel.bytes, PANEL_LIMITS, reconstruct));
+        let what = || format!("reel {number} of seed {seed}");
+        let printed = run_panel(program, &reel.bytes).map_err(|e| format!("{}: {e}", what()))?;
+        lines += expected.lines().count();
+        require_same(what, expected, printed)?;
+    }
+    Ok(lines)
+}
+
+/// What the program prints for a reel. It may stop reading before the end of one that is too long.
+pub fn run_panel(program: &Path, reel: &[u8]) -> Result<String, String> {
+    let failed = |error: std::io::Error| format!("{}: {error}", program.display());
+    let mut process = Command::new(program)
+        .stdin(Stdio::piped())
+        .stdout(Stdio::piped())
+        .spawn()
+        .map_err(failed)?;
+    if let Some(mut input) = process.stdin.take() {
+        match input.write_all(reel) {
+            Err(error) if error.kind() != ErrorKind::BrokenPipe => return Err(failed(error)),
+            _ => (),
+        }
+    }
+    let output = process.wait_with_output().map_err(failed)?;
+    if !output.status.success() {
+        return Err(format!(
+            "{} ended with {}",
+            program.display(),
+            output.status
+        ));
+    }
+    String::from_utf8(output.stdout).map_err(|error| error.to_string())
+}

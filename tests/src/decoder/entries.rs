@@ -1,0 +1,102 @@
+//! The public entries besides `reconstruct`, each with its refusal, and all of them as one table.
+
+use super::coefficients::{intra_ac, non_intra};
+use super::file::record;
+use super::refusals::{Answer, Refusal};
+use super::transform::inverse_transform;
+use super::vectors::{code_legal, decoded, f_of, residual_legal};
+
+/// What a record shown by itself is: its kind, and where its body lies in the file.
+#[derive(Clone, Copy, Debug, PartialEq, Eq)]
+pub struct Shown {
+    pub kind: usize,
+    pub start: usize,
+    pub length: usize,
+}
+
+/// From a file, a forward and a backward reference to a picture in the output.
+pub type Reconstruct = fn(&[u8], &[u8], &[u8], &mut [u8]) -> Answer;
+
+/// From 64 coefficients to 64 residues, row by row.
+pub type Transform = fn(&[i16; 64]) -> (u32, [i16; 64]);
+
+/// The entries of an implementation. A number beside a value is 0, or that of a refusal.
+#[derive(Clone, Copy)]
+pub struct Entries {
+    pub reconstruct: Reconstruct,
+    pub transform: Transform,
+    pub intra_coefficient: fn(i32, i32, i32) -> (u32, i16),
+    pub non_intra_coefficient: fn(i32, i32, i32) -> (u32, i16),
+    pub vector: fn(i32, i32, i32, i32) -> (u32, i32),
+    pub show_record: fn(&[u8], usize) -> (u32, Shown),
+}
+
+/// This decoder's entries.
+pub const ENTRIES: Entries = Entries {
+    reconstruct: super::picture::reconstruct,
+    transform,
+    intra_coefficient: |level, scale, weight| coefficient(intra_ac, level, scale, weight),
+    non_intra_coefficient: |level, scale, weight| coefficient(non_intra, level, scale, weight),
+    vector,
+    show_record,
+};
+
+/// "22 a number out of the ranges above, given straight to the coefficient, transform or vector entry. These then give
+/// zeros."
+fn refused<T>(zeros: T) -> (u32, T) {
+    (Refusal::NumberOutOfRange.number(), zeros)
+}
+
+fn transform(coefficients: &[i16; 64]) -> (u32, [i16; 64]) {
+    if coefficients.iter().any(|c| !(-2048..=2047).contains(c)) {
+        return refused([0; 64]);
+    }
+    let residues = inverse_transform(&coefficients.map(i64::from));
+    (0, residues.map(|residue| residue as i16))
+}
+
+/// "A level of 0 is in range there, and a weight is 1..255."
+fn coefficient(rule: fn(i64, i64, i64) -> i64, level: i32, scale: i32, weight: i32) -> (u32, i16) {
+    let in_range =
+        (-255..=255).contains(&level) && (1..=31).contains(&scale) && (1..=255).contains(&weight);
+    if !in_range {
+        return refused(0);
+    }
+    (0, rule(level.into(), scale.into(), weight.into()) as i16)
+}
+
+fn vector(f_code: i32, past: i32, code: i32, residual: i32) -> (u32, i32) {
+    if !(1..=7).contains(&f_code) {
+        return refused(0);
+    }
+    let f = f_of(f_code.into());
+    let [past, code, residual] = [past, code, residual].map(i64::from);
+    let in_range =
+        (-16 * f..16 * f).contains(&past) && code_legal(code) && residual_legal(f, code, residual);
+    if !in_range {
+        return refused(0);
+    }
+    (0, decoded(f, past, code, residual) as i32)
+}
+
+/// "A record can be shown by itself, from an offset." "A refusal shows kind 0 and an empty part."
+fn show_record(file: &[u8], offset: usize) -> (u32, Shown) {
+    match record(file, offset) {
+        Ok(record) => {
+            let shown = Shown {
+                kind: record.kind.into(),
+                start: offset + 3,
+                length: record.body.len(),
+            };
+            (0, shown)
+        }
+        Err(refusal) => {
+            let empty = Shown {
+                kind: 0,
+                start: 0,
+                length: 0,
+            };
+            (refusal.number(), empty)
+        }
+    }
+}

@@ -1,0 +1,229 @@
+//! From the records of a file to the pels of a picture: the order of the tests, and what a refusal leaves.
+
+use super::coefficients::{
+    coefficients, intra_ac, non_intra, Block, DEFAULT_INTRA_MATRIX, DEFAULT_NON_INTRA_MATRIX,
+};
+use super::file::{self, Header, PictureType};
+use super::macroblock::{component, macroblock, CodedBlock, Last, Macroblock, SliceState};
+use super::refusals::{require, Answer, Refusal};
+use super::transform::inverse_transform;
+use super::vectors::{fits, prediction, Vectors};
+
+/// One file to one picture. "Order: 1, 2; in each record 3, 4, 5", then what its kind says.
+/// The output is written record by record, so a refusal leaves what the records before it made.
+pub fn reconstruct(file: &[u8], forward: &[u8], backward: &[u8], output: &mut [u8]) -> Answer {
+    let mut picture = Picture {
+        references: [forward, backward],
+        output,
+        header: None,
+        matrices: [None; 2],
+        slice: None,
+        made: 0,
+    };
+    // "Place is the offset of the refused record's length (0 for 1 and 2; file length for 7 ..)."
+    let mut place = 0;
+    let number = match picture.read(file, &mut place) {
+        Ok(()) => 0,
+        Err(refusal) => refusal.number(),
+    };
+    let made = picture.made;
+    Answer {
+        number,
+        place,
+        made,
+    }
+}
+
+struct Picture<'a> {
+    /// Forward, then backward.
+    references: [&'a [u8]; 2],
+    output: &'a mut [u8],
+    header: Option<Header>,
+    /// Intra, then non-intra, where given.
+    matrices: [Option<Block>; 2],
+    slice: Option<SliceState>,
+    /// "Made is the count of macroblocks written": also the next address.
+    made: usize,
+}
+
+impl Picture<'_> {
+    /// Reads the whole file; `place` is where it got to.
+    fn read(&mut self, file: &[u8], place: &mut usize) -> Result<(), Refusal> {
+        file::version(file)?;
+        *place = 1;
+        while *place < file.len() {
+            *place = self.record(file, *place)?;
+        }
+        // "7 file ends with macroblocks or the header missing."
+        require(self.whole(), Refusal::FileEnds)
+    }
+
+    /// "A record acts wholly, its skipped macroblocks included, or not at all." Gives the offset after it.
+    fn record(&mut self, file: &[u8], offset: usize) -> Result<usize, Refusal> {
+        let record = file::record(file, offset)?;
+        require(self.in_turn(record.kind), Refusal::OutOfTurn)?;
+        match (record.kind, self.header, &self.slice) {
+            (file::HEADER, _, _) => self.act_header(record.body)?,
+            (file::MATRIX, _, _) => self.act_matrix(record.body)?,
+            (file::SLICE, _, _) => self.act_slice(record.body)?,
+            (_, Some(header), Some(slice)) => {
+                let read = macroblock(record.body, &header, self.made, slice)?;
+                self.act_macroblock(&header, slice.last, read)?;
+            }
+            // A macroblock in turn has a header and a slice before it.
+            _ => return Err(Refusal::OutOfTurn),
+        }
+        Ok(record.end)
+    }
+
+    /// "5 out of turn: kind 1 is first and only first; kind 2 before any slice; a slice needs a macroblock since the last
+    /// one; a macroblock needs a slice; nothing follows the last macroblock."
+    fn in_turn(&self, kind: u8) -> bool {
+        if self.header.is_none() {
+            return kind == file::HEADER;
+        }
+        if self.whole() {
+            return false;
+        }
+        match (kind, &self.slice) {
+            (file::MATRIX | file::SLICE, None) => true,
+            (file::SLICE, Some(slice)) => slice.last != Last::None,
+            (file::MACROBLOCK, slice) => slice.is_some(),
+            _ => false,
+        }
+    }
+
+    fn whole(&self) -> bool {
+        self.header
+            .is_some_and(|header| self.made == header.size.macroblocks())
+    }
+
+    /// The header's fields, then "19 output, 20 forward, 21 backward length. Output is 384 × N; a used reference too, an
+    /// unused one is empty."
+    fn act_header(&mut self, body: &[u8]) -> Result<(), Refusal> {
+        let header = file::header(body)?;
+        let bytes = header.size.bytes();
+        let [forward, backward] = header
+            .picture_type
+            .uses()
+            .map(|used| if used { bytes } else { 0 });
+        require(self.output.len() == bytes, Refusal::OutputLength)?;
+        let [lent_forward, lent_backward] = self.references.map(<[u8]>::len);
+        require(lent_forward == forward, Refusal::ForwardLength)?;
+        require(lent_backward == backward, Refusal::BackwardLength)?;
+        self.header = Some(header);
+        Ok(())
+    }
+
+    fn act_matrix(&mut self, body: &[u8]) -> Result<(), Refusal> {
+        let given = self.matrices.map(|matrix| matrix.is_some());
+        let (which, weights) = file::matrix(body, given)?;
+        self.matrices[which] = Some(weights);
+        Ok(())
+    }
+
+    fn act_slice(&mut self, body: &[u8]) -> Result<(), Refusal> {
+        let scale = file::slice(body, self.made)?;
+        self.slice = Some(SliceState::start(scale));
+        Ok(())
+    }
+
+    /// "Last 18: skipped macroblocks in order, then its own, forward before backward." Then all of them are written.
+    fn act_macroblock(
+        &mut self,
+        header: &Header,
+        last: Last,
+        read: Macroblock,
+    ) -> Result<(), Refusal> {
+        let skip = skip_vectors(header.picture_type, last);
+        let own = self.made + read.skipped;
+        let skipped = self.made..own;
+        for address in skipped.clone() {
+            require_fit(header, address, skip)?;
+        }
+        require_fit(header, own, read.vectors)?;
+
+        for address in skipped {
+            self.write(header, address, skip, &[const { None }; 6]);
+        }
+        let residues = read
+            .blocks
+            .map(|block| Some(self.residue(&block?, read.intra, read.after.scale)));
+        self.write(header, own, read.vectors, &residues);
+        self.slice = Some(read.after);
+        self.made = own + 1;
+        Ok(())
+    }
+
+    /// The block's coefficients, transformed.
+    fn residue(&self, block: &CodedBlock, intra: bool, scale: i64) -> Block {
+        // "It holds for this picture only; without it the standard's default does."
+        let [intra_matrix, non_intra_matrix] = self.matrices;
+        let mut coefficients = if intra {
+            let matrix = intra_matrix.unwrap_or(DEFAULT_INTRA_MATRIX);
+            coefficients(&block.levels, &matrix, |level, weight| {
+                intra_ac(level, scale, weight)
+            })
+        } else {
+            let matrix = non_intra_matrix.unwrap_or(DEFAULT_NON_INTRA_MATRIX);
+            coefficients(&block.levels, &matrix, |level, weight| {
+                non_intra(level, scale, weight)
+            })
+        };
+        if let Some(dc) = block.dc {
+            coefficients[0] = dc;
+        }
+        inverse_transform(&coefficients)
+    }
+
+    /// "Prediction (0 for intra) plus residue is limited to 0..255", at every pel of the macroblock's six blocks.
+    fn write(
+        &mut self,
+        header: &Header,
+        address: usize,
+        vectors: Vectors,
+        residues: &[Option<Block>; 6],
+    ) {
+        let (column, row) = header.size.column_row(address);
+        let planes = header.size.planes();
+        for (index, residue) in residues.iter().enumerate() {
+            let plane = planes[component(index)];
+            let (right, down) = block_corner(index);
+            for place in 0..64 {
+                let x = plane.side * column + right + place % 8;
+                let y = plane.side * row + down + place / 8;
+                let predicted = if vectors == [None; 2] {
+                    0
+                } else {
+                    prediction(self.references, plane, x, y, vectors)
+                };
+                let pel = predicted + residue.map_or(0, |residue| residue[place]);
+                self.output[plane.offset(x, y)] = pel.clamp(0, 255) as u8;
+            }
+        }
+    }
+}
+
+/// "Skipped: P copies with vector 0; B repeats the last macroblock's directions and vectors." No other picture skips.
+fn skip_vectors(picture_type: PictureType, last: Last) -> Vectors {
+    match (picture_type, last) {
+        (PictureType::B, Last::Predicted(vectors)) => vectors,
+        _ => [Some([0; 2]), None],
+    }
+}
+
+fn require_fit(header: &Header, address: usize, vectors: Vectors) -> Result<(), Refusal> {
+    for vector in vectors.into_iter().flatten() {
+        require(fits(header.size, address, vector), Refusal::VectorOutside)?;
+    }
+    Ok(())
+}
+
+/// Where a block's first pel stands from its macroblock's in the plane: the four of Y left to right, top to bottom.
+fn block_corner(block: usize) -> (usize, usize) {
+    if component(block) == 0 {
+        (8 * (block % 2), 8 * (block / 2))
+    } else {
+        (0, 0)
+    }
+}

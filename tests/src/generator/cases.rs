@@ -1,0 +1,126 @@
+//! Single pictures: one call of `reconstruct` each.
+
+use super::damage::damaged;
+use super::file::File;
+use super::picture::{picture, random_header, Style};
+use super::{small_size, TYPES};
+use crate::decoder::file::{Header, PictureType};
+use crate::decoder::size::{Size, MACROBLOCK_BYTES};
+use crate::random::Random;
+
+/// One call of `reconstruct`.
+#[derive(Clone)]
+pub struct Case {
+    pub file: Vec<u8>,
+    pub forward: Vec<u8>,
+    pub backward: Vec<u8>,
+    /// The output before the call: random bytes, so that each byte that is written, or left, shows.
+    pub output: Vec<u8>,
+    /// Nothing was damaged: the picture is to be accepted.
+    pub legal: bool,
+}
+
+/// What is wrong with a case.
+#[derive(Clone, Copy, PartialEq, Eq)]
+enum Fault {
+    None,
+    /// Here and there a vector or a DC is just out of its range.
+    Stray,
+    Damage,
+    /// The output or a reference has a wrong length.
+    Lengths,
+}
+
+/// How likely each fault is: half of the cases are legal.
+const FAULTS: [Fault; 12] = {
+    use Fault::{Damage, Lengths, None, Stray};
+    [
+        None, None, None, None, None, None, Stray, Stray, Damage, Damage, Damage, Lengths,
+    ]
+};
+
+/// A case by its seed and number. One in four takes its size from all that fit, in turn.
+pub fn case(seed: u64, number: u64) -> Case {
+    let random = &mut Random::new(&[seed, number]);
+    let size = if number.is_multiple_of(4) {
+        let sizes = Size::all();
+        sizes[number as usize / 4 % sizes.len()]
+    } else {
+        small_size(random)
+    };
+    let picture_type = random.pick(&TYPES);
+    let header = random_header(random, picture_type, size);
+    // Large pictures have short blocks, for the time that they take.
+    let most_pairs = if size.macroblocks() > 60 { 5 } else { 64 };
+    let mut style = Style::random(random, most_pairs);
+    let fault = random.pick(&FAULTS);
+    if fault == Fault::Stray {
+        style.stray_once_in = random.pick(&[2, 8, 40]);
+    }
+    let (file, mut case) = written(random, header, style);
+    if fault == Fault::None {
+        return case;
+    }
+    case.legal = false;
+    // Another fault may have damage besides, so that it matters what is tested first.
+    if fault == Fault::Damage || random.once_in(4) {
+        case.file = damaged(random, &file);
+    }
+    if fault == Fault::Lengths {
+        lend_other_lengths(random, &mut case);
+    }
+    case
+}
+
+/// A picture that is legal but for its style's strays, its references and its output.
+fn written(random: &mut Random, header: Header, style: Style) -> (File, Case) {
+    let file = picture(random, header, style);
+    let bytes = header.size.bytes();
+    let [forward, backward] = header
+        .picture_type
+        .uses()
+        .map(|used| random.bytes(if used { bytes } else { 0 }));
+    let case = Case {
+        file: file.bytes.clone(),
+        forward,
+        backward,
+        output: random.bytes(bytes),
+        legal: true,
+    };
+    (file, case)
+}
+
+/// The output, a reference, or more of them have another length than the header asks for.
+fn lend_other_lengths(random: &mut Random, case: &mut Case) {
+    let lent = [&mut case.output, &mut case.forward, &mut case.backward];
+    let surely = random.below(3);
+    for (index, lent) in lent.into_iter().enumerate() {
+        if index == surely || random.once_in(3) {
+            let length = lent.len();
+            let longer = [length + 1, length + MACROBLOCK_BYTES];
+            let shorter = [0, length.saturating_sub(1)];
+            lent.resize(random.pick(&[longer, shorter].concat()), 77);
+        }
+    }
+}
+
+/// A small legal picture of each type, to be changed field by field.
+pub fn small_cases(seed: u64) -> [(File, Case); 3] {
+    TYPES.map(|picture_type: PictureType| {
+        let random = &mut Random::new(&[seed, u64::from(picture_type.letter())]);
+        let size = Size {
+            width: 3,
+            height: 2,
+        };
+        let header = random_header(random, picture_type, size);
+        let style = Style {
+            most_pairs: 2,
+            most_level: 20,
+            most_skipped: 1,
+            slice_once_in: 3,
+            intra_once_in: 4,
+            stray_once_in: 0,
+        };
+        written(random, header, style)
+    })
+}

@@ -1,0 +1,110 @@
+//! Reels for `panel`: pictures one after another, each behind its length.
+
+use super::damage::damaged;
+use super::file::File;
+use super::picture::{picture, random_header, Style};
+use super::{small_size, TYPES};
+use crate::decoder::file::PictureType;
+use crate::decoder::panel::PANEL_LIMITS;
+use crate::decoder::size::Size;
+use crate::random::Random;
+
+pub struct Reel {
+    pub bytes: Vec<u8>,
+    /// Nothing was damaged: every picture is to be accepted.
+    pub legal: bool,
+}
+
+/// A reel by its seed and number, within the limits of `panel` but for a few that are too long.
+pub fn reel(seed: u64, number: u64) -> Reel {
+    let random = &mut Random::new(&[seed, number, 0]);
+    let legal = random.once_in(3);
+    let size = small_size(random);
+    let mut bytes = Vec::new();
+    for index in 0..1 + random.below(12) {
+        let picture_type = match index {
+            0 => PictureType::I,
+            1 => PictureType::P,
+            _ => random.pick(&TYPES),
+        };
+        let file = if legal {
+            legal_file(random, picture_type, size).bytes
+        } else {
+            any_file(random, picture_type, size)
+        };
+        if bytes.len() + 4 + file.len() > PANEL_LIMITS.reel_bytes {
+            break;
+        }
+        push(&mut bytes, &file);
+    }
+    if !legal {
+        damage(random, &mut bytes);
+    }
+    Reel { bytes, legal }
+}
+
+fn push(reel: &mut Vec<u8>, file: &[u8]) {
+    reel.extend((file.len() as u32).to_be_bytes());
+    reel.extend(file);
+}
+
+fn legal_file(random: &mut Random, picture_type: PictureType, size: Size) -> File {
+    let header = random_header(random, picture_type, size);
+    let most_pairs = random.pick(&[1, 3, 64]);
+    let style = Style::random(random, most_pairs);
+    picture(random, header, style)
+}
+
+/// A picture that may be of another type or size than the reel's, damaged, or empty.
+fn any_file(random: &mut Random, picture_type: PictureType, size: Size) -> Vec<u8> {
+    let another_type = random.pick(&TYPES);
+    let picture_type = random.pick(&[picture_type, picture_type, picture_type, another_type]);
+    let size = any_size(random, size);
+    let file = legal_file(random, picture_type, size);
+    match random.below(10) {
+        0 => Vec::new(),
+        1..=4 => damaged(random, &file),
+        _ => file.bytes,
+    }
+}
+
+/// Mostly the reel's size; else another small one, its transpose, or one above the limit of `panel`.
+fn any_size(random: &mut Random, size: Size) -> Size {
+    let Size { width, height } = size;
+    match random.below(20) {
+        0 => small_size(random),
+        1 => Size {
+            width: height,
+            height: width,
+        },
+        2 => Size {
+            width: 41,
+            height: 1,
+        },
+        _ => size,
+    }
+}
+
+/// The reel is cut, goes on too far, or is as long as `panel` reads, or longer. Three in four stay as they are.
+fn damage(random: &mut Random, reel: &mut Vec<u8>) {
+    let most = PANEL_LIMITS.reel_bytes;
+    match random.below(32) {
+        0 | 1 => reel.truncate(random.below(reel.len() + 1)),
+        2 | 3 => {
+            let count = 1 + random.below(6);
+            reel.extend(random.bytes(count));
+        }
+        4 => pad(reel, most),
+        5 => pad(reel, most + 1),
+        6 => pad(reel, most + 4000),
+        7 => reel.clear(),
+        _ => (),
+    }
+}
+
+/// A last file of zeros makes the reel `length` bytes long, where four more fit.
+fn pad(reel: &mut Vec<u8>, length: usize) {
+    if let Some(left) = length.checked_sub(reel.len() + 4) {
+        push(reel, &vec![0; left]);
+    }
+}

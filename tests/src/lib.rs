@@ -1,0 +1,25 @@
+//! Tests of the definitions against the world: another decoder of Format 3, cases made for both decoders, fixtures of
+//! another codec, and the IEEE P1180 measurement. Nothing here is shared with the crates that are tested.
+
+use std::process::ExitCode;
+
+pub mod compare;
+pub mod decoder;
+pub mod fixtures;
+pub mod generator;
+#[cfg(feature = "library")]
+pub mod library;
+pub mod p1180;
+pub mod random;
+pub mod sha256;
+
+/// How a program ends: a failure is told.
+pub fn exit_code(program: &str, result: Result<(), String>) -> ExitCode {
+    match result {
+        Ok(()) => ExitCode::SUCCESS,
+        Err(failure) => {
+            eprintln!("{program}: {failure}");
+            ExitCode::FAILURE
+        }
+    }
+}

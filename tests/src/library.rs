@@ -1,0 +1,128 @@
+//! The exported library behind safe functions. Nothing checks these declarations against it: the comparison does.
+#![allow(unsafe_code)]
+
+use crate::decoder::entries::{Entries, Shown};
+use crate::decoder::Answer;
+
+/// The library's entries.
+pub const ENTRIES: Entries = Entries {
+    reconstruct,
+    transform,
+    intra_coefficient: |level, scale, weight| {
+        coefficient(format3_intra_coefficient, level, scale, weight)
+    },
+    non_intra_coefficient: |level, scale, weight| {
+        coefficient(format3_non_intra_coefficient, level, scale, weight)
+    },
+    vector,
+    show_record,
+};
+
+type Coefficient = unsafe extern "C" fn(i32, i32, i32, *mut i16) -> u32;
+
+#[link(name = "format3_c", kind = "static")]
+extern "C" {
+    fn format3_reconstruct(
+        file: *const u8,
+        file_len: usize,
+        forward: *const u8,
+        forward_len: usize,
+        backward: *const u8,
+        backward_len: usize,
+        output: *mut u8,
+        output_len: usize,
+        place: *mut usize,
+        made: *mut usize,
+    ) -> u32;
+
+    fn format3_transform(coefficients: *const [i16; 64], residues: *mut [i16; 64]) -> u32;
+
+    fn format3_intra_coefficient(level: i32, scale: i32, weight: i32, coefficient: *mut i16)
+        -> u32;
+
+    fn format3_non_intra_coefficient(
+        level: i32,
+        scale: i32,
+        weight: i32,
+        coefficient: *mut i16,
+    ) -> u32;
+
+    fn format3_vector(f_code: i32, past: i32, code: i32, residual: i32, vector: *mut i32) -> u32;
+
+    fn format3_show_record(
+        file: *const u8,
+        file_len: usize,
+        offset: usize,
+        kind: *mut usize,
+        start: *mut usize,
+        length: *mut usize,
+    ) -> u32;
+}
+
+/// What an answer's field holds before the call, so that one that is not written shows.
+const UNWRITTEN: usize = 0x5a5a_5a5a;
+
+fn reconstruct(file: &[u8], forward: &[u8], backward: &[u8], output: &mut [u8]) -> Answer {
+    let (mut place, mut made) = (UNWRITTEN, UNWRITTEN);
+    // SAFETY: each pointer is of a live slice or number, and goes with its slice's length.
+    let number = unsafe {
+        format3_reconstruct(
+            file.as_ptr(),
+            file.len(),
+            forward.as_ptr(),
+            forward.len(),
+            backward.as_ptr(),
+            backward.len(),
+            output.as_mut_ptr(),
+            output.len(),
+            &mut place,
+            &mut made,
+        )
+    };
+    Answer {
+        number,
+        place,
+        made,
+    }
+}
+
+fn transform(coefficients: &[i16; 64]) -> (u32, [i16; 64]) {
+    let mut residues = [UNWRITTEN as i16; 64];
+    // SAFETY: both pointers are of live arrays of 64 numbers.
+    let number = unsafe { format3_transform(coefficients, &mut residues) };
+    (number, residues)
+}
+
+fn coefficient(entry: Coefficient, level: i32, scale: i32, weight: i32) -> (u32, i16) {
+    let mut coefficient = UNWRITTEN as i16;
+    // SAFETY: the pointer is of a live number.
+    let number = unsafe { entry(level, scale, weight, &mut coefficient) };
+    (number, coefficient)
+}
+
+fn vector(f_code: i32, past: i32, code: i32, residual: i32) -> (u32, i32) {
+    let mut vector = UNWRITTEN as i32;
+    // SAFETY: the pointer is of a live number.
+    let number = unsafe { format3_vector(f_code, past, code, residual, &mut vector) };
+    (number, vector)
+}
+
+fn show_record(file: &[u8], offset: usize) -> (u32, Shown) {
+    let mut shown = Shown {
+        kind: UNWRITTEN,
+        start: UNWRITTEN,
+        length: UNWRITTEN,
+    };
+    // SAFETY: the file's pointer goes with its length, the others are of live numbers.
+    let number = unsafe {
+        format3_show_record(
+            file.as_ptr(),
+            file.len(),
+            offset,
+            &mut shown.kind,
+            &mut shown.start,
+            &mut shown.length,
+        )
+    };
+    (number, shown)
+}

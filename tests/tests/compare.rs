@@ -1,0 +1,101 @@
+//! The comparison itself: it finds nothing between the other decoder and itself, and finds wrong implementations.
+
+use format3_tests::compare::{changed_fields, coefficients, pictures, transforms, vectors};
+use format3_tests::decoder::{Answer, Entries, Reconstruct, ENTRIES};
+
+const SEED: u64 = 2;
+
+/// All comparisons of entries, on few pictures; the first difference.
+fn compare(tested: &Entries) -> Result<(), String> {
+    pictures(tested, SEED, 200)?;
+    transforms(tested, SEED, 200)?;
+    changed_fields(tested, SEED)?;
+    coefficients(tested)?;
+    vectors(tested)?;
+    Ok(())
+}
+
+#[test]
+fn the_decoder_is_itself() {
+    assert_eq!(compare(&ENTRIES), Ok(()));
+}
+
+fn require_found(name: &str, wrong: Entries) {
+    assert!(compare(&wrong).is_err(), "{name} was not found");
+}
+
+/// The wrong panels of document 01's checklist.
+#[test]
+fn wrong_panels_are_found() {
+    let refuses_all: Reconstruct = |_, _, _, _| Answer {
+        number: 3,
+        place: 1,
+        made: 0,
+    };
+    let grey: Reconstruct = |file, forward, backward, output| {
+        let answer = (ENTRIES.reconstruct)(file, forward, backward, output);
+        output.fill(128);
+        answer
+    };
+    let writes_nothing: Reconstruct = |file, forward, backward, output| {
+        (ENTRIES.reconstruct)(file, forward, backward, &mut output.to_vec())
+    };
+    let invents_made: Reconstruct = |file, forward, backward, output| Answer {
+        made: 0,
+        ..(ENTRIES.reconstruct)(file, forward, backward, output)
+    };
+    let seven_at_the_start: Reconstruct = |file, forward, backward, output| {
+        let answer = (ENTRIES.reconstruct)(file, forward, backward, output);
+        let place = if answer.number == 7 { 1 } else { answer.place };
+        Answer { place, ..answer }
+    };
+    let panels = [
+        ("a panel that refuses all", refuses_all),
+        ("one grey picture for all", grey),
+        ("a panel that writes nothing", writes_nothing),
+        ("an invented made", invents_made),
+        ("7 said at the start", seven_at_the_start),
+    ];
+    for (name, reconstruct) in panels {
+        let wrong = Entries {
+            reconstruct,
+            ..ENTRIES
+        };
+        require_found(name, wrong);
+    }
+}
+
+#[test]
+fn wrong_entries_are_found() {
+    let zeros = Entries {
+        transform: |_| (0, [0; 64]),
+        ..ENTRIES
+    };
+    require_found("a transform of zeros", zeros);
+    let limited_first = Entries {
+        intra_coefficient: |level, scale, weight| {
+            let (number, value) = (ENTRIES.intra_coefficient)(level, scale, weight);
+            (number, value.max(-2047))
+        },
+        ..ENTRIES
+    };
+    require_found("limiting before the move to odd", limited_first);
+    let one_rule = Entries {
+        non_intra_coefficient: ENTRIES.intra_coefficient,
+        ..ENTRIES
+    };
+    require_found("the intra rule for non-intra", one_rule);
+    let doubled = Entries {
+        vector: |f_code, past, code, residual| {
+            let (number, vector) = (ENTRIES.vector)(f_code, past, code, residual);
+            (number, 2 * vector)
+        },
+        ..ENTRIES
+    };
+    require_found("a doubled vector", doubled);
+    let first_record = Entries {
+        show_record: |file, _| (ENTRIES.show_record)(file, 1),
+        ..ENTRIES
+    };
+    require_found("the first record for any offset", first_record);
+}

@@ -1,0 +1,39 @@
+//! The other decoder against every fixture.
+
+use format3_tests::decoder::panel::{play, text, PANEL_LIMITS};
+use format3_tests::decoder::reconstruct;
+use format3_tests::fixtures::{panel_fixtures, stream_fixtures};
+
+#[test]
+fn panel_prints_what_the_fixtures_say() {
+    for fixture in panel_fixtures() {
+        let lines = play(&fixture.reel, PANEL_LIMITS, reconstruct);
+        assert_eq!(fixture.check(&text(&lines)), Ok(()));
+    }
+}
+
+#[test]
+fn streams_have_the_pictures_of_the_fixtures() {
+    for fixture in stream_fixtures() {
+        assert_eq!(fixture.check(reconstruct), Ok(()));
+    }
+}
+
+/// The other codec's pictures stand beside two of the streams; those of `mat64` are equal.
+#[test]
+fn pictures_of_the_other_codec_are_there() {
+    let fixtures = stream_fixtures();
+    let others = fixtures.iter().filter(|fixture| fixture.other.is_some());
+    assert_eq!(others.count(), 2);
+    let mat64 = fixtures.iter().find(|fixture| fixture.name == "mat64");
+    let (reel, other) = mat64
+        .and_then(|fixture| Some((&fixture.reel, fixture.other.as_ref()?)))
+        .expect("mat64 has pictures of the other codec");
+    let lines = play(reel, format3_tests::decoder::panel::NO_LIMITS, reconstruct);
+    let pictures: Vec<u8> = lines
+        .into_iter()
+        .filter_map(|line| line.picture)
+        .flatten()
+        .collect();
+    assert!(pictures == *other);
+}

@@ -1,0 +1,264 @@
+//! The other decoder against readings of document 01 that its words leave to be settled.
+
+mod common;
+
+use common::{file_of, I, SLICE};
+use format3_tests::decoder::entries::Shown;
+use format3_tests::decoder::panel::{play, text, PANEL_LIMITS};
+use format3_tests::decoder::refusals::Answer;
+use format3_tests::decoder::{reconstruct, ENTRIES};
+
+/// The header of a P-picture of one macroblock.
+const P: &[u8] = &[1, 1, 1, 2, 0, 1, 0, 0];
+
+/// An intra macroblock without AC: each block is a DC difference of 0 and no pair.
+const GREY: &[u8] = &[
+    4, 16, 0, 1, 0, 0, 0, 0, 0, 0, 0, 0, 0, 0, 0, 0, 0, 0, 0, 0, 0, 0,
+];
+
+/// The answer with references of the length that the first header's type uses, `macroblocks` of them.
+fn answer_with(file: &[u8], macroblocks: usize) -> (u32, usize, usize) {
+    let bytes = vec![100; 384 * macroblocks];
+    let picture_type = file.get(6).copied().unwrap_or(0);
+    let forward = if picture_type >= 2 { &bytes[..] } else { &[] };
+    let backward = if picture_type >= 3 { &bytes[..] } else { &[] };
+    let Answer {
+        number,
+        place,
+        made,
+    } = reconstruct(file, forward, backward, &mut bytes.clone());
+    (number, place, made)
+}
+
+fn answer(file: &[u8]) -> (u32, usize, usize) {
+    answer_with(file, 1)
+}
+
+/// The number for a picture whose last record is a macroblock of this body.
+fn macroblock_number(header: &[u8], body: &[u8]) -> u32 {
+    let (number, ..) = answer(&file_of(&[header, SLICE, &[&[4], body].concat()]));
+    number
+}
+
+#[test]
+fn the_end_of_the_file() {
+    assert_eq!(answer(&[]), (1, 0, 0));
+    assert_eq!(answer(&[4]), (2, 0, 0));
+    assert_eq!(answer(&[3]), (7, 1, 0));
+    assert_eq!(answer(&[3, 0]), (3, 1, 0));
+    assert_eq!(answer(&[3, 0, 8]), (3, 1, 0));
+    assert_eq!(answer(&file_of(&[I])), (7, 11, 0));
+    assert_eq!(answer(&file_of(&[I, SLICE])), (7, 17, 0));
+    assert_eq!(answer(&file_of(&[I, SLICE, GREY])), (0, 41, 1));
+}
+
+#[test]
+fn after_the_last_macroblock() {
+    let whole = file_of(&[I, SLICE, GREY]);
+    let then = |more: &[u8]| answer(&[&whole[..], more].concat());
+    assert_eq!(then(&[0]), (3, 41, 1));
+    assert_eq!(then(&[0, 0, 9]), (3, 41, 1));
+    assert_eq!(then(&[0, 1, 9]), (4, 41, 1));
+    for kind in 1..=4 {
+        assert_eq!(then(&[0, 1, kind]), (5, 41, 1));
+    }
+}
+
+#[test]
+fn records_out_of_turn() {
+    let matrix = [&[2, 1][..], &[16; 64]].concat();
+    assert_eq!(answer(&file_of(&[SLICE])), (5, 1, 0));
+    assert_eq!(answer(&file_of(&[I, &[1, 1]])), (5, 11, 0));
+    assert_eq!(answer(&file_of(&[I, GREY])), (5, 11, 0));
+    assert_eq!(answer(&file_of(&[I, SLICE, SLICE])), (5, 17, 0));
+    assert_eq!(answer(&file_of(&[I, SLICE, &matrix])), (5, 17, 0));
+    assert_eq!(answer(&file_of(&[I, &matrix, SLICE, GREY])), (0, 109, 1));
+    assert_eq!(answer(&file_of(&[I, &matrix, &matrix])), (9, 79, 0));
+}
+
+#[test]
+fn lengths_before_fields_and_fields_in_order() {
+    assert_eq!(answer(&file_of(&[&[1, 0]])), (6, 1, 0));
+    assert_eq!(answer(&file_of(&[I, &[3, 0, 0]])), (6, 11, 0));
+    assert_eq!(answer(&file_of(&[I, &[3, 0, 0, 9]])), (10, 11, 0));
+    assert_eq!(answer(&file_of(&[I, &[3, 1, 0, 9]])), (11, 11, 0));
+    assert_eq!(answer(&file_of(&[I, &[2]])), (6, 11, 0));
+}
+
+#[test]
+fn what_is_lent() {
+    let number = |file: &[u8], forward: usize, backward: usize, output: usize| {
+        let [forward, backward, mut output] = [forward, backward, output].map(|n| vec![0; n]);
+        reconstruct(file, &forward, &backward, &mut output).number
+    };
+    let intra = file_of(&[I, SLICE, GREY]);
+    assert_eq!(number(&intra, 384, 384, 383), 19);
+    assert_eq!(number(&intra, 384, 384, 384), 20);
+    assert_eq!(number(&intra, 0, 384, 384), 21);
+    let predicted = file_of(&[P, SLICE, GREY]);
+    assert_eq!(number(&predicted, 0, 384, 384), 20);
+    assert_eq!(number(&predicted, 384, 384, 384), 21);
+    assert_eq!(number(&predicted, 384, 0, 384), 0);
+}
+
+#[test]
+fn macroblock_fields_as_they_stand() {
+    assert_eq!(macroblock_number(P, &[]), 6);
+    assert_eq!(macroblock_number(P, &[32 + 2]), 12);
+    assert_eq!(macroblock_number(P, &[4, 0, 0]), 12);
+    assert_eq!(macroblock_number(P, &[2, 0]), 6);
+    assert_eq!(macroblock_number(P, &[11, 0, 2, 0]), 13);
+    assert_eq!(macroblock_number(P, &[11, 0, 1, 0]), 10);
+    assert_eq!(macroblock_number(P, &[11, 0, 1, 1, 17]), 14);
+    assert_eq!(macroblock_number(P, &[11, 0, 1, 1, 16]), 6);
+    assert_eq!(macroblock_number(P, &[11, 0, 1, 1, 0, 1]), 14);
+    assert_eq!(macroblock_number(P, &[10, 0, 1, 0, 0, 0, 0, 64]), 15);
+    assert_eq!(macroblock_number(P, &[10, 0, 1, 0, 0, 0, 0, 1, 0]), 16);
+    assert_eq!(macroblock_number(P, &[10, 0, 1, 0, 0, 0, 0, 1, 65]), 16);
+    assert_eq!(macroblock_number(P, &[8, 0, 1, 1, 1, 64]), 16);
+    assert_eq!(macroblock_number(P, &[8, 0, 1, 1, 1, 63]), 6);
+    assert_eq!(macroblock_number(P, &[8, 0, 1, 1, 1, 63, 0, 0]), 16);
+    assert_eq!(macroblock_number(P, &[8, 0, 1, 1, 1, 63, 0, 1]), 0);
+    assert_eq!(macroblock_number(I, &[16, 0, 1, 1, 0]), 17);
+    assert_eq!(macroblock_number(I, &[16, 0, 1, 0, 0, 64]), 16);
+    assert_eq!(macroblock_number(I, &[16, 0, 1, 0, 0, 1, 63]), 16);
+}
+
+/// Vector 1 leaves a picture of one macroblock; a byte too many is refused before that.
+#[test]
+fn bytes_left_over_before_vectors() {
+    assert_eq!(macroblock_number(P, &[2, 0, 1, 1, 0, 0, 0]), 18);
+    assert_eq!(macroblock_number(P, &[2, 0, 1, 1, 0, 0, 0, 0]), 6);
+}
+
+/// Three macroblocks side by side: the second record would skip one.
+#[test]
+fn skips() {
+    let p = &[1, 3, 1, 2, 0, 1, 0, 0];
+    let b = &[1, 3, 1, 3, 0, 1, 0, 1];
+    let next = &[4, 2, 0, 1, 0, 0, 0, 0];
+    let skipping = &[4, 2, 0, 2, 0, 0, 0, 0];
+    let number = |records: &[&[u8]]| answer_with(&file_of(records), 3);
+    assert_eq!(number(&[p, SLICE, GREY, skipping]), (0, 51, 3));
+    assert_eq!(number(&[b, SLICE, GREY, skipping]), (13, 41, 1));
+    assert_eq!(number(&[p, SLICE, skipping]), (13, 17, 0));
+    assert_eq!(number(&[p, SLICE, next, &[4, 2, 0, 3]]), (13, 27, 1));
+}
+
+/// A B skip repeats the last vector and is tested at its own place: two macroblocks to the right, it fits the first alone.
+#[test]
+fn a_skip_that_does_not_fit() {
+    let header = &[1, 3, 1, 3, 0, 4, 0, 1];
+    let right = &[4, 2, 0, 1, 8, 7, 0, 0];
+    let back_skipping = &[4, 2, 0, 2, -8_i8 as u8, 7, 0, 0];
+    let file = file_of(&[header, SLICE, right, back_skipping]);
+    assert_eq!(answer_with(&file, 3), (18, 27, 1));
+    let p_header = &[1, 3, 1, 2, 0, 4, 0, 0];
+    let p_skips_by_zero = &[4, 2, 0, 2, 0, 0, 0, 0];
+    let file = file_of(&[p_header, SLICE, right, p_skips_by_zero]);
+    assert_eq!(answer_with(&file, 3), (0, 37, 3));
+}
+
+#[test]
+fn a_difference_of_16f() {
+    assert_eq!((ENTRIES.vector)(2, 0, 16, 1), (0, -32));
+    assert_eq!((ENTRIES.vector)(2, -1, 16, 1), (0, 31));
+    assert_eq!((ENTRIES.vector)(2, 0, -16, 1), (0, -32));
+}
+
+#[test]
+fn numbers_out_of_range() {
+    assert_eq!((ENTRIES.vector)(0, 0, 0, 0), (22, 0));
+    assert_eq!((ENTRIES.vector)(1, 16, 0, 0), (22, 0));
+    assert_eq!((ENTRIES.vector)(1, -16, 0, 0), (0, -16));
+    assert_eq!((ENTRIES.intra_coefficient)(0, 31, 255), (0, 0));
+    assert_eq!((ENTRIES.intra_coefficient)(256, 31, 255), (22, 0));
+    assert_eq!((ENTRIES.non_intra_coefficient)(1, 32, 16), (22, 0));
+    assert_eq!((ENTRIES.non_intra_coefficient)(1, 1, 0), (22, 0));
+    let mut block = [0; 64];
+    block[63] = 2048;
+    assert_eq!((ENTRIES.transform)(&block), (22, [0; 64]));
+}
+
+#[test]
+fn records_shown() {
+    let shown = |kind, start, length| Shown {
+        kind,
+        start,
+        length,
+    };
+    let file = [9, 0, 1, 4, 0, 3, 2, 7, 7, 0, 1, 5];
+    assert_eq!((ENTRIES.show_record)(&file, 1), (0, shown(4, 4, 0)));
+    assert_eq!((ENTRIES.show_record)(&file, 4), (0, shown(2, 7, 2)));
+    let refused = |offset| {
+        let (number, shown) = (ENTRIES.show_record)(&file, offset);
+        (number, shown.kind, shown.length)
+    };
+    assert_eq!(refused(9), (4, 0, 0));
+    for offset in [10, 12, 13, usize::MAX] {
+        assert_eq!(refused(offset), (3, 0, 0));
+    }
+}
+
+fn printed(reel: &[u8]) -> String {
+    text(&play(reel, PANEL_LIMITS, reconstruct))
+}
+
+/// A reel of files.
+fn reel_of(files: &[&[u8]]) -> Vec<u8> {
+    let mut reel = Vec::new();
+    for file in files {
+        reel.extend((file.len() as u32).to_be_bytes());
+        reel.extend(*file);
+    }
+    reel
+}
+
+#[test]
+fn reels_cut_long_and_empty() {
+    let intra = file_of(&[I, SLICE, GREY]);
+    let line = "1 I 0 41 1 32768 8192 8192\n";
+    assert_eq!(printed(&[]), "");
+    let whole = reel_of(&[&intra]);
+    assert_eq!(
+        printed(&[&whole[..], &[0, 0]].concat()),
+        format!("{line}cut 45\n")
+    );
+    let short_file = [&whole[..], &[0, 0, 0, 2, 3]].concat();
+    assert_eq!(printed(&short_file), format!("{line}cut 45\n"));
+    assert_eq!(
+        printed(&reel_of(&[&[], &[3]])),
+        "1 ? 1 0 0 - - -\n2 ? 7 1 0 - - -\n"
+    );
+    let exactly = reel_of(&[&[0; 16_380]]);
+    assert_eq!(printed(&exactly), "1 ? 2 0 0 - - -\n");
+    let above = reel_of(&[&[0; 16_381]]);
+    assert_eq!(printed(&above), "long\n");
+}
+
+#[test]
+fn letters_and_references() {
+    let intra = file_of(&[I, SLICE, GREY]);
+    let copy = file_of(&[P, SLICE, &[4, 2, 0, 1, 0, 0, 0, 0]]);
+    let both = file_of(&[
+        &[1, 1, 1, 3, 0, 1, 0, 1],
+        SLICE,
+        &[4, 6, 0, 1, 0, 0, 0, 0, 0, 0, 0, 0],
+    ]);
+    let twice = file_of(&[I, I]);
+    let large = file_of(&[&[1, 41, 1, 1, 0, 0, 0, 0]]);
+    let illegal = file_of(&[&[1, 0, 1, 1, 0, 0, 0, 0]]);
+    let reel = reel_of(&[
+        &copy, &both, &intra, &both, &copy, &both, &twice, &large, &illegal,
+    ]);
+    let lines = "1 P 20 1 0 - - -\n\
+        2 B 20 1 0 - - -\n\
+        3 I 0 41 1 32768 8192 8192\n\
+        4 B 20 1 0 - - -\n\
+        5 P 0 27 1 32768 8192 8192\n\
+        6 B 0 31 1 32768 8192 8192\n\
+        7 I 5 11 0 - - -\n\
+        8 I 19 1 0 - - -\n\
+        9 ? 8 1 0 - - -\n";
+    assert_eq!(printed(&reel), lines);
+}
