@@ -12,7 +12,7 @@ pub const SLICE: u8 = 3;
 
 pub const MACROBLOCK: u8 = 4;
 
-pub const LAST_KIND: u8 = 4;
+pub const LAST_KIND: u8 = MACROBLOCK;
 
 pub enum Record {
     // A whole record: its kind, where its body starts, and how long that is.

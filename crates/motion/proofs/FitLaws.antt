@@ -15,7 +15,7 @@ use Rattle.motion.proofs.VectorLaws.{both-true}
 
 -- ---- the place is the floor of half, from x on, and the odd bit
 -- a number of at least 0 is its own size
-size-up : (z : ℤ) → pos 0 ≤ℤ z → pos (natAbs z) ≡ z
+pub size-up : (z : ℤ) → pos 0 ≤ℤ z → pos (natAbs z) ≡ z
 size-up (pos n) h = refl
 size-up (negsuc n) h = absurd (omega (arith, of-le h))
 
@@ -62,10 +62,25 @@ fits-test side x width vector fit =
     let upper : pointed x vector ≤ℤ (pos 2 *ℤ (pos width -ℤ pos side)) = le-of _ _ (omega (arith, ap up size, ap dn size, fit .upper, last-parts width side)) in
     rw (not-above _ _ (fit .lower), not-above _ _ upper)
 
--- every column that a block inside the macroblock reads is in the plane: 8 from its place on, and one more where that is odd
-pub pels-inside : {side x width : ℕ} {vector : ℤ} (offset i right : ℕ) → Fits side x width vector → offset + 8 ≤ side → i < 8
-    → right ≤ (halfPelPlace x vector + 2 * offset) % 2 → (halfPelPlace x vector + 2 * offset) / 2 + i + right < width
-pels-inside offset i right fit inside h k = omega (arith, fit .upper)
+-- a block of 8 pels inside the macroblock fits at its own place
+pub block-fit : (side x width offset : ℕ) (vector : ℤ) → Fits side x width vector → offset + 8 ≤ side → Fits 8 (x + offset) width vector
+block-fit side x width offset vector fit inside = record { lower = lower; upper = omega (arith, ap up here, ap dn here, ap up first, ap dn first, parts, fit .upper) }
+  where
+    parts : up (pointed (x + offset) vector) + dn (pointed x vector) ≡ up (pointed x vector) + 2 * offset + dn (pointed (x + offset) vector)
+    parts = omega (arith, parts-add (pos (2 * x)) vector, parts-add (pos (2 * (x + offset))) vector)
+
+    first : pos (halfPelPlace x vector) ≡ pointed x vector
+    first = size-up (pointed x vector) (fit .lower)
+
+    lower : pos 0 ≤ℤ pointed (x + offset) vector
+    lower = le-of _ _ (omega (arith, of-le (fit .lower), parts))
+
+    here : pos (halfPelPlace (x + offset) vector) ≡ pointed (x + offset) vector
+    here = size-up (pointed (x + offset) vector) lower
+
+-- every column that the prediction of a block reads is in the plane: 8 from its place on, and one more where that is odd
+pub pels-inside : {x width : ℕ} {vector : ℤ} (i right : ℕ) → Fits 8 x width vector → i < 8 → right ≤ halfPelPlace x vector % 2 → halfPelPlace x vector / 2 + i + right < width
+pels-inside i right fit h k = omega (arith, fit .upper)
 
 -- ---- "chroma then fits too": at half the place in a plane of half the width, with the halved vector
 chroma-fit : (x width : ℕ) (vector : ℤ) → Fits 16 (2 * x) (2 * width) vector → Fits 8 x width (chromaVector vector)

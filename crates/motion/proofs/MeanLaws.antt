@@ -1,9 +1,10 @@
 -- Laws of means, for one, two and four pels and for both directions. Assumes nothing.
 use mathlib.Core.Path.{_≡_, refl, ap, _∙_, sym}
-use Prim.Native.Nat.{ℕ, zero, suc, _+_, _*_, _/_, _≤_, _<_}
-use native.Mathlib.Nat.{div-add-mod', mod-lt, div-div-eq-div-mul}
+use mathlib.Core.List.{List}
+use Prim.Native.Nat.{ℕ, zero, suc, _+_, _*_, _/_, _%_, _≤_, _<_}
+use native.Mathlib.Nat.{div-add-mod', mod-lt, div-div-eq-div-mul, add-zero}
 use native.Mathlib.Omega.{arith}
-use Rattle.motion.specs.Prediction.{meanOf, interpolated}
+use Rattle.motion.specs.Prediction.{meanOf, pelAt, interpolated, predictedPel}
 
 -- halves up: n times the mean is at most the sum and half of n, and n more is above them
 pub record Rounded (n sum mean : ℕ) : Type 0 where
@@ -21,7 +22,7 @@ pub mean-twice : (n sum : ℕ) → meanOf (2 * n) (2 * sum) ≡ meanOf n sum
 mean-twice n sum = sym (div-div-eq-div-mul (2 * sum + 2 * n / 2) 2 n) ∙ ap (λ (s : ℕ). s / n) (omega arith)
 
 -- the mean of four, in which an even place makes two of them the same pel, is the mean of two; and of two, the pel
-pub mean-interpolated : (across down : ℕ) (pel : ℕ → ℕ → ℕ) → across < 2 → down < 2
+mean-interpolated : (across down : ℕ) (pel : ℕ → ℕ → ℕ) → across < 2 → down < 2
     → meanOf 4 (pel 0 0 + pel across 0 + pel 0 down + pel across down) ≡ interpolated across down (pel 0 0) (pel 1 0) (pel 0 1) (pel 1 1)
 mean-interpolated zero zero pel a d = ap (meanOf 4) (omega arith) ∙ mean-twice 2 (2 * pel 0 0) ∙ mean-twice 1 (pel 0 0) ∙ omega arith
 mean-interpolated (suc zero) zero pel a d = ap (meanOf 4) (omega arith) ∙ mean-twice 2 (pel 0 0 + pel 1 0)
@@ -32,7 +33,21 @@ mean-interpolated zero (suc (suc down)) pel a d = absurd (omega arith)
 mean-interpolated (suc zero) (suc (suc down)) pel a d = absurd (omega arith)
 
 -- at a place of whole pels it is the pel
-pub whole-interpolated : (across down pel right below diagonal : ℕ) → across + down ≡ 0 → pel ≡ interpolated across down pel right below diagonal
+whole-interpolated : (across down pel right below diagonal : ℕ) → across + down ≡ 0 → pel ≡ interpolated across down pel right below diagonal
 whole-interpolated zero zero pel right below diagonal e = refl
 whole-interpolated (suc across) down pel right below diagonal e = absurd (omega arith)
 whole-interpolated zero (suc down) pel right below diagonal e = absurd (omega arith)
+
+-- ---- a predicted pel in the two cases in which it is worked out
+module _ (plane : List ℕ) (stride px py k : ℕ) where
+  -- the pel of the block's place, so many columns to the right and lines below
+  abbrev near : ℕ → ℕ → ℕ
+  near right below = pelAt plane stride (px / 2 + k % 8 + right) (py / 2 + k / 8 + below)
+
+  pub predicted-whole : px % 2 + py % 2 ≡ 0 → pelAt plane stride (px / 2 + k % 8) (py / 2 + k / 8) ≡ predictedPel plane stride px py k
+  unfolding predictedPel
+  predicted-whole e = whole-interpolated (px % 2) (py % 2) _ _ _ _ e
+
+  pub predicted-mean : meanOf 4 (near 0 0 + near (px % 2) 0 + near 0 (py % 2) + near (px % 2) (py % 2)) ≡ predictedPel plane stride px py k
+  unfolding predictedPel
+  predicted-mean = mean-interpolated (px % 2) (py % 2) near (omega arith) (omega arith) ∙ simp add-zero

@@ -5,6 +5,7 @@ ghost use lib.ListN.{length};
 ghost use Rattle.integers.specs.Bound.{Within, AllWithin};
 ghost use Rattle.motion.specs.Pel.{reconstructedPel, reconstructed, withBlock};
 
+// Prediction plus residue, limited to 0..255.
 fn reconstruct_pel(predicted: u8, residue: i16) -> u8
     requires { ⌜ Within 256 residue ⌝ }
     ensures { λ r. ⌜ r ≡ reconstructedPel predicted residue ⌝ }
@@ -31,7 +32,7 @@ pub fn reconstruct_block(predicted: [u8; 64], residue: [i16; 64]) -> [u8; 64]
     block
 }
 
-// The block at column x of line y. Lines and columns in two loops: the inner one becomes a store of eight bytes.
+// Puts the block at column x of line y. Lines and columns in two loops: the inner one becomes a store of eight bytes.
 pub fn put_block(plane: &mut [u8], stride: usize, x: usize, y: usize, block: [u8; 64])
     requires { ⌜ (x + 8 ≤ stride) × ((y + 8) * stride ≤ length (now plane)) ⌝ }
     ensures { λ _. ⌜ now (plane .exit) ≡ withBlock stride x y block (now (plane .entry)) ⌝ }

@@ -1,4 +1,4 @@
-// Where a vector points, and whether the macroblock there is inside the picture.
+// Whether a vector fits, and where it points.
 ghost use mathlib.Core.Path.{_≡_};
 ghost use Prim.Native.Nat.{_≤_};
 ghost use lib.IntN.{pos};
@@ -6,7 +6,7 @@ ghost use lib.Signed.{_≤ℤ_};
 ghost use Rattle.integers.specs.Bound.{Within};
 ghost use Rattle.motion.specs.Fit.{pointed, halfPelPlace, vectorFits, macroblockFits};
 
-// At leftmost pel x of a plane this wide; and at topmost pel x of a plane this high.
+// Whether a vector fits across, at leftmost pel x of a plane this wide; or down, at topmost pel x of a plane this high.
 fn vector_fits(x: usize, width: usize, vector: i32) -> bool
     requires { ⌜ (x ≤ 65536) × (width ≤ 65536) × Within 65536 vector ⌝ }
     ensures { λ r. ⌜ r ≡ vectorFits 16 x width vector ⌝ }

@@ -11,6 +11,7 @@ fn mean_of_four(a: u8, b: u8, c: u8, d: u8) -> u8
     ((a as u32 + b as u32 + c as u32 + d as u32 + 2) / 4) as u8
 }
 
+// The mean of two pels, halves up.
 fn mean_of_two(a: u8, b: u8) -> u8
     ensures { λ r. ⌜ r ≡ meanOf 2 (a + b) ⌝ }
 {

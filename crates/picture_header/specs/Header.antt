@@ -34,7 +34,7 @@ usesBackward type = leb typeB type
 -- "full-pel flag (0 or 1)", "An f_code is 1..7 where the type uses that direction; where it doesn't, flag and f_code are 0"
 abbrev pub legalCoding : Bool → ℕ → ℕ → Bool
 legalCoding true flag code = leb flag 1 && leb 1 code && leb code 7
-legalCoding false flag code = leb flag 0 && leb code 0
+legalCoding false flag code = eqb flag 0 && eqb code 0
 
 unfoldable pub legalCodings : HeaderFields → Bool
 legalCodings f =

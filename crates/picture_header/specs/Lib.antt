@@ -1,3 +1,4 @@
 pub mod Size
 pub mod Header
 pub mod Lengths
+pub mod Opening

@@ -72,10 +72,10 @@ fn legal_coding(used: bool, flag: u8, code: u8) -> bool
         }
         return code <= LAST_F_CODE;
     }
-    if 0 < flag {
+    if flag != 0 {
         return false;
     }
-    code <= 0
+    code == 0
 }
 
 // Whether the type is legal, and the vectors of both directions are coded as the type has them.

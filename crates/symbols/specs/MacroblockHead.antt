@@ -5,6 +5,7 @@ use Prim.Native.Nat.{ℕ, _+_, _%_}
 use lib.Dec.{leb, eqb}
 use Rattle.refusals.specs.declared.Refusal.the-variants.{BodyLength, MacroblockType, AddressIncrement, QuantizerScale}
 use Rattle.symbols.specs.declared.macroblock_head.HeadContext.{HeadContext}
+use Rattle.symbols.specs.declared.macroblock_head.MacroblockHead.{MacroblockHead}
 use Rattle.symbols.specs.declared.macroblock_head.HeadAnswer.{HeadAnswer}
 use Rattle.symbols.specs.declared.macroblock_head.HeadAnswer.the-variants.{Legal, Refused}
 use Rattle.format3.specs.Chain.{only, _$_}
@@ -43,14 +44,22 @@ unfoldable pub legalIncrement : HeadContext → ℕ → Bool
 legalIncrement c increment =
     leb 1 increment && leb (c .next + increment) (c .macroblocks) && cond (mustFollow c) (leb increment 1) true
 
--- "type byte, 2-byte address increment, then as the type says: scale"
+-- "type byte, 2-byte address increment, then as the type says: scale", each tested when read; the cursor counts from the body's start
+unfoldable pub scaleOf : MacroblockHead → List ℕ → HeadAnswer
+scaleOf head l =
+    only (givesScale (head .flags)) (Legal head (record { at = 3 })) $
+    byteThen (byteOf l) l (Refused BodyLength) λ scale rest.
+    only (legalScale scale) (Refused QuantizerScale) $
+    Legal (record { flags = head .flags; increment = head .increment; scale = scale }) (record { at = 4 })
+
+unfoldable pub incrementOf : HeadContext → ℕ → List ℕ → HeadAnswer
+incrementOf c flags l =
+    wordThen (wordOf l) l (Refused BodyLength) λ increment rest.
+    only (legalIncrement c increment) (Refused AddressIncrement) $
+    scaleOf (record { flags = flags; increment = increment; scale = c .scale }) rest
+
 unfoldable pub headOf : HeadContext → List ℕ → HeadAnswer
 headOf c body =
     byteThen (byteOf body) body (Refused BodyLength) λ flags rest.
     only (legalType (c .coding) flags) (Refused MacroblockType) $
-    wordThen (wordOf rest) rest (Refused BodyLength) λ increment left.
-    only (legalIncrement c increment) (Refused AddressIncrement) $
-    only (givesScale flags) (Legal (record { flags = flags; increment = increment; scale = c .scale }) (record { at = 3 })) $
-    byteThen (byteOf left) left (Refused BodyLength) λ scale end.
-    only (legalScale scale) (Refused QuantizerScale) $
-    Legal (record { flags = flags; increment = increment; scale = scale }) (record { at = 4 })
+    incrementOf c flags rest

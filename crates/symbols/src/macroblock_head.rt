@@ -1,6 +1,6 @@
 // The first fields of a macroblock: its type, its address increment, and its quantizer scale.
 ghost use mathlib.Core.Path.{_≡_};
-ghost use Rattle.symbols.specs.MacroblockHead.{legalType, givesScale, mustFollow, legalIncrement, headOf};
+ghost use Rattle.symbols.specs.MacroblockHead.{legalType, givesScale, mustFollow, legalIncrement, scaleOf, incrementOf, headOf};
 use format3::field::ByteField;
 use format3::field::Cursor;
 use format3::field::WordField;
@@ -94,6 +94,7 @@ fn must_follow(context: HeadContext) -> bool
     false
 }
 
+// Whether the address increment is legal; the macroblock's own address is next + increment - 1.
 fn legal_increment(context: HeadContext, increment: u16) -> bool
     ensures { λ r. ⌜ r ≡ legalIncrement context increment ⌝ }
 {
@@ -114,40 +115,21 @@ fn legal_increment(context: HeadContext, increment: u16) -> bool
     true
 }
 
-// The type (12), the address increment (13), and the scale (10) where the type says that one is given.
-pub fn read_head(body: &[u8], context: HeadContext) -> HeadAnswer
-    ensures { λ r. ⌜ r ≡ headOf context (now (body .entry)) ⌝ }
+// The quantizer scale where the type says that one is given (10); else the head keeps the scale in force.
+fn read_scale(rest: &[u8], head: MacroblockHead) -> HeadAnswer
+    ensures { λ r. ⌜ r ≡ scaleOf head (now (rest .entry)) ⌝ }
 {
-    let ByteField::Value(flags, first) = format3::field::read_u8(body) else {
-        return HeadAnswer::Refused(Refusal::BodyLength);
-    };
-    if !legal_type(context.coding, flags) {
-        return HeadAnswer::Refused(Refusal::MacroblockType);
-    }
-    let rest = format3::field::after(body, first.at);
-    let WordField::Value(increment, second) = format3::field::read_u16(rest) else {
-        return HeadAnswer::Refused(Refusal::BodyLength);
-    };
-    if !legal_increment(context, increment) {
-        return HeadAnswer::Refused(Refusal::AddressIncrement);
-    }
+    let flags = head.flags;
     if !gives_scale(flags) {
-        return HeadAnswer::Legal(
-            MacroblockHead {
-                flags,
-                increment,
-                scale: context.scale,
-            },
-            Cursor { at: 3 },
-        );
+        return HeadAnswer::Legal(head, Cursor { at: 3 });
     }
-    let left = format3::field::after(rest, second.at);
-    let ByteField::Value(scale, _) = format3::field::read_u8(left) else {
+    let ByteField::Value(scale, _) = format3::field::read_u8(rest) else {
         return HeadAnswer::Refused(Refusal::BodyLength);
     };
     if !crate::slice::legal_scale(scale) {
         return HeadAnswer::Refused(Refusal::QuantizerScale);
     }
+    let increment = head.increment;
     HeadAnswer::Legal(
         MacroblockHead {
             flags,
@@ -156,4 +138,39 @@ pub fn read_head(body: &[u8], context: HeadContext) -> HeadAnswer
         },
         Cursor { at: 4 },
     )
+}
+
+// The address increment (13), and what follows it.
+fn read_increment(rest: &[u8], flags: u8, context: HeadContext) -> HeadAnswer
+    ensures { λ r. ⌜ r ≡ incrementOf context flags (now (rest .entry)) ⌝ }
+{
+    let WordField::Value(increment, cursor) = format3::field::read_u16(rest) else {
+        return HeadAnswer::Refused(Refusal::BodyLength);
+    };
+    if !legal_increment(context, increment) {
+        return HeadAnswer::Refused(Refusal::AddressIncrement);
+    }
+    let left = format3::field::after(rest, cursor.at);
+    let scale = context.scale;
+    read_scale(
+        left,
+        MacroblockHead {
+            flags,
+            increment,
+            scale,
+        },
+    )
+}
+
+// The type (12), the address increment (13) and the scale (10), with the place after them in the body.
+pub fn read_head(body: &[u8], context: HeadContext) -> HeadAnswer
+    ensures { λ r. ⌜ r ≡ headOf context (now (body .entry)) ⌝ }
+{
+    let ByteField::Value(flags, cursor) = format3::field::read_u8(body) else {
+        return HeadAnswer::Refused(Refusal::BodyLength);
+    };
+    if !legal_type(context.coding, flags) {
+        return HeadAnswer::Refused(Refusal::MacroblockType);
+    }
+    read_increment(format3::field::after(body, cursor.at), flags, context)
 }

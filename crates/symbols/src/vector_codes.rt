@@ -1,7 +1,6 @@
 // The codes of a motion vector: a code and a residual across, then a code and a residual down.
 ghost use mathlib.Core.Path.{_≡_};
-ghost use Prim.Native.Nat.{_≤_};
-ghost use Rattle.symbols.specs.VectorCodes.{rangeOf, legalCode, legalResidual, codeOf, codesOf};
+ghost use Rattle.symbols.specs.VectorCodes.{codeOf, codesOf};
 use format3::field::ByteField;
 use format3::field::Cursor;
 use format3::field::SignedField;
@@ -27,63 +26,29 @@ pub enum CodesAnswer {
     Refused(Refusal),
 }
 
-// The count f of residuals that an f_code gives.
-pub fn range(code: u8) -> u8
-    requires { ⌜ code ≤ 7 ⌝ }
-    ensures { λ r. ⌜ r ≡ rangeOf code ⌝ }
-{
-    if code <= 1 {
-        return 1;
-    }
-    1u8 << (code - 1)
-}
-
-fn legal_code(code: i16) -> bool
-    ensures { λ r. ⌜ r ≡ legalCode code ⌝ }
-{
-    if code < -16 {
-        return false;
-    }
-    if 16 < code {
-        return false;
-    }
-    true
-}
-
-fn legal_residual(f: u8, code: i16, residual: u8) -> bool
-    ensures { λ r. ⌜ r ≡ legalResidual f code residual ⌝ }
-{
-    if f <= residual {
-        return false;
-    }
-    if code == 0 {
-        return residual == 0;
-    }
-    true
-}
-
 // One code with its residual; a code is tested before its residual is looked for.
-fn read_code(rest: &[u8], f: u8) -> CodeAnswer
+fn read_code(rest: &[u8], f: u32) -> CodeAnswer
     ensures { λ r. ⌜ r ≡ codeOf f (now (rest .entry)) ⌝ }
 {
     let SignedField::Value(code, cursor) = format3::field::read_i8(rest) else {
         return CodeAnswer::Refused(Refusal::BodyLength);
     };
-    if !legal_code(code) {
+    let wide_code = code as i32;
+    if !motion::vector::code_in_range(wide_code) {
         return CodeAnswer::Refused(Refusal::VectorCode);
     }
     let left = format3::field::after(rest, cursor.at);
     let ByteField::Value(residual, _) = format3::field::read_u8(left) else {
         return CodeAnswer::Refused(Refusal::BodyLength);
     };
-    if !legal_residual(f, code, residual) {
+    if !motion::vector::residual_in_range(f, wide_code, residual as u32) {
         return CodeAnswer::Refused(Refusal::VectorCode);
     }
     CodeAnswer::Legal(VectorCode { code, residual }, Cursor { at: 2 })
 }
 
-// The codes of one vector, where f is the count of residuals.
-pub fn read_codes(rest: &[u8], f: u8) -> CodesAnswer
+// The codes of one vector, where f is 2^(f_code - 1).
+pub fn read_codes(rest: &[u8], f: u32) -> CodesAnswer
     ensures { λ r. ⌜ r ≡ codesOf f (now (rest .entry)) ⌝ }
 {
     match read_code(rest, f) {

@@ -1,18 +1,22 @@
 -- What the field readers find, from the length and the elements. Assumes nothing.
-use mathlib.Core.Path.{_≡_, refl, sym, _∙_}
+use mathlib.Core.Path.{_≡_, refl, sym, ap, _∙_}
 use mathlib.Core.List.{List, [], _∷_}
-use Prim.Native.Nat.{ℕ, _+_, _-_, _*_, _<_, _≤_}
+use Prim.Native.Nat.{ℕ, zero, suc, _+_, _-_, _*_, _<_, _≤_}
 use native.Mathlib.Omega.{arith}
 use lib.IntN.{ℤ, pos, negsuc, negℤ, _-ℤ_}
 use lib.Signed.{mag}
-use mir.Syntax.{w16}
-use mir.Val.{SFits}
 use lib.ListN.{length, getD, take, drop, length-drop, drop-of-length-le}
 use lib.Seq.{take-all, drop-length}
+use mir.Syntax.{w16}
+use mir.Val.{SFits}
 use Rattle.integers.proofs.Difference.{up, dn, parts-add, parts-neg}
+use Rattle.format3.specs.Field.{bigEndian, byteOf, wordOf, byteThen, wordThen, signedThen}
+use Rattle.format3.specs.declared.field.ByteField.{ByteField}
 use Rattle.format3.specs.declared.field.ByteField.the-variants as B
+use Rattle.format3.specs.declared.field.WordField.{WordField}
 use Rattle.format3.specs.declared.field.WordField.the-variants as W
-use Rattle.format3.specs.Field.{bigEndian, byteOf, wordOf}
+use Rattle.format3.specs.declared.field.SignedField.{SignedField}
+use Rattle.format3.specs.declared.field.SignedField.the-variants as S
 
 pub byte-short : (l : List ℕ) → length l < 1 → B.Short ≡ byteOf l
 unfolding byteOf
@@ -35,6 +39,30 @@ unfolding wordOf
 word-read [] h = absurd (omega arith)
 word-read (a ∷ []) h = absurd (omega arith)
 word-read (a ∷ b ∷ l) h = refl
+
+-- what holds of the answer for a field that is not wholly inside, and of what follows any value, holds of both together
+module _ {A : Type 0} (P : A → Type 0) (l : List ℕ) (short : A) where
+  pub byte-all : (f : ByteField) (rest : ℕ → List ℕ → A) → P short → ((n : ℕ) (left : List ℕ) → P (rest n left)) → P (byteThen f l short rest)
+  byte-all (B.Value n c) rest s r = r n _
+  byte-all B.Short rest s r = s
+
+  pub word-all : (f : WordField) (rest : ℕ → List ℕ → A) → P short → ((n : ℕ) (left : List ℕ) → P (rest n left)) → P (wordThen f l short rest)
+  word-all (W.Value n c) rest s r = r n _
+  word-all W.Short rest s r = s
+
+  pub signed-all : (f : SignedField) (rest : ℤ → List ℕ → A) → P short → ((z : ℤ) (left : List ℕ) → P (rest z left)) → P (signedThen f l short rest)
+  signed-all (S.Value z c) rest s r = r z _
+  signed-all S.Short rest s r = s
+
+drop-none : {A : Type 0} (k : ℕ) → drop {A = A} k [] ≡ []
+drop-none zero = refl
+drop-none (suc k) = refl
+
+-- the part after a part
+pub drop-more : {A : Type 0} (n m : ℕ) (l : List A) → drop m (drop n l) ≡ drop (n + m) l
+drop-more zero m l = let same : m ≡ 0 + m = omega arith in ap (λ (k : ℕ). drop k l) same
+drop-more (suc n) m [] = drop-none m ∙ sym (drop-none (suc n + m))
+drop-more (suc n) m (x ∷ l) = let next : suc (n + m) ≡ suc n + m = omega arith in drop-more n m l ∙ ap (λ (k : ℕ). drop k (x ∷ l)) next
 
 -- the part from n on, as a slice gives it
 pub rest-from : (n : ℕ) (l : List ℕ) → take (length l - n) (drop n l) ≡ drop n l

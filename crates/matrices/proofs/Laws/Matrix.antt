@@ -1,33 +1,24 @@
--- The tests of a matrix record, as the code makes them, and the places of the zigzag order. Assumes nothing.
+-- The tests of a matrix record, as the code makes them. Assumes nothing.
 use mathlib.Core.Path.{_≡_}
 use mathlib.Core.Bool.{true, false}
 use mathlib.Core.List.{List}
-use Prim.Native.Nat.{ℕ, _<_}
+use Prim.Native.Nat.{ℕ}
 use native.Mathlib.Omega.{arith}
+use lib.Dec.{leb, eqb}
+use lib.ListN.{length, drop, length-drop}
 use borrow.Author.Tests.{le-leb, lt-leb, eqb-true}
-use lib.Dec.{leb, ltb, eqb, ltb→lt}
-use lib.ListN.{length, getD, drop, length-drop}
-use Rattle.lists.specs.Tab.{tab}
-use Rattle.lists.specs.Test.{allBelow}
-use Rattle.lists.proofs.Test.{at-below}
-use Rattle.tables.specs.Tables.{zigzag, scan, indexOf}
 use Rattle.refusals.specs.declared.Refusal.the-variants.{BodyLength}
-use Rattle.matrices.specs.declared.Loaded.{Loaded}
 use Rattle.format3.specs.declared.verdict.Verdict.{Verdict}
 use Rattle.format3.specs.declared.verdict.Verdict.the-variants.{Passed, Refused}
-use Rattle.matrices.specs.Matrix.{verdictOf}
 use Rattle.format3.proofs.Laws.Chain.{only-all}
+use Rattle.matrices.specs.declared.Loaded.{Loaded}
+use Rattle.matrices.specs.Matrix.{verdictOf}
 
 pub above-zero : (n : ℕ) → (n ≡ 0 → ⊥) → leb 1 n ≡ true
 above-zero n h = le-leb 1 n (omega arith)
 
 pub is-zero : (n : ℕ) → n ≡ 0 → leb 1 n ≡ false
 is-zero n h = lt-leb 1 n (omega arith)
-
--- each place is in the matrix, by one computed test
-pub place-below : (k : ℕ) → k < 64 → getD zigzag k 0 < 64
-unfolding zigzag scan indexOf tab allBelow
-place-below k h = ltb→lt (getD zigzag k 0) 64 (at-below 64 (λ k. ltb (getD zigzag k 0) 64) tt k h)
 
 pub weights-long : (body : List ℕ) → length body ≡ 65 → length (drop 1 body) ≡ 64
 weights-long body e = simp length-drop (omega arith)

@@ -1,12 +1,12 @@
 -- `all_positive` meets its contract. The loop's invariant: every weight passed is above 0. Assumes nothing.
-use native.Mathlib.Omega.{arith}
-use borrow.Author.Needs.{needs}
 use mathlib.Core.Path.{_≡_, sym}
 use mathlib.Core.Bool.{true}
 use Prim.Native.Nat.{ℕ, _-_, _<_, _≤_}
-use borrow.Author.Count.{below-more}
+use native.Mathlib.Omega.{arith}
 use lib.Dec.{leb}
 use lib.ListN.{getD}
+use borrow.Author.Needs.{needs}
+use borrow.Author.Count.{below-more}
 use Rattle.lists.proofs.Test.{all-pass, one-fails}
 use Rattle.matrices.specs.Matrix.{positive}
 use Rattle.matrices.proofs.Laws.Matrix.{above-zero, is-zero}

@@ -1,9 +1,9 @@
 -- `matrix_verdict` meets its contract: its tests are those of `verdictOf`, in the same order. Assumes nothing.
 use borrow.Author.Tests.{le-leb, lt-leb, eq-eqb, ne-eqb, not-true, not-false}
+use borrow.Author.Needs.{needs}
 use Rattle.format3.specs.Chain.{only}
 use Rattle.matrices.specs.Matrix.{verdictOf}
 use Rattle.matrices.proofs.Laws.Matrix.{weights-long}
-use borrow.Author.Needs.{needs}
 use Rattle.matrices.proofs.matrix_verdict.Statement.{statement}
 use Rattle.matrices.proofs.matrix_verdict.Tie as tie
 
@@ -40,7 +40,15 @@ returns-4 c =
     let at-loaded-already = at-if3 .before in
     let at-if2 = at-loaded-already .before in
     let at-if1 = at-if2 .before .before in
-    rw (eq-eqb _ _ (at-if1 .if1 .left), le-leb _ _ (at-if2 .if2 .left), ← at-loaded-already .loaded-already .ensures, at-if3 .if3 .left, ← at-after .after .ensures, ← at-all-positive .all-positive .ensures, not-true (at-all-positive .all-positive .result) (c .if4 .taken))
+    rw (
+      eq-eqb _ _ (at-if1 .if1 .left),
+      le-leb _ _ (at-if2 .if2 .left),
+      ← at-loaded-already .loaded-already .ensures,
+      at-if3 .if3 .left,
+      ← at-after .after .ensures,
+      ← at-all-positive .all-positive .ensures,
+      not-true (at-all-positive .all-positive .result) (c .if4 .taken),
+    )
 
 shared-slice-read-legal-first : tie.Need-shared-slice-read-legal-first
 shared-slice-read-legal-first c = search needs
@@ -59,7 +67,17 @@ returns-5 c =
     let at-loaded-already = at-if3 .before in
     let at-if2 = at-loaded-already .before in
     let at-if1 = at-if2 .before .before in
-    rw (eq-eqb _ _ (at-if1 .if1 .left), le-leb _ _ (at-if2 .if2 .left), ← at-loaded-already .loaded-already .ensures, at-if3 .if3 .left, ← at-after .after .ensures, ← at-all-positive .all-positive .ensures, not-false (at-all-positive .all-positive .result) (at-if4 .if4 .left), ← at-legal-first .legal-first .ensures, not-true (at-legal-first .legal-first .result) (c .if5 .taken))
+    rw (
+      eq-eqb _ _ (at-if1 .if1 .left),
+      le-leb _ _ (at-if2 .if2 .left),
+      ← at-loaded-already .loaded-already .ensures,
+      at-if3 .if3 .left,
+      ← at-after .after .ensures,
+      ← at-all-positive .all-positive .ensures,
+      not-false (at-all-positive .all-positive .result) (at-if4 .if4 .left),
+      ← at-legal-first .legal-first .ensures,
+      not-true (at-legal-first .legal-first .result) (c .if5 .taken),
+    )
 
 returns-6 : tie.Need-returns-6
 unfolding verdictOf only
@@ -72,7 +90,17 @@ returns-6 c =
     let at-loaded-already = at-if3 .before in
     let at-if2 = at-loaded-already .before in
     let at-if1 = at-if2 .before .before in
-    rw (eq-eqb _ _ (at-if1 .if1 .left), le-leb _ _ (at-if2 .if2 .left), ← at-loaded-already .loaded-already .ensures, at-if3 .if3 .left, ← at-after .after .ensures, ← at-all-positive .all-positive .ensures, not-false (at-all-positive .all-positive .result) (at-if4 .if4 .left), ← at-legal-first .legal-first .ensures, not-false (at-legal-first .legal-first .result) (c .if5 .left))
+    rw (
+      eq-eqb _ _ (at-if1 .if1 .left),
+      le-leb _ _ (at-if2 .if2 .left),
+      ← at-loaded-already .loaded-already .ensures,
+      at-if3 .if3 .left,
+      ← at-after .after .ensures,
+      ← at-all-positive .all-positive .ensures,
+      not-false (at-all-positive .all-positive .result) (at-if4 .if4 .left),
+      ← at-legal-first .legal-first .ensures,
+      not-false (at-legal-first .legal-first .result) (c .if5 .left),
+    )
 
 pub matrix-verdict-spec : {M : Type 1} → statement M
 matrix-verdict-spec =

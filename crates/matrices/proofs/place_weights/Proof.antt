@@ -1,13 +1,13 @@
 -- `place_weights` meets its contract. The loop's invariant: the weights passed stand at their places. Assumes nothing.
-use native.Mathlib.Omega.{arith}
-use borrow.Author.Needs.{needs}
 use mathlib.Core.Path.{_≡_, refl, _∙_}
 use Prim.Native.Nat.{_-_, _<_, _≤_}
+use native.Mathlib.Omega.{arith}
 use lib.ListN.{getD, replicate}
+use borrow.Author.Needs.{needs}
 use Rattle.lists.specs.Scatter.{scatter}
 use Rattle.lists.proofs.Scatter.{scatter-more}
 use Rattle.matrices.specs.Matrix.{placed}
-use Rattle.matrices.proofs.Laws.Matrix.{place-below}
+use Rattle.tables.proofs.Zigzag.{place-below}
 use Rattle.matrices.proofs.place_weights.Statement.{statement}
 use Rattle.matrices.proofs.place_weights.Tie as tie
 

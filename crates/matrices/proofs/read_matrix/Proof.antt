@@ -1,10 +1,10 @@
 -- `read_matrix` meets its contract: a refused record changes nothing, and a legal one loads the matrix that it names. Assumes nothing.
+use mathlib.Core.Path.{sym, _∙_}
 use native.Mathlib.Omega.{arith}
 use borrow.Author.Tests.{eq-eqb, ne-eqb}
-use mathlib.Core.Path.{sym, _∙_}
+use borrow.Author.Needs.{needs}
 use Rattle.matrices.specs.Matrix.{matrixOf}
 use Rattle.matrices.proofs.Laws.Matrix.{weights-long, passed-long}
-use borrow.Author.Needs.{needs}
 use Rattle.matrices.proofs.read_matrix.Statement.{statement}
 use Rattle.matrices.proofs.read_matrix.Tie as tie
 

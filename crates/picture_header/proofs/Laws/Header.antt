@@ -4,16 +4,16 @@ use mathlib.Core.Bool.{Bool, true, false}
 use mathlib.Core.List.{List}
 use Prim.Native.Nat.{ℕ}
 use native.Mathlib.Omega.{arith}
-use borrow.Author.Tests.{leb-true}
 use lib.Dec.{leb, eqb}
 use lib.ListN.{length}
+use borrow.Author.Tests.{leb-true, eqb-true}
+use Rattle.format3.proofs.Laws.Chain.{only-all, both}
 use Rattle.picture_header.specs.declared.header.HeaderFields.{HeaderFields}
 use Rattle.picture_header.specs.declared.header.Header.{Header}
 use Rattle.picture_header.specs.declared.header.HeaderAnswer.{HeaderAnswer}
 use Rattle.picture_header.specs.declared.header.HeaderAnswer.the-variants.{Legal}
 use Rattle.picture_header.specs.Header.{typeI, typeB, usesForward, usesBackward, legalCoding, legalCodings, legalHeader, codingOf, headerValue, headerWith, headerOf, fieldsOf, CodingWithin, HeaderWithin}
 use Rattle.picture_header.specs.Size.{legalSize}
-use Rattle.format3.proofs.Laws.Chain.{only-all, both}
 use Rattle.picture_header.proofs.Laws.Size.{legal-within}
 
 coding-within : (used : Bool) (flag code : ℕ) → legalCoding used flag code ≡ true → CodingWithin used (codingOf flag code)
@@ -22,8 +22,8 @@ coding-within true flag code e =
     let low = both (leb flag 1) _ (top .0) in
     record { least = λ u. leb-true 1 code (low .1); most = leb-true code 7 (top .1) }
 coding-within false flag code e =
-    let all = both (leb flag 0) _ e in
-    record { least = λ u. absurd (let z : _≡_ {A = ℕ} 0 1 = cc in omega arith); most = omega (arith, leb-true code 0 (all .1)) }
+    let all = both (eqb flag 0) _ e in
+    record { least = λ u. absurd (let z : _≡_ {A = ℕ} 0 1 = cc in omega arith); most = omega (arith, eqb-true code 0 (all .1)) }
 
 value-within : (f : HeaderFields) → legalHeader f ≡ true → HeaderWithin (headerValue f)
 unfolding legalHeader legalCodings

@@ -3,15 +3,15 @@ use mathlib.Core.Path.{_≡_, refl}
 use mathlib.Core.Bool.{Bool, true, false}
 use Prim.Native.Nat.{ℕ, _+_, _*_, _≤_, _<_}
 use native.Mathlib.Omega.{arith}
-use native.Mathlib.Nat.{le-mul-of-pos-right, div-lt-iff-lt-mul, mod-lt, mul-comm}
-use borrow.Author.Tests.{leb-true}
+use native.Mathlib.Nat.{le-trans, le-mul-of-pos-right, div-lt-iff-lt-mul, mod-lt, mul-comm}
 use lib.Dec.{leb}
+use borrow.Author.Tests.{leb-true}
+use Rattle.format3.specs.Chain.{only}
+use Rattle.format3.proofs.Laws.Chain.{only-all, both}
 use Rattle.picture_header.specs.declared.size.PictureSize.{PictureSize}
 use Rattle.picture_header.specs.declared.size.NewSize.{NewSize}
 use Rattle.picture_header.specs.declared.size.NewSize.the-variants.{Fits, Beyond}
-use Rattle.format3.specs.Chain.{only}
 use Rattle.picture_header.specs.Size.{legalSize, sizeOf, count, bytes, startOfCb, startOfCr, column, row, SizeWithin}
-use Rattle.format3.proofs.Laws.Chain.{only-all, both}
 
 pub legal-within : (w h : ℕ) → legalSize w h ≡ true → SizeWithin 396 (record { width = w; height = h })
 unfolding legalSize
@@ -48,6 +48,10 @@ not-made w h e = go (legalSize w h) e
     go : (b : Bool) → only b Beyond (Fits (record { width = w; height = h })) ≡ Beyond → b ≡ false
     go true e = absurd (let z : _≡_ {A = ℕ} 0 1 = cc in omega arith)
     go false e = refl
+
+-- a smaller limit is within a larger one
+pub within-more : {a b : ℕ} {s : PictureSize} → SizeWithin a s → a ≤ b → SizeWithin b s
+within-more size h = record { wide = size .wide; high = size .high; few = le-trans (size .few) h }
 
 module _ {most : ℕ} {s : PictureSize} (size : SizeWithin most s) (limit : most ≤ 396) where
   -- neither side is longer than the count

@@ -1,16 +1,26 @@
--- The test of a macroblock's address, as the code makes it, and the bits of the legal types. Assumes nothing.
-use mathlib.Core.Path.{_≡_, refl, sym}
+-- The test of a macroblock's address, as the code makes it, the bits of the legal types, and that a head which was read is legal. Assumes nothing.
+use mathlib.Core.Path.{_≡_, refl, sym, subst}
 use mathlib.Core.Bool.{Bool, true, false, cond, Bool·beq}
 use mathlib.Core.List.{List, [], _∷_}
 use Prim.Native.Nat.{ℕ, suc, _+_, _-_, _/_, _%_, _^_, _<_, _≤_}
 use native.Mathlib.Omega.{arith}
-use borrow.Author.Tests.{le-leb, lt-leb, ne-eqb}
 use lib.Dec.{T, leb, eqb, leb→le}
 use lib.ListN.{length, getD}
+use borrow.Author.Tests.{le-leb, lt-leb, ne-eqb}
 use Rattle.lists.specs.Test.{allBelow}
 use Rattle.lists.proofs.Test.{at-below}
 use Rattle.picture_header.specs.Header.{typeI, typeP}
-use Rattle.symbols.specs.MacroblockHead.{among, typesOfI, typesOfP, typesOfB, legalType}
+use Rattle.refusals.specs.declared.Refusal.{Refusal}
+use Rattle.format3.specs.declared.field.Cursor.{Cursor}
+use Rattle.format3.specs.Field.{byteOf, wordOf}
+use Rattle.format3.proofs.Laws.Chain.{only-all}
+use Rattle.format3.proofs.Laws.Field.{byte-all, word-all}
+use Rattle.symbols.specs.declared.macroblock_head.HeadContext.{HeadContext}
+use Rattle.symbols.specs.declared.macroblock_head.MacroblockHead.{MacroblockHead}
+use Rattle.symbols.specs.declared.macroblock_head.HeadAnswer.{HeadAnswer}
+use Rattle.symbols.specs.declared.macroblock_head.HeadAnswer.the-variants.{Legal, Refused}
+use Rattle.symbols.specs.Slice.{legalScale}
+use Rattle.symbols.specs.MacroblockHead.{among, typesOfI, typesOfP, typesOfB, legalType, givesScale, legalIncrement, scaleOf, incrementOf, headOf}
 
 module _ (next all increment : ℕ) where
   pub past-all : 1 ≤ increment → all < next → leb (next + increment) all ≡ false
@@ -60,3 +70,30 @@ types-of-P = bits 200452 typesOfP tt
 pub types-of-B : (n : ℕ) → n ≤ 31 → eqb (261204 / 2 ^ n % 2) 1 ≡ among n typesOfB
 unfolding allBelow
 types-of-B = bits 261204 typesOfB tt
+
+-- ---- a head that was read is legal; its scale is, where the one in force was
+pub record LegalHead (c : HeadContext) (h : MacroblockHead) : Type 0 where
+  pub type : legalType (c .coding) (h .flags) ≡ true
+  pub increment : legalIncrement c (h .increment) ≡ true
+  pub scale : legalScale (c .scale) ≡ true → legalScale (h .scale) ≡ true
+
+pub record Sound (c : HeadContext) (a : HeadAnswer) : Type 0 where
+  pub legal : (h : MacroblockHead) (at : Cursor) → a ≡ Legal h at → LegalHead c h
+
+refused : {c : HeadContext} {refusal : Refusal} → Sound c (Refused refusal)
+refused {c} {refusal} = record { legal = λ h at (e : Refused refusal ≡ Legal h at). absurd (let z : _≡_ {A = ℕ} 0 1 = cc in omega arith) }
+
+taken : {c : HeadContext} {at : Cursor} (h : MacroblockHead) → LegalHead c h → Sound c (Legal h at)
+taken {c} h l = record { legal = λ g at e. let p : _≡_ {A = MacroblockHead} h g = cc in subst (LegalHead c) p l }
+
+pub head-sound : (c : HeadContext) (body : List ℕ) → Sound c (headOf c body)
+unfolding headOf incrementOf scaleOf
+head-sound c body =
+    byte-all (Sound c) body _ (byteOf body) _ refused λ flags rest.
+    only-all (Sound c) (legalType (c .coding) flags) _ _ refused λ type.
+    word-all (Sound c) rest _ (wordOf rest) _ refused λ increment left.
+    only-all (Sound c) (legalIncrement c increment) _ _ refused λ step.
+    only-all (Sound c) (givesScale flags) _ _ (taken (record { flags = flags; increment = increment; scale = c .scale }) (record { type = type; increment = step; scale = λ s. s })) λ given.
+    byte-all (Sound c) left _ (byteOf left) _ refused λ scale end.
+    only-all (Sound c) (legalScale scale) _ _ refused λ s.
+    taken (record { flags = flags; increment = increment; scale = scale }) (record { type = type; increment = step; scale = λ t. s })

@@ -1,7 +1,7 @@
 -- `after` meets its contract: the part is what `drop` leaves, also where there is nothing left. Assumes nothing.
 use native.Mathlib.Omega.{arith}
-use Rattle.format3.proofs.Laws.Field.{rest-from, rest-none}
 use borrow.Author.Needs.{needs}
+use Rattle.format3.proofs.Laws.Field.{rest-from, rest-none}
 use Rattle.format3.proofs.field.after.Statement.{statement}
 use Rattle.format3.proofs.field.after.Tie as tie
 

@@ -1,9 +1,9 @@
 -- `read_i16` meets its contract: the two bytes, if there are two, stand for a signed number. Assumes nothing.
 use mathlib.Core.Path.{refl}
 use mir.Syntax.{w16}
+use borrow.Author.Needs.{needs}
 use Rattle.integers.proofs.Machine.{returned}
 use Rattle.format3.specs.Field.{signedWordOf}
-use borrow.Author.Needs.{needs}
 use Rattle.format3.proofs.field.read_i16.Statement.{statement}
 use Rattle.format3.proofs.field.read_i16.Tie as tie
 

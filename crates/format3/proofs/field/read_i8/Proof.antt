@@ -1,9 +1,9 @@
 -- `read_i8` meets its contract: the byte, if there is one, stands for a signed number. Assumes nothing.
 use mathlib.Core.Path.{refl}
 use mir.Syntax.{w16}
+use borrow.Author.Needs.{needs}
 use Rattle.integers.proofs.Machine.{returned}
 use Rattle.format3.specs.Field.{signedByteOf}
-use borrow.Author.Needs.{needs}
 use Rattle.format3.proofs.field.read_i8.Statement.{statement}
 use Rattle.format3.proofs.field.read_i8.Tie as tie
 

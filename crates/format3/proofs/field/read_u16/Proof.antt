@@ -1,7 +1,7 @@
 -- `read_u16` meets its contract: the length is what `wordOf` asks, and two bytes fit a `u16`. Assumes nothing.
 use native.Mathlib.Omega.{arith}
-use Rattle.format3.proofs.Laws.Field.{word-short, word-read}
 use borrow.Author.Needs.{needs}
+use Rattle.format3.proofs.Laws.Field.{word-short, word-read}
 use Rattle.format3.proofs.field.read_u16.Statement.{statement}
 use Rattle.format3.proofs.field.read_u16.Tie as tie
 

@@ -1,6 +1,6 @@
 -- `read_u8` meets its contract: the length is what `byteOf` asks. Assumes nothing.
-use Rattle.format3.proofs.Laws.Field.{byte-short, byte-read}
 use borrow.Author.Needs.{needs}
+use Rattle.format3.proofs.Laws.Field.{byte-short, byte-read}
 use Rattle.format3.proofs.field.read_u8.Statement.{statement}
 use Rattle.format3.proofs.field.read_u8.Tie as tie
 

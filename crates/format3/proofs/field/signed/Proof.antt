@@ -1,15 +1,15 @@
 -- `signed` meets its contract: n less the count of all numbers, where n is in the upper half, is from -half to -1 and fits an `i16`. Assumes nothing.
-use Prim.Native.Nat.{_*_}
 use mathlib.Core.Path.{sym, ap, subst, _∙_}
+use Prim.Native.Nat.{_*_}
+use lib.IntN.{ℤ, pos, _*ℤ_, _-ℤ_}
 use mir.Syntax.{w16, w32}
 use mir.Val.{SFits, toZ, ofZ}
 use mir.ValLaws.{toZ-ofZ}
-use lib.IntN.{ℤ, pos, _*ℤ_, _-ℤ_}
 use borrow.Author.Tests.{lt-ltb, le-ltb}
+use borrow.Author.Needs.{needs}
 use Rattle.integers.proofs.Machine.{Held, literal, unsigned, kept, fits, _⊟_, _⊠_}
 use Rattle.format3.specs.Field.{twosComplement}
 use Rattle.format3.proofs.Laws.Field.{lower-fits, upper-fits}
-use borrow.Author.Needs.{needs}
 use Rattle.format3.proofs.field.signed.Statement.{statement}
 use Rattle.format3.proofs.field.signed.Tie as tie
 

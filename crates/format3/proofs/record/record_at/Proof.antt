@@ -1,11 +1,11 @@
 -- `record_at` meets its contract: its tests are those of `recordOf`, in the same order. Assumes nothing.
-use native.Mathlib.Omega.{arith}
 use Prim.Native.Nat.{_+_}
+use native.Mathlib.Omega.{arith}
 use borrow.Author.Tests.{le-leb, lt-leb}
+use borrow.Author.Needs.{needs}
 use Rattle.format3.specs.Chain.{only}
 use Rattle.format3.specs.Record.{recordOf, lengthAt, kindAt}
 use Rattle.format3.proofs.Laws.Record.{none-left, few-left, head-left, past-end, before-end}
-use borrow.Author.Needs.{needs}
 use Rattle.format3.proofs.record.record_at.Statement.{statement}
 use Rattle.format3.proofs.record.record_at.Tie as tie
 
@@ -60,18 +60,49 @@ shared-slice-read-kind c = search needs
 
 returns-5 : tie.Need-returns-5
 unfolding recordOf lengthAt kindAt only
-returns-5 c = rw (head-left _ _ (c .before .before .before .before .before .before .if2 .left), le-leb _ _ (c .before .before .before .if3 .left), before-end _ _ (c .before .before .before .before .before .before .if2 .left) _ (c .before .before .if4 .left), lt-leb _ _ (c .if5 .taken))
+returns-5 c =
+    let at-if4 = c .before .before in
+    let at-if3 = at-if4 .before in
+    let at-if2 = at-if3 .before .before .before in
+    rw (
+      head-left _ _ (at-if2 .if2 .left),
+      le-leb _ _ (at-if3 .if3 .left),
+      before-end _ _ (at-if2 .if2 .left) _ (at-if4 .if4 .left),
+      lt-leb _ _ (c .if5 .taken),
+    )
 
 returns-6 : tie.Need-returns-6
 unfolding recordOf lengthAt kindAt only
-returns-6 c = rw (head-left _ _ (c .before .before .before .before .before .before .before .if2 .left), le-leb _ _ (c .before .before .before .before .if3 .left), before-end _ _ (c .before .before .before .before .before .before .before .if2 .left) _ (c .before .before .before .if4 .left), le-leb _ _ (c .before .if5 .left), lt-leb _ _ (c .if6 .taken))
+returns-6 c =
+    let at-if5 = c .before in
+    let at-if4 = at-if5 .before .before in
+    let at-if3 = at-if4 .before in
+    let at-if2 = at-if3 .before .before .before in
+    rw (
+      head-left _ _ (at-if2 .if2 .left),
+      le-leb _ _ (at-if3 .if3 .left),
+      before-end _ _ (at-if2 .if2 .left) _ (at-if4 .if4 .left),
+      le-leb _ _ (at-if5 .if5 .left),
+      lt-leb _ _ (c .if6 .taken),
+    )
 
 add-t8 : tie.Need-add-t8
 add-t8 c = search needs
 
 returns-7 : tie.Need-returns-7
 unfolding recordOf lengthAt kindAt only
-returns-7 c = rw (head-left _ _ (c .before .before .before .before .before .before .before .if2 .left), le-leb _ _ (c .before .before .before .before .if3 .left), before-end _ _ (c .before .before .before .before .before .before .before .if2 .left) _ (c .before .before .before .if4 .left), le-leb _ _ (c .before .if5 .left), le-leb _ _ (c .if6 .left))
+returns-7 c =
+    let at-if5 = c .before in
+    let at-if4 = at-if5 .before .before in
+    let at-if3 = at-if4 .before in
+    let at-if2 = at-if3 .before .before .before in
+    rw (
+      head-left _ _ (at-if2 .if2 .left),
+      le-leb _ _ (at-if3 .if3 .left),
+      before-end _ _ (at-if2 .if2 .left) _ (at-if4 .if4 .left),
+      le-leb _ _ (at-if5 .if5 .left),
+      le-leb _ _ (c .if6 .left),
+    )
 
 pub record-at-spec : {M : Type 1} → statement M
 record-at-spec =

@@ -1,11 +1,11 @@
 -- `show_record` meets its contract: the part is the body that `record_at` found, which lies within the file. Assumes nothing.
-use native.Mathlib.Omega.{arith}
 use mathlib.Core.Path.{refl}
 use Prim.Native.Nat.{_+_, _≤_}
+use native.Mathlib.Omega.{arith}
 use native.Mathlib.Nat.{add-sub-cancel-left}
 use lib.ListN.{length}
-use Rattle.format3.proofs.Laws.Record.{inside}
 use borrow.Author.Needs.{needs}
+use Rattle.format3.proofs.Laws.Record.{inside}
 use Rattle.format3.proofs.record.show_record.Statement.{statement}
 use Rattle.format3.proofs.record.show_record.Tie as tie
 

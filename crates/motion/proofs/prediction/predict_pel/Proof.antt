@@ -1,11 +1,7 @@
--- `prediction::predict_pel` meets its contract: at whole pels it is the pel, and elsewhere the mean of four is the definition's by `mean-interpolated`. Assumes nothing.
-use mathlib.Core.Path.{_∙_}
-use Prim.Native.Nat.{_+_, _/_, _%_}
+-- `prediction::predict_pel` meets its contract: at whole pels it is the pel, and elsewhere the mean of four is the definition's by `predicted-mean`. Assumes nothing.
 use native.Mathlib.Nat.{add-zero}
-use native.Mathlib.Omega.{arith}
 use borrow.Author.Needs.{needs}
-use Rattle.motion.specs.Prediction.{predictedPel, pelAt}
-use Rattle.motion.proofs.MeanLaws.{mean-interpolated, whole-interpolated}
+use Rattle.motion.proofs.MeanLaws.{predicted-whole, predicted-mean}
 use Rattle.motion.proofs.prediction.predict_pel.Statement.{statement}
 use Rattle.motion.proofs.prediction.predict_pel.Tie as tie
 
@@ -22,8 +18,7 @@ add-odd : tie.Need-add-odd
 add-odd c = search needs
 
 returns : tie.Need-returns
-unfolding predictedPel
-returns c = let s = c .before .before .before .args in c .before .pel-at .ensures ∙ whole-interpolated (s .px % 2) (s .py % 2) _ _ _ _ (c .if1 .taken)
+returns c = let a = c .before .before .before .args in rw (c .before .pel-at .ensures) (predicted-whole (a .plane .now) (a .stride) (a .px) (a .py) (a .k) (c .if1 .taken))
 
 add-x2 : tie.Need-add-x2
 add-x2 c = search needs
@@ -44,14 +39,13 @@ mean-of-four-requires : tie.Need-mean-of-four-requires
 mean-of-four-requires c κs = search needs
 
 returns-2 : tie.Need-returns-2
-unfolding predictedPel
 returns-2 c =
     let fourth = c .before in
     let second = fourth .before .before in
     let first = second .before .before in
     let a = first .before .before .args in
-    let mean = mean-interpolated (a .px % 2) (a .py % 2) (λ h v. pelAt (a .plane .now) (a .stride) (a .px / 2 + a .k % 8 + h) (a .py / 2 + a .k / 8 + v)) (omega arith) (omega arith) in
-    rw (c .mean-of-four .ensures, first .pel-at .ensures, second .pel-at2 .ensures, fourth .before .pel-at3 .ensures, fourth .pel-at4 .ensures) (simp add-zero at mean)
+    rw (c .mean-of-four .ensures, first .pel-at .ensures, second .pel-at2 .ensures, fourth .before .pel-at3 .ensures, fourth .pel-at4 .ensures)
+    (simp add-zero at (predicted-mean (a .plane .now) (a .stride) (a .px) (a .py) (a .k)))
 
 pub predict-pel-spec : {M : Type 1} → statement M
 predict-pel-spec =

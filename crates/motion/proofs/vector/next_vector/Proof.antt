@@ -34,8 +34,8 @@ moved c =
     let s = c .before in
     parameter (s .fits .past) (s .pre .1) ⊞ result w32 (difference-is c) (difference-within (f s .size) (s .pre .2) (residual s .size)) tt
 
-cast-by : tie.Need-cast-by
-cast-by c = search needs
+cast-f-signed : tie.Need-cast-f-signed
+cast-f-signed c = search needs
 
 cast-difference : tie.Need-cast-difference
 cast-difference c = search needs
@@ -56,4 +56,4 @@ returns c = returned w32 (c .wrap .ok) (c .wrap .ensures ∙ (λ i. wrapped (f (
 pub next-vector-spec : {M : Type 1} → statement M
 next-vector-spec =
     tie.close
-    (tie.spec cast-by cast-difference difference-requires add-moved wrap-requires returns)
+    (tie.spec cast-f-signed cast-difference difference-requires add-moved wrap-requires returns)

@@ -21,8 +21,8 @@ low c = literal (pos 0) ⊟ kept w32 (times c) tt
 abbrev high : (c : tie.Start) → Held (highest (pos (c .args .f)))
 high c = kept w32 (times c) tt ⊟ literal (pos 1)
 
-cast-by : tie.Need-cast-by
-cast-by c = search needs
+cast-f-signed : tie.Need-cast-f-signed
+cast-f-signed c = search needs
 
 mul-if1 : tie.Need-mul-if1
 mul-if1 c = fits (times c) tt
@@ -50,4 +50,4 @@ returns-3 c = let s = c .before .before in rw (tested (past s) (kept w32 (low s)
 
 pub past-in-range-spec : {M : Type 1} → statement M
 past-in-range-spec =
-    tie.close (tie.spec cast-by mul-if1 sub-if1 returns mul-if2 sub-if2 returns-2 returns-3)
+    tie.close (tie.spec cast-f-signed mul-if1 sub-if1 returns mul-if2 sub-if2 returns-2 returns-3)

@@ -1,10 +1,10 @@
 -- `header_with` meets its contract: the size is legal where one is made, and the codings are tested after it. Assumes nothing.
-use borrow.Author.Tests.{not-true, not-false}
 use mathlib.Core.Path.{sym, _∙_}
+use borrow.Author.Tests.{not-true, not-false}
+use borrow.Author.Needs.{needs}
 use Rattle.format3.specs.Chain.{only}
 use Rattle.picture_header.specs.Header.{headerWith, legalHeader}
 use Rattle.picture_header.proofs.Laws.Size.{made, not-made}
-use borrow.Author.Needs.{needs}
 use Rattle.picture_header.proofs.header.header_with.Statement.{statement}
 use Rattle.picture_header.proofs.header.header_with.Tie as tie
 

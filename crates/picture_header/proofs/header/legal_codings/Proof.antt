@@ -1,7 +1,7 @@
 -- `legal_codings` meets its contract: its tests are those of `legalCodings`, in the same order. Assumes nothing.
 use borrow.Author.Tests.{le-leb, lt-leb, not-true, not-false}
-use Rattle.picture_header.specs.Header.{legalCodings}
 use borrow.Author.Needs.{needs}
+use Rattle.picture_header.specs.Header.{legalCodings}
 use Rattle.picture_header.proofs.header.legal_codings.Statement.{statement}
 use Rattle.picture_header.proofs.header.legal_codings.Tie as tie
 

@@ -1,8 +1,8 @@
 -- `read_header` meets its contract: the seven bytes are the fields in their order. Assumes nothing.
 use borrow.Author.Tests.{eq-eqb, ne-eqb}
+use borrow.Author.Needs.{needs}
 use Rattle.format3.specs.Chain.{only}
 use Rattle.picture_header.specs.Header.{headerOf}
-use borrow.Author.Needs.{needs}
 use Rattle.picture_header.proofs.header.read_header.Statement.{statement}
 use Rattle.picture_header.proofs.header.read_header.Tie as tie
 

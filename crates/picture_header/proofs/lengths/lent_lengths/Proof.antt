@@ -1,8 +1,8 @@
 -- `lent_lengths` meets its contract: its tests are those of `lengthsOf`, in the same order. Assumes nothing.
 use borrow.Author.Tests.{eq-eqb, ne-eqb}
+use borrow.Author.Needs.{needs}
 use Rattle.format3.specs.Chain.{only}
 use Rattle.picture_header.specs.Lengths.{lengthsOf}
-use borrow.Author.Needs.{needs}
 use Rattle.picture_header.proofs.lengths.lent_lengths.Statement.{statement}
 use Rattle.picture_header.proofs.lengths.lent_lengths.Tie as tie
 

@@ -1,8 +1,8 @@
 -- `legal_increment` meets its contract: its tests are those of `legalIncrement`, in the same order. Assumes nothing.
 use borrow.Author.Tests.{le-leb, lt-leb}
+use borrow.Author.Needs.{needs}
 use Rattle.symbols.specs.MacroblockHead.{legalIncrement}
 use Rattle.symbols.proofs.Laws.MacroblockHead.{past-all, past-last, address-fits}
-use borrow.Author.Needs.{needs}
 use Rattle.symbols.proofs.macroblock_head.legal_increment.Statement.{statement}
 use Rattle.symbols.proofs.macroblock_head.legal_increment.Tie as tie
 

@@ -1,8 +1,8 @@
 -- `legal_type` meets its contract: of the first 32 types the bits say which are legal, and above there is none. Assumes nothing.
 use borrow.Author.Tests.{eq-eqb, ne-eqb}
+use borrow.Author.Needs.{needs}
 use Rattle.symbols.specs.MacroblockHead.{legalType}
 use Rattle.symbols.proofs.Laws.MacroblockHead.{types-above, types-of-I, types-of-P, types-of-B}
-use borrow.Author.Needs.{needs}
 use Rattle.symbols.proofs.macroblock_head.legal_type.Statement.{statement}
 use Rattle.symbols.proofs.macroblock_head.legal_type.Tie as tie
 

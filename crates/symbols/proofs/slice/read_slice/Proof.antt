@@ -1,8 +1,8 @@
 -- `read_slice` meets its contract: its tests are those of `sliceOf`, in the same order. Assumes nothing.
 use borrow.Author.Tests.{eq-eqb, ne-eqb, not-true, not-false}
+use borrow.Author.Needs.{needs}
 use Rattle.format3.specs.Chain.{only}
 use Rattle.symbols.specs.Slice.{sliceOf}
-use borrow.Author.Needs.{needs}
 use Rattle.symbols.proofs.slice.read_slice.Statement.{statement}
 use Rattle.symbols.proofs.slice.read_slice.Tie as tie
 
@@ -28,7 +28,18 @@ legal-scale-requires c κs = search needs
 
 returns-3 : tie.Need-returns-3
 unfolding sliceOf only
-returns-3 c = rw (eq-eqb _ _ (c .before .before .before .before .before .before .if1 .left), ← c .before .before .before .before .before .read-u8 .ensures, c .before .before .before .scale .given .1, ← c .before .legal-scale .ensures, not-true (c .before .legal-scale .result) (c .if2 .taken))
+returns-3 c =
+    let at-legal-scale = c .before in
+    let at-scale = at-legal-scale .before .before in
+    let at-read-u8 = at-scale .before .before in
+    let at-if1 = at-read-u8 .before in
+    rw (
+      eq-eqb _ _ (at-if1 .if1 .left),
+      ← at-read-u8 .read-u8 .ensures,
+      at-scale .scale .given .1,
+      ← at-legal-scale .legal-scale .ensures,
+      not-true (at-legal-scale .legal-scale .result) (c .if2 .taken),
+    )
 
 after-requires : tie.Need-after-requires
 after-requires c κs = search needs
@@ -44,18 +55,73 @@ enum-told-2 c = search needs
 
 returns-4 : tie.Need-returns-4
 unfolding sliceOf only
-returns-4 c = rw (eq-eqb _ _ (c .before .before .before .before .before .before .before .before .before .before .if1 .left), ← c .before .before .before .before .before .before .before .before .before .read-u8 .ensures, c .before .before .before .before .before .before .before .scale .given .1, ← c .before .before .before .before .before .legal-scale .ensures, not-false (c .before .before .before .before .before .legal-scale .result) (c .before .before .before .before .if2 .left), ← c .before .before .before .after .ensures, ← c .before .before .read-u16 .ensures, c .enum-told2 .given .1)
+returns-4 c =
+    let at-read-u16 = c .before .before in
+    let at-after = at-read-u16 .before in
+    let at-if2 = at-after .before in
+    let at-legal-scale = at-if2 .before in
+    let at-scale = at-legal-scale .before .before in
+    let at-read-u8 = at-scale .before .before in
+    let at-if1 = at-read-u8 .before in
+    rw (
+      eq-eqb _ _ (at-if1 .if1 .left),
+      ← at-read-u8 .read-u8 .ensures,
+      at-scale .scale .given .1,
+      ← at-legal-scale .legal-scale .ensures,
+      not-false (at-legal-scale .legal-scale .result) (at-if2 .if2 .left),
+      ← at-after .after .ensures,
+      ← at-read-u16 .read-u16 .ensures,
+      c .enum-told2 .given .1,
+    )
 
 cast-if3 : tie.Need-cast-if3
 cast-if3 c = search needs
 
 returns-5 : tie.Need-returns-5
 unfolding sliceOf only
-returns-5 c = rw (eq-eqb _ _ (c .before .before .before .before .before .before .before .before .before .before .before .before .if1 .left), ← c .before .before .before .before .before .before .before .before .before .before .before .read-u8 .ensures, c .before .before .before .before .before .before .before .before .before .scale .given .1, ← c .before .before .before .before .before .before .before .legal-scale .ensures, not-false (c .before .before .before .before .before .before .before .legal-scale .result) (c .before .before .before .before .before .before .if2 .left), ← c .before .before .before .before .before .after .ensures, ← c .before .before .before .before .read-u16 .ensures, c .before .before .start .given .1, ne-eqb _ _ (c .if3 .taken))
+returns-5 c =
+    let at-start = c .before .before in
+    let at-read-u16 = at-start .before .before in
+    let at-after = at-read-u16 .before in
+    let at-if2 = at-after .before in
+    let at-legal-scale = at-if2 .before in
+    let at-scale = at-legal-scale .before .before in
+    let at-read-u8 = at-scale .before .before in
+    let at-if1 = at-read-u8 .before in
+    rw (
+      eq-eqb _ _ (at-if1 .if1 .left),
+      ← at-read-u8 .read-u8 .ensures,
+      at-scale .scale .given .1,
+      ← at-legal-scale .legal-scale .ensures,
+      not-false (at-legal-scale .legal-scale .result) (at-if2 .if2 .left),
+      ← at-after .after .ensures,
+      ← at-read-u16 .read-u16 .ensures,
+      at-start .start .given .1,
+      ne-eqb _ _ (c .if3 .taken),
+    )
 
 returns-6 : tie.Need-returns-6
 unfolding sliceOf only
-returns-6 c = rw (eq-eqb _ _ (c .before .before .before .before .before .before .before .before .before .before .before .before .if1 .left), ← c .before .before .before .before .before .before .before .before .before .before .before .read-u8 .ensures, c .before .before .before .before .before .before .before .before .before .scale .given .1, ← c .before .before .before .before .before .before .before .legal-scale .ensures, not-false (c .before .before .before .before .before .before .before .legal-scale .result) (c .before .before .before .before .before .before .if2 .left), ← c .before .before .before .before .before .after .ensures, ← c .before .before .before .before .read-u16 .ensures, c .before .before .start .given .1, eq-eqb _ _ (c .if3 .left))
+returns-6 c =
+    let at-start = c .before .before in
+    let at-read-u16 = at-start .before .before in
+    let at-after = at-read-u16 .before in
+    let at-if2 = at-after .before in
+    let at-legal-scale = at-if2 .before in
+    let at-scale = at-legal-scale .before .before in
+    let at-read-u8 = at-scale .before .before in
+    let at-if1 = at-read-u8 .before in
+    rw (
+      eq-eqb _ _ (at-if1 .if1 .left),
+      ← at-read-u8 .read-u8 .ensures,
+      at-scale .scale .given .1,
+      ← at-legal-scale .legal-scale .ensures,
+      not-false (at-legal-scale .legal-scale .result) (at-if2 .if2 .left),
+      ← at-after .after .ensures,
+      ← at-read-u16 .read-u16 .ensures,
+      at-start .start .given .1,
+      eq-eqb _ _ (c .if3 .left),
+    )
 
 pub read-slice-spec : {M : Type 1} → statement M
 read-slice-spec =

@@ -1,14 +1,32 @@
--- `read_code` meets its contract: its tests are those of `codeOf`, in the same order. Assumes nothing.
-use borrow.Author.Tests.{not-true, not-false}
-use Rattle.symbols.specs.VectorCodes.{legalCode, legalResidual, codeOf}
-use mathlib.Core.Path.{sym, ap, _∙_}
-use lib.IntN.{ℤ}
-use mir.Syntax.{w16}
-use mir.ValLaws.{toZ-ofZ}
-use Rattle.format3.specs.Chain.{only}
+-- `read_code` meets its contract: its tests are those of `codeOf`, in the same order, on the number that the wider bits stand for. Assumes nothing.
 use borrow.Author.Needs.{needs}
+use borrow.Author.Tests.{not-true, not-false}
+use mathlib.Core.Bool.{Bool}
+use mathlib.Core.Path.{_≡_, sym, ap, _∙_}
+use lib.IntN.{ℤ}
+use mir.Syntax.{w16, w32}
+use Rattle.format3.specs.Chain.{only}
+use Rattle.integers.proofs.Bound.{within-mag}
+use Rattle.integers.proofs.Machine.{Held, parameter, fits, kept}
+use Rattle.motion.specs.Vector.{codeInRange, residualInRange}
+use Rattle.symbols.specs.VectorCodes.{codeOf}
 use Rattle.symbols.proofs.vector_codes.read_code.Statement.{statement}
 use Rattle.symbols.proofs.vector_codes.read_code.Tie as tie
+
+abbrev code : (c : tie.After-known-told) → Held (c .before .code .given .0 .0)
+code c = parameter {w = w16} (record { sfits = c .known-told .given .0 .1 }) (within-mag (c .known-told .given .0 .1))
+
+-- the two tests, of the numbers that were read
+code-test : (c : tie.After-code-in-range) {b : Bool} → c .code-in-range .result ≡ b → codeInRange (c .before .before .code .given .0 .0) ≡ b
+code-test c t = sym (c .code-in-range .ensures ∙ ap codeInRange (kept w32 (code (c .before)) tt .is)) ∙ t
+
+abbrev told : (c : tie.After-residual-in-range) → tie.After-known-told
+told c = c .before .before .before .before .before .before .before .before
+
+residual-test : (c : tie.After-residual-in-range) {b : Bool} → c .residual-in-range .result ≡ b
+    → residualInRange (told c .before .before .before .before .before .args .f) (told c .before .code .given .0 .0) (c .before .before .residual .given .0 .0) ≡ b
+residual-test c t =
+    sym (c .residual-in-range .ensures ∙ ap (λ (z : ℤ). residualInRange (told c .before .before .before .before .before .args .f) z (c .before .before .residual .given .0 .0)) (kept w32 (code (told c)) tt .is)) ∙ t
 
 read-i8-requires : tie.Need-read-i8-requires
 read-i8-requires c κs = search needs
@@ -23,15 +41,17 @@ returns : tie.Need-returns
 unfolding codeOf only
 returns c = rw (← c .before .before .read-i8 .ensures, c .enum-told .given .1)
 
-legal-code-requires : tie.Need-legal-code-requires
-legal-code-requires c κs = search needs
+cast-wide-code : tie.Need-cast-wide-code
+cast-wide-code c = fits (code c) tt
+
+code-in-range-requires : tie.Need-code-in-range-requires
+code-in-range-requires c κs = search needs
 
 returns-2 : tie.Need-returns-2
 unfolding codeOf only
 returns-2 c =
-    let same = toZ-ofZ w16 (c .before .before .before .code .given .0 .0) (record { sfits = c .before .before .known-told .given .0 .1 }) in
-    let code = sym (ap legalCode same) ∙ sym (c .before .legal-code .ensures) ∙ not-true (c .before .legal-code .result) (c .if1 .taken) in
-    rw (← c .before .before .before .before .before .read-i8 .ensures, c .before .before .before .code .given .1, code)
+    let at-code = c .before .before .before in
+    rw (← at-code .before .before .read-i8 .ensures, at-code .code .given .1, code-test (c .before) (not-true (c .before .code-in-range .result) (c .if1 .taken)))
 
 after-requires : tie.Need-after-requires
 after-requires c κs = search needs
@@ -51,52 +71,34 @@ returns-3 c =
     let at-read-u8 = c .before .before in
     let at-after = at-read-u8 .before in
     let at-if1 = at-after .before in
-    let at-legal-code = at-if1 .before in
-    let at-known-told = at-legal-code .before in
-    let at-code = at-known-told .before in
-    let at-read-i8 = at-code .before .before in
-    let same = toZ-ofZ w16 (at-code .code .given .0 .0) (record { sfits = at-known-told .known-told .given .0 .1 }) in
-    let code = sym (ap legalCode same) ∙ sym (at-legal-code .legal-code .ensures) ∙ not-false (at-legal-code .legal-code .result) (at-if1 .if1 .left) in
-    rw (← at-read-i8 .read-i8 .ensures, at-code .code .given .1, code, ← at-after .after .ensures, ← at-read-u8 .read-u8 .ensures, c .enum-told2 .given .1)
+    let at-code = at-if1 .before .before .before in
+    rw (← at-code .before .before .read-i8 .ensures, at-code .code .given .1, code-test (at-if1 .before) (not-false (at-if1 .before .code-in-range .result) (at-if1 .if1 .left)), ← at-after .after .ensures, ← at-read-u8 .read-u8 .ensures, c .enum-told2 .given .1)
 
-legal-residual-requires : tie.Need-legal-residual-requires
-legal-residual-requires c κs = search needs
+cast-residual-in-range : tie.Need-cast-residual-in-range
+cast-residual-in-range c = search needs
+
+residual-in-range-requires : tie.Need-residual-in-range-requires
+residual-in-range-requires c κs = search needs
 
 returns-4 : tie.Need-returns-4
 unfolding codeOf only
 returns-4 c =
-    let at-legal-residual = c .before in
-    let at-residual = at-legal-residual .before .before in
+    let at-residual = c .before .before .before in
     let at-read-u8 = at-residual .before .before in
     let at-after = at-read-u8 .before in
     let at-if1 = at-after .before in
-    let at-legal-code = at-if1 .before in
-    let at-known-told = at-legal-code .before in
-    let at-code = at-known-told .before in
-    let at-read-i8 = at-code .before .before in
-    let start = at-read-i8 .before .before in
-    let same = toZ-ofZ w16 (at-code .code .given .0 .0) (record { sfits = at-known-told .known-told .given .0 .1 }) in
-    let code = sym (ap legalCode same) ∙ sym (at-legal-code .legal-code .ensures) ∙ not-false (at-legal-code .legal-code .result) (at-if1 .if1 .left) in
-    let residual = sym (ap (λ (z : ℤ). legalResidual (start .args .f) z (at-residual .residual .given .0 .0)) same) ∙ sym (at-legal-residual .legal-residual .ensures) ∙ not-true (at-legal-residual .legal-residual .result) (c .if2 .taken) in
-    rw (← at-read-i8 .read-i8 .ensures, at-code .code .given .1, code, ← at-after .after .ensures, ← at-read-u8 .read-u8 .ensures, at-residual .residual .given .1, residual)
+    let at-code = at-if1 .before .before .before in
+    rw (← at-code .before .before .read-i8 .ensures, at-code .code .given .1, code-test (at-if1 .before) (not-false (at-if1 .before .code-in-range .result) (at-if1 .if1 .left)), ← at-after .after .ensures, ← at-read-u8 .read-u8 .ensures, at-residual .residual .given .1, residual-test (c .before) (not-true (c .before .residual-in-range .result) (c .if2 .taken)))
 
 returns-5 : tie.Need-returns-5
 unfolding codeOf only
 returns-5 c =
-    let at-legal-residual = c .before in
-    let at-residual = at-legal-residual .before .before in
+    let at-residual = c .before .before .before in
     let at-read-u8 = at-residual .before .before in
     let at-after = at-read-u8 .before in
     let at-if1 = at-after .before in
-    let at-legal-code = at-if1 .before in
-    let at-known-told = at-legal-code .before in
-    let at-code = at-known-told .before in
-    let at-read-i8 = at-code .before .before in
-    let start = at-read-i8 .before .before in
-    let same = toZ-ofZ w16 (at-code .code .given .0 .0) (record { sfits = at-known-told .known-told .given .0 .1 }) in
-    let code = sym (ap legalCode same) ∙ sym (at-legal-code .legal-code .ensures) ∙ not-false (at-legal-code .legal-code .result) (at-if1 .if1 .left) in
-    let residual = sym (ap (λ (z : ℤ). legalResidual (start .args .f) z (at-residual .residual .given .0 .0)) same) ∙ sym (at-legal-residual .legal-residual .ensures) ∙ not-false (at-legal-residual .legal-residual .result) (c .if2 .left) in
-    rw (same, ← at-read-i8 .read-i8 .ensures, at-code .code .given .1, code, ← at-after .after .ensures, ← at-read-u8 .read-u8 .ensures, at-residual .residual .given .1, residual)
+    let at-code = at-if1 .before .before .before in
+    rw (code (at-if1 .before .before) .is, ← at-code .before .before .read-i8 .ensures, at-code .code .given .1, code-test (at-if1 .before) (not-false (at-if1 .before .code-in-range .result) (at-if1 .if1 .left)), ← at-after .after .ensures, ← at-read-u8 .read-u8 .ensures, at-residual .residual .given .1, residual-test (c .before) (not-false (c .before .residual-in-range .result) (c .if2 .left)))
 
 pub read-code-spec : {M : Type 1} → statement M
 read-code-spec =
@@ -106,13 +108,15 @@ read-code-spec =
     enum-known-code
     enum-told
     returns
-    legal-code-requires
+    cast-wide-code
+    code-in-range-requires
     returns-2
     after-requires
     read-u8-requires
     enum-known-residual
     enum-told-2
     returns-3
-    legal-residual-requires
+    cast-residual-in-range
+    residual-in-range-requires
     returns-4
     returns-5)

@@ -1,6 +1,6 @@
 -- `read_codes` meets its contract: it reads one code after the other, as `codesOf` does. Assumes nothing.
-use Rattle.symbols.specs.VectorCodes.{codesOf}
 use borrow.Author.Needs.{needs}
+use Rattle.symbols.specs.VectorCodes.{codesOf}
 use Rattle.symbols.proofs.vector_codes.read_codes.Statement.{statement}
 use Rattle.symbols.proofs.vector_codes.read_codes.Tie as tie
 

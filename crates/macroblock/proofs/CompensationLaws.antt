@@ -1,0 +1,96 @@
+-- Laws of prediction: what a macroblock whose vectors fit reads is in the planes of the references. Assumes nothing.
+use mathlib.Core.Path.{_≡_, ap}
+use mathlib.Core.Bool.{Bool, true}
+use mathlib.Core.List.{List}
+use Prim.Native.Nat.{ℕ, _+_, _*_, _/_, _%_, _≤_, _<_}
+use native.Mathlib.Nat.{le-refl}
+use native.Mathlib.Omega.{arith}
+use borrow.Author.Tests.{lt-ltb, le-ltb}
+use lib.IntN.{ℤ, pos}
+use lib.ListN.{length}
+use lib.Signed.{_≤ℤ_}
+use mir.Syntax.{w32}
+use Rattle.integers.specs.Bound.{Within}
+use Rattle.integers.proofs.Machine.{Held, number, kept}
+use Rattle.integers.proofs.Difference.{up, dn, of-le, le-of, parts-add}
+use Rattle.motion.specs.Fit.{pointed, halfPelPlace, macroblockFits}
+use Rattle.motion.specs.Vector.{chromaVector}
+use Rattle.motion.proofs.FitLaws.{size-up, Fits, MacroblockFits, luma-known, chroma-known}
+use Rattle.motion.proofs.VectorLaws.{chroma-within}
+use Rattle.picture_header.specs.Size.{bytes}
+use Rattle.macroblock.specs.declared.place.Position.{Position}
+use Rattle.macroblock.specs.declared.compensation.Vector.{Vector}
+use Rattle.macroblock.specs.declared.compensation.Motion.{Motion}
+use Rattle.macroblock.specs.Place.{placeOf, Inside}
+use Rattle.macroblock.specs.Compensation.{vectorFor, VectorWithin, Readable, Predictable}
+use Rattle.macroblock.specs.Fit.{directionFits}
+use Rattle.macroblock.specs.Macroblock.{BlocksDrawable}
+use Rattle.macroblock.proofs.PlaceLaws.{sides, by-plane, lines-inside}
+
+-- a part of a vector, as it is passed on
+abbrev pub passed : {z : ℤ} → Within 2048 z → Held z
+passed small = kept w32 (number small) tt
+
+-- ---- a block that stands `offset` pels inside a macroblock which fits
+module _ {side x width : ℕ} {v : ℤ} (fit : Fits side x width v) (offset : ℕ) where
+  moved : up (pointed (x + offset) v) + dn (pointed x v) ≡ up (pointed x v) + 2 * offset + dn (pointed (x + offset) v)
+  moved = omega (arith, parts-add (pos (2 * x)) v, parts-add (pos (2 * (x + offset))) v)
+
+  pub moved-lower : pos 0 ≤ℤ pointed (x + offset) v
+  moved-lower = le-of _ _ (omega (arith, moved, of-le (fit .lower)))
+
+  pub moved-upper : offset + 8 ≤ side → halfPelPlace (x + offset) v + 16 ≤ 2 * width
+  moved-upper inside =
+      let here = size-up (pointed x v) (fit .lower) in
+      let there = size-up (pointed (x + offset) v) moved-lower in
+      omega (arith, ap up here, ap dn here, ap up there, ap dn there, moved, fit .upper)
+
+-- ---- each block of a macroblock whose vector fits
+pub readable : (p : Position) (v : Vector) (reference : List ℕ) (block : ℕ) → Inside p → VectorWithin 2048 v → block < 6
+    → macroblockFits (p .size .width) (p .size .height) (p .column) (p .row) (v .right) (v .down) ≡ true
+    → length reference ≡ bytes (p .size) → Readable (placeOf p block) (vectorFor block v) reference
+unfolding vectorFor
+readable p v reference block inside small h fits whole = by-plane (λ q. Readable q (vectorFor block v) reference) p block h
+    (λ l. rw (lt-ltb block 4 l) (record {
+      order = omega arith;
+      within = omega (arith, whole);
+      whole = omega (arith, lines-inside 16 (p .size .width) (p .size .height) (16 * p .size .height) (le-refl (16 * p .size .height)));
+      column = omega (arith, sides inside, inside .across);
+      line = omega (arith, sides inside, inside .below);
+      small = small;
+      left = moved-lower (luma .across) (8 * (block % 2));
+      top = moved-lower (luma .below) (8 * (block / 2));
+      across = moved-upper (luma .across) (8 * (block % 2)) (omega arith);
+      below = moved-upper (luma .below) (8 * (block / 2)) (omega arith);
+    }))
+    (λ l from high. rw (le-ltb block 4 l) (record {
+      order = omega arith;
+      within = omega (arith, whole);
+      whole = omega (arith, lines-inside 8 (p .size .width) (p .size .height) (8 * p .size .height) (le-refl (8 * p .size .height)));
+      column = omega (arith, sides inside, inside .across);
+      line = omega (arith, sides inside, inside .below);
+      small = record { across = chroma-within (small .across); below = chroma-within (small .below) };
+      left = chroma .across .lower;
+      top = chroma .below .lower;
+      across = chroma .across .upper;
+      below = chroma .below .upper;
+    }))
+  where
+    luma : MacroblockFits 16 (p .size .width) (p .size .height) (p .column) (p .row) (v .right) (v .down)
+    luma = luma-known (p .size .width) (p .size .height) (p .column) (p .row) (v .right) (v .down) fits
+
+    chroma : MacroblockFits 8 (p .size .width) (p .size .height) (p .column) (p .row) (chromaVector (v .right)) (chromaVector (v .down))
+    chroma = chroma-known (p .size .width) (p .size .height) (p .column) (p .row) (v .right) (v .down) fits
+
+used-fits : (used : Bool) (p : Position) (v : Vector) → used ≡ true → directionFits used p v ≡ true
+    → macroblockFits (p .size .width) (p .size .height) (p .column) (p .row) (v .right) (v .down) ≡ true
+unfolding directionFits
+used-fits used p v e fits = rw e at fits
+
+pub predictable : {p : Position} {m : Motion} {forward backward output : List ℕ} (block : ℕ)
+    → BlocksDrawable p m forward backward output → block < 6 → Predictable m (placeOf p block) block forward backward
+predictable {p} {m} {forward} {backward} block d h = record {
+  small = d .small;
+  forward-readable = λ e. readable p (m .«forward_vector») forward block (d .inside) (d .small .forward) h (used-fits (m .forward) p (m .«forward_vector») e (d .forward-fits)) (d .lent .forward-whole e);
+  backward-readable = λ e. readable p (m .«backward_vector») backward block (d .inside) (d .small .backward) h (used-fits (m .backward) p (m .«backward_vector») e (d .backward-fits)) (d .lent .backward-whole e);
+}

@@ -1,0 +1,55 @@
+-- `fit::fit_of` meets its contract: forward is tested before backward, as the definition does. Assumes nothing.
+use borrow.Author.Tests.{not-true, not-false}
+use mathlib.Core.Path.{_≡_, _∙_, ap, sym}
+use Rattle.macroblock.specs.declared.place.Position.{Position}
+use Rattle.macroblock.specs.Place.{positionOf, Inside}
+use Rattle.macroblock.specs.Fit.{directionFits, fitOf}
+use Rattle.macroblock.proofs.PlaceLaws.{position-inside}
+use borrow.Author.Needs.{needs}
+use Rattle.macroblock.proofs.fit.fit_of.Statement.{statement}
+use Rattle.macroblock.proofs.fit.fit_of.Tie as tie
+
+inside : (c : tie.After-position-of) → Inside (c .position-of .result)
+inside c = let s = c .before in rw (c .position-of .ensures) (position-inside (s .args .address) (s .pre .0) (s .pre .1))
+
+forward-is : (c : tie.After-direction-fits) → let a = c .before .before .before .args in directionFits (a .motion .forward) (positionOf (a .size) (a .address)) (a .motion .«forward_vector») ≡ c .direction-fits .result
+forward-is c = let a = c .before .before .before .args in sym (c .direction-fits .ensures ∙ ap (λ (p : Position). directionFits (a .motion .forward) p (a .motion .«forward_vector»)) (c .before .before .position-of .ensures))
+
+backward-is : (c : tie.After-direction-fits2) → let a = c .before .before .before .before .before .before .args in directionFits (a .motion .backward) (positionOf (a .size) (a .address)) (a .motion .«backward_vector») ≡ c .direction-fits2 .result
+backward-is c = let a = c .before .before .before .before .before .before .args in sym (c .direction-fits2 .ensures ∙ ap (λ (p : Position). directionFits (a .motion .backward) p (a .motion .«backward_vector»)) (c .before .before .before .before .before .position-of .ensures))
+
+position-of-requires : tie.Need-position-of-requires
+position-of-requires c κs = search needs
+
+direction-fits-requires : tie.Need-direction-fits-requires
+direction-fits-requires c κs = (inside (c .before), c .before .before .pre .2 .forward)
+
+returns : tie.Need-returns
+unfolding fitOf
+returns c = rw (forward-is (c .before) ∙ not-true _ (c .if1 .taken))
+
+direction-fits-requires-2 : tie.Need-direction-fits-requires-2
+direction-fits-requires-2 c κs = (inside (c .before .before .before .before), c .before .before .before .before .before .pre .2 .backward)
+
+returns-2 : tie.Need-returns-2
+unfolding fitOf
+returns-2 c =
+    let first = c .before .before .before in
+    rw (forward-is (first .before) ∙ not-false _ (first .if1 .left), backward-is (c .before) ∙ not-true _ (c .if2 .taken))
+
+returns-3 : tie.Need-returns-3
+unfolding fitOf
+returns-3 c =
+    let first = c .before .before .before in
+    rw (forward-is (first .before) ∙ not-false _ (first .if1 .left), backward-is (c .before) ∙ not-false _ (c .if2 .left))
+
+pub fit-of-spec : {M : Type 1} → statement M
+fit-of-spec =
+    tie.close
+    (tie.spec
+    position-of-requires
+    direction-fits-requires
+    returns
+    direction-fits-requires-2
+    returns-2
+    returns-3)

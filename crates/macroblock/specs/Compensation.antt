@@ -1,0 +1,68 @@
+-- The prediction of a block from the references (document 01, "Vectors and prediction").
+use mathlib.Core.Path.{_≡_}
+use mathlib.Core.Bool.{Bool, true, cond}
+use mathlib.Core.List.{List}
+use Prim.Native.Nat.{ℕ, _+_, _-_, _*_, _≤_}
+use lib.Dec.{ltb}
+use lib.IntN.{pos}
+use lib.ListN.{length, take, drop, replicate}
+use lib.Signed.{_≤ℤ_}
+use Rattle.integers.specs.Bound.{Within}
+use Rattle.motion.specs.Fit.{pointed, halfPelPlace}
+use Rattle.motion.specs.Prediction.{prediction, meanOfBoth}
+use Rattle.motion.specs.Vector.{chromaVector}
+use Rattle.macroblock.specs.declared.place.Place.{Place}
+use Rattle.macroblock.specs.declared.compensation.Vector.{Vector}
+use Rattle.macroblock.specs.declared.compensation.Motion.{Motion}
+
+-- "Chroma first halves towards zero": the vector for the plane of a block
+unfoldable pub vectorFor : ℕ → Vector → Vector
+vectorFor block v = cond (ltb block 4) v (record { right = chromaVector (v .right); down = chromaVector (v .down) })
+
+-- the plane of a place, of a picture
+abbrev pub planeOf : Place → List ℕ → List ℕ
+planeOf p picture = take (p .to - p .from) (drop (p .from) picture)
+
+-- the block that a vector for the plane points to
+unfoldable pub predictedFrom : List ℕ → Place → Vector → List ℕ
+predictedFrom reference p v = prediction (planeOf p reference) (p .stride) (halfPelPlace (p .x) (v .right)) (halfPelPlace (p .y) (v .down))
+
+-- one direction, "the mean of both directions", or "0 for intra"
+abbrev pub combined : Bool → Bool → List ℕ → List ℕ → List ℕ
+combined forward backward before after =
+    cond forward (cond backward (meanOfBoth before after) before) (cond backward after (replicate 64 0))
+
+-- the prediction of a block
+unfoldable pub predictedBlock : List ℕ → List ℕ → Motion → Place → ℕ → List ℕ
+predictedBlock forward backward m p block =
+    combined (m .forward) (m .backward)
+    (predictedFrom forward p (vectorFor block (m .«forward_vector»)))
+    (predictedFrom backward p (vectorFor block (m .«backward_vector»)))
+
+-- both parts of a vector are from -b to b
+pub record VectorWithin (b : ℕ) (v : Vector) : Type 0 where
+  pub across : Within b (v .right)
+  pub below : Within b (v .down)
+
+pub record MotionWithin (b : ℕ) (m : Motion) : Type 0 where
+  pub forward : VectorWithin b (m .«forward_vector»)
+  pub backward : VectorWithin b (m .«backward_vector»)
+
+-- the block that a vector for the plane points to is in that plane of the reference
+pub record Readable (p : Place) (v : Vector) (reference : List ℕ) : Type 0 where
+  pub order : p .from ≤ p .to
+  pub within : p .to ≤ length reference
+  pub whole : p .lines * p .stride ≤ p .to - p .from
+  pub column : p .x ≤ 65536
+  pub line : p .y ≤ 65536
+  pub small : VectorWithin 2048 v
+  pub left : pos 0 ≤ℤ pointed (p .x) (v .right)
+  pub top : pos 0 ≤ℤ pointed (p .y) (v .down)
+  pub across : halfPelPlace (p .x) (v .right) + 16 ≤ 2 * p .stride
+  pub below : halfPelPlace (p .y) (v .down) + 16 ≤ 2 * p .lines
+
+-- the same for each direction that is used
+pub record Predictable (m : Motion) (p : Place) (block : ℕ) (forward backward : List ℕ) : Type 0 where
+  pub small : MotionWithin 2048 m
+  pub forward-readable : m .forward ≡ true → Readable p (vectorFor block (m .«forward_vector»)) forward
+  pub backward-readable : m .backward ≡ true → Readable p (vectorFor block (m .«backward_vector»)) backward

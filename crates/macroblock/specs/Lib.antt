@@ -1,0 +1,6 @@
+pub mod Place
+pub mod Compensation
+pub mod Fit
+pub mod Block
+pub mod Macroblock
+pub mod Owner

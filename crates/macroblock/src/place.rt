@@ -1,0 +1,96 @@
+// Where the blocks of a macroblock stand in a picture, and a block put there.
+ghost use mathlib.Core.Path.{_≡_};
+ghost use Prim.Native.Nat.{_+_, _*_, _≤_, _<_};
+ghost use lib.ListN.{length};
+ghost use Rattle.picture_header.specs.Size.{SizeWithin, count};
+ghost use Rattle.macroblock.specs.Place.{positionOf, chromaPlace, placeOf, putAt, Inside, Holds};
+use picture_header::size::PictureSize;
+
+// A macroblock's column and row in a picture of this size.
+pub struct Position {
+    pub size: PictureSize,
+    pub column: usize,
+    pub row: usize,
+}
+
+// A block's place: the part of the picture that is its plane, the length and the count of the plane's lines, and the block's column and line.
+pub struct Place {
+    pub from: usize,
+    pub to: usize,
+    pub stride: usize,
+    pub lines: usize,
+    pub x: usize,
+    pub y: usize,
+}
+
+pub fn position_of(size: PictureSize, address: usize) -> Position
+    requires { ⌜ SizeWithin 396 size ⌝ }
+    ensures { λ r. ⌜ r ≡ positionOf size address ⌝ }
+{
+    let width = size.width;
+    let column = address % width;
+    let row = address / width;
+    Position { size, column, row }
+}
+
+// The place of the chroma block in the plane that starts at `from`.
+fn chroma_place(position: Position, from: usize) -> Place
+    requires { ⌜ Inside position × (from ≤ 320 * count (position .size)) ⌝ }
+    ensures { λ r. ⌜ r ≡ chromaPlace position from ⌝ }
+{
+    let width = position.size.width;
+    let height = position.size.height;
+    let macroblocks = width * height;
+    let to = from + 64 * macroblocks;
+    let stride = 8 * width;
+    let lines = 8 * height;
+    let x = 8 * position.column;
+    let y = 8 * position.row;
+    Place {
+        from,
+        to,
+        stride,
+        lines,
+        x,
+        y,
+    }
+}
+
+// The place of a block: 0 to 3 are Y, left to right, top to bottom, 4 is Cb and 5 is Cr.
+pub fn place_of(position: Position, block: usize) -> Place
+    requires { ⌜ Inside position × (block < 6) ⌝ }
+    ensures { λ r. ⌜ r ≡ placeOf position block ⌝ }
+{
+    let width = position.size.width;
+    let height = position.size.height;
+    let macroblocks = width * height;
+    if block == 4 {
+        return chroma_place(position, 256 * macroblocks);
+    }
+    if block == 5 {
+        return chroma_place(position, 320 * macroblocks);
+    }
+    let to = 256 * macroblocks;
+    let stride = 16 * width;
+    let lines = 16 * height;
+    let x = 16 * position.column + 8 * (block % 2);
+    let y = 16 * position.row + 8 * (block / 2);
+    Place {
+        from: 0,
+        to,
+        stride,
+        lines,
+        x,
+        y,
+    }
+}
+
+// A block put at its place: the part of the output that is its plane is lent on.
+pub fn put(output: &mut [u8], place: Place, block: [u8; 64])
+    requires { ⌜ Holds place (length (now output)) ⌝ }
+    ensures { λ _. ⌜ now (output .exit) ≡ putAt place block (now (output .entry)) ⌝ }
+{
+    let from = place.from;
+    let to = place.to;
+    motion::block::put_block(&mut output[from..to], place.stride, place.x, place.y, block);
+}

@@ -1,0 +1,4 @@
+pub mod RecordLaws
+pub mod SoundLaws
+pub mod ReaderLaws
+pub mod StartLaws

@@ -1,0 +1,51 @@
+-- A file's start (document 01, refusals 1 to 8 and 19 to 21): its version, and its first record, which is the header.
+use mathlib.Core.List.{List}
+use Prim.Native.Nat.{ℕ, _+_}
+use lib.Dec.{eqb, leb}
+use lib.ListN.{length, getD, take, drop}
+use Rattle.refusals.specs.declared.Refusal.the-variants.{FileEmpty, Version, OutOfTurn, FileEnds}
+use Rattle.format3.specs.Chain.{only, _$_}
+use Rattle.format3.specs.Record.{recordOf}
+use Rattle.format3.specs.Turn.{inTurn}
+use Rattle.format3.specs.declared.record.Record.{Record}
+use Rattle.format3.specs.declared.record.Record.the-variants as Record
+use Rattle.format3.specs.declared.turn.Turn.the-variants as Turn
+use Rattle.format3.specs.declared.verdict.Verdict.{Verdict}
+use Rattle.format3.specs.declared.verdict.Verdict.the-variants.{Passed, Refused}
+use Rattle.picture_header.specs.Header.{headerOf}
+use Rattle.picture_header.specs.Lengths.{lengthsOf}
+use Rattle.picture_header.specs.declared.header.Header.{Header}
+use Rattle.picture_header.specs.declared.header.HeaderAnswer.{HeaderAnswer}
+use Rattle.picture_header.specs.declared.header.HeaderAnswer.the-variants as Header
+use Rattle.picture_header.specs.declared.opening.Opened.{Opened}
+use Rattle.picture_header.specs.declared.opening.Opened.the-variants as Opened
+
+-- "The first byte is the version, 3"
+abbrev pub version : ℕ
+version = 3
+
+-- the header's body, which ends at `end`, and the lengths of what the caller lends (6, 8, 19, 20, 21)
+unfoldable pub headerOpened : List ℕ → ℕ → ℕ → ℕ → ℕ → Opened
+headerOpened body end output forward backward = legal (headerOf body)
+  where
+    lent : Header → Verdict → Opened
+    lent h (Refused refusal) = Opened.Refused refusal 1
+    lent h Passed = Opened.Opened h end
+
+    legal : HeaderAnswer → Opened
+    legal (Header.Refused refusal) = Opened.Refused refusal 1
+    legal (Header.Legal h) = lent h (lengthsOf h output forward backward)
+
+-- the file's start, up to its header; "place is the offset of the refused record's length (0 for 1 and 2; file length for 7)"
+unfoldable pub openedOf : List ℕ → ℕ → ℕ → ℕ → Opened
+openedOf file output forward backward =
+    only (leb 1 (length file)) (Opened.Refused FileEmpty 0) $
+    only (eqb (getD file 0 0) version) (Opened.Refused Version 0) $
+    only (leb 2 (length file)) (Opened.Refused FileEnds 1) $
+    found (recordOf file 1)
+  where
+    found : Record → Opened
+    found (Record.Refused refusal) = Opened.Refused refusal 1
+    found (Record.Found kind start n) =
+        only (inTurn Turn.Start kind) (Opened.Refused OutOfTurn 1) $
+        headerOpened (take n (drop start file)) (start + n) output forward backward

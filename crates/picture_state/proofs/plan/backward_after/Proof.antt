@@ -1,0 +1,24 @@
+-- `plan::backward_after` meets its contract: its test is that of the definition. Assumes nothing.
+use mathlib.Core.Path.{sym, _∙_}
+use borrow.Author.Needs.{needs}
+use Rattle.picture_state.proofs.PlanLaws.{backward-decodable}
+use Rattle.picture_state.specs.Plan.{backwardAfter}
+use Rattle.picture_state.proofs.plan.backward_after.Statement.{statement}
+use Rattle.picture_state.proofs.plan.backward_after.Tie as tie
+
+has-backward-requires : tie.Need-has-backward-requires
+has-backward-requires c κs = search needs
+
+decode-requires : tie.Need-decode-requires
+decode-requires c κs = let s = c .before .before .before .before in backward-decodable (s .args .header) (s .args .symbols) (s .args .past) (s .pre .0) (s .pre .1)
+
+returns : tie.Need-returns
+unfolding backwardAfter
+returns c = rw (sym (c .before .before .before .before .has-backward .ensures) ∙ c .before .before .before .if1 .taken) (c .decode .ensures)
+
+returns-2 : tie.Need-returns-2
+unfolding backwardAfter
+returns-2 c = rw (sym (c .before .has-backward .ensures) ∙ c .if1 .left)
+
+pub backward-after-spec : {M : Type 1} → statement M
+backward-after-spec = tie.close (tie.spec has-backward-requires decode-requires returns returns-2)

@@ -1,0 +1,37 @@
+-- `plan::pasts_after` meets its contract: its test is that of the definition, and each direction is its own call. Assumes nothing.
+use mathlib.Core.Path.{sym, _∙_}
+use borrow.Author.Needs.{needs}
+use Rattle.picture_state.specs.Plan.{pastsAfter}
+use Rattle.picture_state.proofs.plan.pasts_after.Statement.{statement}
+use Rattle.picture_state.proofs.plan.pasts_after.Tie as tie
+
+is-intra-requires : tie.Need-is-intra-requires
+is-intra-requires c κs = search needs
+
+zero-pasts-requires : tie.Need-zero-pasts-requires
+zero-pasts-requires c κs = search needs
+
+returns : tie.Need-returns
+unfolding pastsAfter
+returns c = rw (sym (c .before .before .is-intra .ensures) ∙ c .before .if1 .taken) (c .zero-pasts .ensures)
+
+forward-after-requires : tie.Need-forward-after-requires
+forward-after-requires c κs = let s = c .before .before .before .before in (s .pre .0, s .pre .1 .forward)
+
+backward-after-requires : tie.Need-backward-after-requires
+backward-after-requires c κs = let s = c .before .before .before .before .before in (s .pre .0, s .pre .1 .backward)
+
+returns-2 : tie.Need-returns-2
+unfolding pastsAfter
+returns-2 c = rw (sym (c .before .before .before .before .before .is-intra .ensures) ∙ c .before .before .before .before .if1 .left, c .before .forward-after .ensures, c .backward-after .ensures)
+
+pub pasts-after-spec : {M : Type 1} → statement M
+pasts-after-spec =
+    tie.close
+    (tie.spec
+    is-intra-requires
+    zero-pasts-requires
+    returns
+    forward-after-requires
+    backward-after-requires
+    returns-2)

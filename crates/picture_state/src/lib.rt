@@ -1,0 +1,3 @@
+// What a picture keeps from record to record, and what a macroblock's symbols come to.
+pub mod plan;
+pub mod state;
