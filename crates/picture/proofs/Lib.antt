@@ -2,3 +2,4 @@ pub mod RecordLaws
 pub mod SoundLaws
 pub mod ReaderLaws
 pub mod StartLaws
+pub mod DemandLaws

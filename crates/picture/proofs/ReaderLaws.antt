@@ -11,7 +11,6 @@ use Rattle.picture.specs.Sound.{BorrowedBy, Sound}
 use Rattle.picture.specs.Step.{Taken, takenAt}
 use Rattle.transform.specs.Transform.{inverseTransform}
 use Rattle.refusals.specs.declared.Refusal.{Refusal}
-use Rattle.format3.specs.declared.verdict.Verdict.{Verdict}
 use Rattle.format3.specs.declared.verdict.Verdict.the-variants.{Passed, Refused}
 use Rattle.picture_header.specs.declared.header.Header.{Header}
 use Rattle.picture_state.specs.declared.state.PictureState.{PictureState}

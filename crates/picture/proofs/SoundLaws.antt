@@ -42,7 +42,6 @@ use Rattle.macroblock_symbols.specs.declared.MacroblockSymbols.{MacroblockSymbo
 use Rattle.macroblock_symbols.specs.declared.SymbolsAnswer.{SymbolsAnswer}
 use Rattle.macroblock_symbols.specs.declared.SymbolsAnswer.the-variants as Symbols
 use Rattle.picture_state.specs.declared.state.PictureState.{PictureState}
-use Rattle.picture.specs.declared.macroblock_record.Outcome.{Outcome}
 
 -- ---- a macroblock's symbols that were read can be planned and drawn
 codes-within : {f : ℕ} {c : VectorCodes} → 1 ≤ f → CodesKnown f c → CodesWithin f c
