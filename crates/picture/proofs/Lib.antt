@@ -3,3 +3,5 @@ pub mod SoundLaws
 pub mod ReaderLaws
 pub mod StartLaws
 pub mod DemandLaws
+pub mod AcceptanceLaws
+pub mod StopLaws
