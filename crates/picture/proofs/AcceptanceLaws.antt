@@ -2,7 +2,7 @@
 use Prim.Native.Nat.{ℕ, zero, suc, _+_, _-_, _≤_}
 use mathlib.Core.Bool.{Bool, true, false, cond}
 use mathlib.Core.List.{List}
-use mathlib.Core.Path.{_≡_, refl, sym, _∙_, subst}
+use mathlib.Core.Path.{_≡_, refl, sym, ap, _∙_, subst}
 use native.Mathlib.Omega.{arith}
 use lib.Dec.{T, leb, eqb, eqb→eq}
 use lib.IntN.{ℤ}
@@ -21,7 +21,9 @@ use Rattle.picture_state.specs.State.{startState}
 use Rattle.picture.proofs.DemandLaws.{picture-is, unopened}
 use Rattle.picture.proofs.SoundLaws.{taken-kept, start-within}
 use Rattle.picture.proofs.StartLaws.{opened}
-use Rattle.picture.specs.MacroblockRecord.{contextOf, Acted, refused, ownDrawn, drawn, macroblockActed}
+use Rattle.picture.proofs.StopLaws.{picture-stops}
+use Rattle.picture.specs.Stopped.{Reached, Stop, at-record, at-end, reached}
+use Rattle.picture.specs.MacroblockRecord.{contextOf, Acted, ownDrawn, drawn, macroblockActed}
 use Rattle.picture.specs.Picture.{Picture, isComplete, ended, runFrom, pictureOf}
 use Rattle.picture.specs.Sound.{StateWithin}
 use Rattle.picture.specs.Step.{matrixOutcome, sliceOutcome, unwritten, acted, Taken, takenAt}
@@ -190,3 +192,27 @@ module _ (transform : List ℤ → ℕ → ℤ) (file forward backward : List �
   pub unopened-refused : (output : List ℕ) {refusal : Refusal} {place : ℕ} → openedOf file (length output) (length forward) (length backward) ≡ Opened.Refused refusal place
       → pictureOf transform file forward backward output .number ≡ accepted → ⊥
   unopened-refused output {refusal} e = rw (unopened transform file forward backward output e) (number-not-accepted refusal)
+
+  -- accepted exactly when the records pass up to the file's end and every macroblock is made: rules out a reader that refuses anything else
+  pub record Exactly (r : Reached) (p : Picture) : Type 0 where
+    pub only-then : p .number ≡ accepted → (length file ≤ r .offset) × (isComplete (r .state .turn) ≡ true)
+    pub then : length file ≤ r .offset → isComplete (r .state .turn) ≡ true → p .number ≡ accepted
+
+  stop-exactly : (r : Reached) (v : Verdict) (p : Picture) → Stop file r v p → Exactly r p
+  stop-exactly r v p (at-record refusal inside e same) = record {
+    only-then = λ a. absurd (number-not-accepted refusal (sym (ap (λ (q : Picture). q .number) same) ∙ a));
+    then = λ past complete. absurd (omega (arith, inside, past));
+  }
+  stop-exactly r v p (at-end past same) = record {
+    only-then = λ a. (past, done (isComplete (r .state .turn)) refl (sym (ap (λ (q : Picture). q .number) same) ∙ a));
+    then = λ end complete. ap (λ (q : Picture). q .number) same ∙ rw complete;
+  }
+    where
+      done : (b : Bool) → isComplete (r .state .turn) ≡ b → cond b accepted (numberOf R.FileEnds) ≡ accepted → isComplete (r .state .turn) ≡ true
+      done true e a = e
+      done false e a = absurd (number-not-accepted R.FileEnds a)
+
+  pub accepted-exactly : (output : List ℕ) {h : Header} {end : ℕ} (e : openedOf file (length output) (length forward) (length backward) ≡ Opened.Opened h end)
+      → Exactly (reached transform file forward backward (picture-stops transform file forward backward output e .records) (record { offset = end; state = startState h; output = output }))
+      (pictureOf transform file forward backward output)
+  accepted-exactly output e = stop-exactly _ _ _ (picture-stops transform file forward backward output e .stop)

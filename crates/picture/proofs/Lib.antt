@@ -5,3 +5,4 @@ pub mod StartLaws
 pub mod DemandLaws
 pub mod AcceptanceLaws
 pub mod StopLaws
+pub mod EndLaws

@@ -2,7 +2,7 @@
 use Prim.Native.Nat.{ℕ, zero, suc, _+_, _≤_, _<_}
 use mathlib.Core.Bool.{Bool, true, false}
 use mathlib.Core.List.{List}
-use mathlib.Core.Path.{_≡_, refl, sym, ap, subst}
+use mathlib.Core.Path.{_≡_, refl, ap}
 use native.Mathlib.Omega.{arith}
 use borrow.Author.Tests.{leb-true, leb-false}
 use lib.Dec.{leb}
@@ -22,7 +22,7 @@ use Rattle.picture.proofs.StartLaws.{opened}
 use Rattle.picture.specs.Picture.{Picture, refusedAt, runFrom, pictureOf}
 use Rattle.picture.specs.Sound.{StateWithin}
 use Rattle.picture.specs.Step.{Taken, takenAt}
-use Rattle.picture.specs.Stopped.{Reached, Stop, at-record, at-end, reached, verdictAt, Stopped}
+use Rattle.picture.specs.Stopped.{Stop, at-record, at-end, reached, verdictAt, Stopped}
 
 module _ (transform : List ℤ → ℕ → ℤ) (file forward backward : List ℕ) where
   abbrev ran : ℕ → ℕ → PictureState → List ℕ → Picture
