@@ -45,7 +45,7 @@ isComplete Turn.Complete = true
 
 -- the file's end: "7 file ends with macroblocks or the header missing"; "Accepted is 0, file length, N"
 abbrev pub endAnswer : ℕ → PictureState → Answer
-endAnswer length s = record { number = cond (isComplete (s .turn)) accepted (numberOf FileEnds); place = length; made = s .made }
+endAnswer fileLength s = record { number = cond (isComplete (s .turn)) accepted (numberOf FileEnds); place = fileLength; made = s .made }
 
 abbrev pub withOutput : Answer → List ℕ → Picture
 withOutput a output = record { number = a .number; place = a .place; made = a .made; output = output }
