@@ -1,4 +1,4 @@
--- The symbols of a macroblock record, whole (document 01, kind 4, and refusals 6 and 10 to 17).
+-- The symbols of a macroblock record, whole (document 01, kind 4, and refusals 6, 10 and 12 to 17).
 use mathlib.Core.Bool.{Bool, true, cond, _&&_}
 use mathlib.Core.List.{List}
 use mathlib.Core.Path.{_≡_}
