@@ -2,7 +2,6 @@
 use mathlib.Core.Path.{_≡_}
 use Prim.Native.Nat.{ℕ, _^_, _<_}
 use Rattle.accuracy.specs.OrderedRing.{OrderedRing, AtMost, whole}
-use Rattle.accuracy.specs.Ends.{lowEnd, highEnd}
 
 abbrev pub two : (S : OrderedRing) → S .Member
 two S = S .plus (S .unit) (S .unit)

@@ -31,7 +31,7 @@ usesForward type = leb typeP type
 abbrev pub usesBackward : ℕ → Bool
 usesBackward type = leb typeB type
 
--- "full-pel flag (0 or 1)", "An f_code is 1..7 where the type uses that direction; where it doesn't, flag and f_code are 0"
+-- "full-pel forward flag (0 or 1)"; "An f_code is 1..7 where the type uses that direction (P forward, B both); where it doesn't, flag and f_code are 0"
 abbrev pub legalCoding : Bool → ℕ → ℕ → Bool
 legalCoding true flag code = leb flag 1 && leb 1 code && leb code 7
 legalCoding false flag code = eqb flag 0 && eqb code 0
