@@ -6,7 +6,7 @@ use mathlib.Core.Path.{_≡_, refl, sym, ap, _∙_, subst}
 use native.Mathlib.Omega.{arith}
 use lib.Dec.{T, eqb, leb}
 use lib.IntN.{ℤ}
-use lib.ListN.{length, take, drop}
+use lib.ListN.{length, getD, take, drop}
 use borrow.Author.Tests.{leb-true, leb-false}
 use Rattle.refusals.specs.Refusal.{numberOf}
 use Rattle.refusals.specs.declared.Refusal.{Refusal}
@@ -66,10 +66,10 @@ use Rattle.macroblock_symbols.specs.declared.vectors.VectorsAnswer.{VectorsAnsw
 use Rattle.macroblock_symbols.specs.declared.vectors.VectorsAnswer.the-variants as Vectors
 use Rattle.macroblock_symbols.specs.declared.vectors.Vectors.{Vectors}
 use Rattle.picture_state.specs.declared.state.PictureState.{PictureState}
-use Rattle.format3.specs.Chain.{only}
+use Rattle.format3.specs.Chain.{only, _$_}
 use Rattle.picture_header.specs.Header.{headerWith, headerOf}
 use Rattle.picture_header.specs.Lengths.{lengthsOf}
-use Rattle.picture_header.specs.Opening.{headerOpened, openedOf}
+use Rattle.picture_header.specs.Opening.{version, firstHeader, openedOf}
 use Rattle.picture_header.specs.declared.header.Header.{Header}
 use Rattle.picture_header.specs.declared.header.HeaderAnswer.{HeaderAnswer}
 use Rattle.picture_header.specs.declared.header.HeaderAnswer.the-variants as Header
@@ -392,39 +392,46 @@ lengths-not h output forward backward =
     only-all OfVerdict _ _ _ (λ e. omega arith) λ b.
     only-all OfVerdict _ _ _ (λ e. omega arith) λ c. tt
 
-module _ (file : List ℕ) (output forward backward : ℕ) where
-  header-end : (body : List ℕ) (end : ℕ) → OfOpened file (headerOpened body end output forward backward)
-  unfolding headerOpened
-  header-end body end = go (headerOf body) refl (header-not body)
-    where
-      lengths : (h : Header) → headerOf body ≡ Header.Legal h → (v : Verdict) → lengthsOf h output forward backward ≡ v → OfVerdict v → OfOpened file (headerOpened body end output forward backward)
-      lengths h e (Refused refusal) l p = rw (e, l) (λ seven. absurd (p seven))
-      lengths h e Passed l p = rw (e, l) tt
-
-      go : (a : HeaderAnswer) → headerOf body ≡ a → OfHeader a → OfOpened file (headerOpened body end output forward backward)
-      go (Header.Refused refusal) e p = rw e (λ seven. absurd (p seven))
-      go (Header.Legal h) e p = lengths h e (lengthsOf h output forward backward) refl (lengths-not h output forward backward)
-
+module _ (file : List ℕ) where
   short : (b : Bool) (rest : Opened) → leb 2 (length file) ≡ b → leb 1 (length file) ≡ true → OfOpened file rest → OfOpened file (only b (Opened.Refused R.FileEnds 1) rest)
   unfolding only
   short true rest e some p = p
   short false rest e some p = λ seven. omega (arith, leb-true 1 (length file) some, leb-false 2 (length file) e)
 
+  tests-end : (rest : Opened) → OfOpened file rest → OfOpened file (
+      only (leb 1 (length file)) (Opened.Refused R.FileEmpty 0) $
+      only (eqb (getD file 0 0) version) (Opened.Refused R.Version 0) $
+      only (leb 2 (length file)) (Opened.Refused R.FileEnds 1) $
+      rest)
+  tests-end rest p =
+      only-all (OfOpened file) _ _ _ (λ e. absurd (omega arith)) λ some.
+      only-all (OfOpened file) _ _ _ (λ e. absurd (omega arith)) λ version.
+      short _ _ refl some p
+
+  first-end : OfOpened file (firstHeader file)
+  unfolding firstHeader
+  first-end = found (recordOf file 1) refl (record-not file 1)
+    where
+      legal : (kind start n : ℕ) → recordOf file 1 ≡ Record.Found kind start n → (a : HeaderAnswer) → headerOf (take n (drop start file)) ≡ a → OfHeader a → OfOpened file (firstHeader file)
+      legal kind start n e (Header.Refused refusal) l p = rw (e, l) (tests-end _ (only-all (OfOpened file) _ _ _ (λ e. absurd (omega arith)) λ turn. λ seven. absurd (p seven)))
+      legal kind start n e (Header.Legal h) l p = rw (e, l) (tests-end _ (only-all (OfOpened file) _ _ _ (λ e. absurd (omega arith)) λ turn. tt))
+
+      found : (r : Record) → recordOf file 1 ≡ r → OfRecord r → OfOpened file (firstHeader file)
+      found (Record.Refused refusal) e p = rw e (tests-end _ (λ seven. absurd (p seven)))
+      found (Record.Found kind start n) e p = legal kind start n e (headerOf (take n (drop start file))) refl (header-not (take n (drop start file)))
+
+module _ (file : List ℕ) (output forward backward : ℕ) where
   opened-end : OfOpened file (openedOf file output forward backward)
   unfolding openedOf
-  opened-end = go (recordOf file 1) refl (record-not file 1)
+  opened-end = go (firstHeader file) refl
     where
-      go : (r : Record) → recordOf file 1 ≡ r → OfRecord r → OfOpened file (openedOf file output forward backward)
-      go (Record.Refused refusal) e p = rw e (
-          only-all (OfOpened file) _ _ _ (λ e. absurd (omega arith)) λ some.
-          only-all (OfOpened file) _ _ _ (λ e. absurd (omega arith)) λ version.
-          short _ _ refl some (λ seven. absurd (p seven)))
-      go (Record.Found kind start n) e p = rw e (
-          only-all (OfOpened file) _ _ _ (λ e. absurd (omega arith)) λ some.
-          only-all (OfOpened file) _ _ _ (λ e. absurd (omega arith)) λ version.
-          short _ _ refl some (
-          only-all (OfOpened file) _ _ _ (λ e. absurd (omega arith)) λ turn.
-          header-end (take n (drop start file)) (start + n)))
+      lengths : (h : Header) (end : ℕ) → firstHeader file ≡ Opened.Opened h end → (v : Verdict) → lengthsOf h output forward backward ≡ v → OfVerdict v → OfOpened file (openedOf file output forward backward)
+      lengths h end e (Refused refusal) l p = rw (e, l) (λ seven. absurd (p seven))
+      lengths h end e Passed l p = rw (e, l) tt
+
+      go : (x : Opened) → firstHeader file ≡ x → OfOpened file (openedOf file output forward backward)
+      go (Opened.Refused refusal place) e = rw e (subst (OfOpened file) e (first-end file))
+      go (Opened.Opened h end) e = lengths h end e (lengthsOf h output forward backward) refl (lengths-not h output forward backward)
 
 -- 7 is said at the file's end only: rules out a reader that says it of a record, or at the start
 module _ (transform : List ℤ → ℕ → ℤ) (file forward backward output : List ℕ) where

@@ -1,29 +1,23 @@
 -- A header that was opened is legal, what the caller lends has the lengths that it asks, and the next record starts in the file. Assumes nothing.
-use Prim.Native.Nat.{ℕ, _+_, _≤_}
+use Prim.Native.Nat.{ℕ, _≤_}
 use mathlib.Core.Bool.{Bool, true, false}
 use mathlib.Core.List.{List}
 use mathlib.Core.Path.{_≡_, refl, sym, subst}
 use native.Mathlib.Omega.{arith}
 use lib.Dec.{T, eqb, eqb→eq}
-use lib.ListN.{length, take, drop}
+use lib.ListN.{length}
 use Rattle.format3.proofs.Laws.Chain.{only-all}
-use Rattle.format3.proofs.Laws.Record.{Inside, inside}
-use Rattle.format3.specs.Record.{recordOf}
-use Rattle.picture_header.proofs.Laws.Header.{read-within}
-use Rattle.picture_header.specs.Header.{usesForward, usesBackward, headerOf, HeaderWithin}
+use Rattle.picture_header.proofs.Laws.Opening.{begun}
+use Rattle.picture_header.specs.Header.{usesForward, usesBackward, HeaderWithin}
 use Rattle.picture_header.specs.Lengths.{referenceLength, lengthsOf}
-use Rattle.picture_header.specs.Opening.{version, headerOpened, openedOf}
+use Rattle.picture_header.specs.Opening.{firstHeader, openedOf}
 use Rattle.picture_header.specs.Size.{bytes}
 use Rattle.picture.specs.Sound.{BorrowedBy}
 use Rattle.refusals.specs.declared.Refusal.{Refusal}
-use Rattle.format3.specs.declared.record.Record.{Record}
-use Rattle.format3.specs.declared.record.Record.the-variants as Record
 use Rattle.format3.specs.declared.verdict.Verdict.{Verdict}
 use Rattle.format3.specs.declared.verdict.Verdict.the-variants as Verdict
 use Rattle.picture_header.specs.declared.size.PictureSize.{PictureSize}
 use Rattle.picture_header.specs.declared.header.Header.{Header}
-use Rattle.picture_header.specs.declared.header.HeaderAnswer.{HeaderAnswer}
-use Rattle.picture_header.specs.declared.header.HeaderAnswer.the-variants as Answer
 use Rattle.picture_header.specs.declared.opening.Opened.{Opened}
 use Rattle.picture_header.specs.declared.opening.Opened.the-variants as Opened
 
@@ -65,43 +59,27 @@ module _ (file forward backward output : List ℕ) where
   refused-good : {refusal : Refusal} {place : ℕ} → Good (Opened.Refused refusal place)
   refused-good = record { good = λ h end e. let z : _≡_ {A = ℕ} 0 1 = cc in absurd (omega arith) }
 
-  header-good : (body : List ℕ) (end : ℕ) → end ≤ length file → Good (headerOpened body end (length output) (length forward) (length backward))
-  unfolding headerOpened
-  header-good body end inside = go (headerOf body) refl
+  opened-good : Good (openedOf file (length output) (length forward) (length backward))
+  unfolding openedOf
+  opened-good = go (firstHeader file) refl
     where
       sizes : Header → Verdict
       sizes h = lengthsOf h (length output) (length forward) (length backward)
 
-      lengths : (h : Header) → headerOf body ≡ Answer.Legal h → (v : Verdict) → sizes h ≡ v → Good (headerOpened body end (length output) (length forward) (length backward))
-      lengths h e (Verdict.Refused refusal) l = rw (e, l) refused-good
-      lengths h e Verdict.Passed l = rw (e, l) (record {
+      lengths : (h : Header) (end : ℕ) → firstHeader file ≡ Opened.Opened h end → (v : Verdict) → sizes h ≡ v → Good (openedOf file (length output) (length forward) (length backward))
+      lengths h end e (Verdict.Refused refusal) l = rw (e, l) refused-good
+      lengths h end e Verdict.Passed l = rw (e, l) (record {
         good = λ g n same.
             let a : _≡_ {A = Header} h g = cc in
             let b : _≡_ {A = ℕ} end n = cc in
+            let found = begun file e in
             subst (λ (k : Header). Started file forward backward output k n) a (subst (λ (m : ℕ). Started file forward backward output h m) b
-            (record { header = read-within body .within h e; lent = lengths-whole h forward backward output .whole l; in-file = inside }));
+            (record { header = found .header; lent = lengths-whole h forward backward output .whole l; in-file = found .in-file }));
       })
 
-      go : (a : HeaderAnswer) → headerOf body ≡ a → Good (headerOpened body end (length output) (length forward) (length backward))
-      go (Answer.Refused refusal) e = rw e refused-good
-      go (Answer.Legal h) e = lengths h e (sizes h) refl
-
-  opened-good : Good (openedOf file (length output) (length forward) (length backward))
-  unfolding openedOf
-  opened-good = go (recordOf file 1) refl
-    where
-      go : (r : Record) → recordOf file 1 ≡ r → Good (openedOf file (length output) (length forward) (length backward))
-      go (Record.Refused refusal) e = rw e (
-          only-all Good _ _ _ refused-good λ some.
-          only-all Good _ _ _ refused-good λ version.
-          only-all Good _ _ _ refused-good λ more.
-          refused-good)
-      go (Record.Found kind start n) e = rw e (
-          only-all Good _ _ _ refused-good λ some.
-          only-all Good _ _ _ refused-good λ version.
-          only-all Good _ _ _ refused-good λ more.
-          only-all Good _ _ _ refused-good λ turn.
-          header-good (take n (drop start file)) (start + n) (subst (Inside file) e (inside file 1) .fits))
+      go : (x : Opened) → firstHeader file ≡ x → Good (openedOf file (length output) (length forward) (length backward))
+      go (Opened.Refused refusal place) e = rw e refused-good
+      go (Opened.Opened h end) e = lengths h end e (sizes h) refl
 
   pub opened : {h : Header} {end : ℕ} → openedOf file (length output) (length forward) (length backward) ≡ Opened.Opened h end → Started file forward backward output h end
   opened {h} {end} e = opened-good .good h end e

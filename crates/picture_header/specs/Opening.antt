@@ -24,28 +24,32 @@ use Rattle.picture_header.specs.declared.opening.Opened.the-variants as 
 abbrev pub version : ℕ
 version = 3
 
--- the header's body, which ends at `end`, and the lengths of what the caller lends (6, 8, 19, 20, 21)
-unfoldable pub headerOpened : List ℕ → ℕ → ℕ → ℕ → ℕ → Opened
-headerOpened body end output forward backward = legal (headerOf body)
-  where
-    lent : Header → Verdict → Opened
-    lent h (Refused refusal) = Opened.Refused refusal 1
-    lent h Passed = Opened.Opened h end
-
-    legal : HeaderAnswer → Opened
-    legal (Header.Refused refusal) = Opened.Refused refusal 1
-    legal (Header.Legal h) = lent h (lengthsOf h output forward backward)
-
--- the file's start, up to its header; "place is the offset of the refused record's length (0 for 1 and 2; file length for 7)"
-unfoldable pub openedOf : List ℕ → ℕ → ℕ → ℕ → Opened
-openedOf file output forward backward =
+-- the file's start, up to its header (1 to 8); "place is the offset of the refused record's length (0 for 1 and 2; file length for 7)"
+unfoldable pub firstHeader : List ℕ → Opened
+firstHeader file =
     only (leb 1 (length file)) (Opened.Refused FileEmpty 0) $
     only (eqb (getD file 0 0) version) (Opened.Refused Version 0) $
     only (leb 2 (length file)) (Opened.Refused FileEnds 1) $
     found (recordOf file 1)
   where
+    legal : ℕ → HeaderAnswer → Opened
+    legal end (Header.Refused refusal) = Opened.Refused refusal 1
+    legal end (Header.Legal h) = Opened.Opened h end
+
     found : Record → Opened
     found (Record.Refused refusal) = Opened.Refused refusal 1
     found (Record.Found kind start n) =
         only (inTurn Turn.Start kind) (Opened.Refused OutOfTurn 1) $
-        headerOpened (take n (drop start file)) (start + n) output forward backward
+        legal (start + n) (headerOf (take n (drop start file)))
+
+-- "the header ends with 19, 20, 21": then the lengths of what the caller lends
+unfoldable pub openedOf : List ℕ → ℕ → ℕ → ℕ → Opened
+openedOf file output forward backward = go (firstHeader file)
+  where
+    lent : Header → ℕ → Verdict → Opened
+    lent h end (Refused refusal) = Opened.Refused refusal 1
+    lent h end Passed = Opened.Opened h end
+
+    go : Opened → Opened
+    go (Opened.Refused refusal place) = Opened.Refused refusal place
+    go (Opened.Opened h end) = lent h end (lengthsOf h output forward backward)

@@ -1,6 +1,6 @@
 // A file's start: its version, its first record, which is the header, and the lengths of what the caller lends.
 ghost use mathlib.Core.Path.{_≡_};
-ghost use Rattle.picture_header.specs.Opening.{headerOpened, openedOf};
+ghost use Rattle.picture_header.specs.Opening.{firstHeader, openedOf};
 use crate::header::Header;
 use crate::header::HeaderAnswer;
 use format3::record::Record;
@@ -17,25 +17,9 @@ pub enum Opened {
     Refused(Refusal, usize),
 }
 
-// The header's body, which ends at `end`, and the lengths of what the caller lends.
-fn open_header(body: &[u8], end: usize, output: usize, forward: usize, backward: usize) -> Opened
-    ensures { λ r. ⌜ r ≡ headerOpened (now (body .entry)) end output forward backward ⌝ }
-{
-    match crate::header::read_header(body) {
-        HeaderAnswer::Refused(refusal) => Opened::Refused(refusal, 1),
-        HeaderAnswer::Legal(header) => {
-            let lengths = crate::lengths::lent_lengths(header, output, forward, backward);
-            match lengths {
-                Verdict::Refused(refusal) => Opened::Refused(refusal, 1),
-                Verdict::Passed => Opened::Opened(header, end),
-            }
-        }
-    }
-}
-
 // The file's start, up to its header.
-pub fn open(file: &[u8], output: usize, forward: usize, backward: usize) -> Opened
-    ensures { λ r. ⌜ r ≡ openedOf (now (file .entry)) output forward backward ⌝ }
+pub fn first_header(file: &[u8]) -> Opened
+    ensures { λ r. ⌜ r ≡ firstHeader (now (file .entry)) ⌝ }
 {
     if file.len() < 1 {
         return Opened::Refused(Refusal::FileEmpty, 0);
@@ -54,11 +38,30 @@ pub fn open(file: &[u8], output: usize, forward: usize, backward: usize) -> Open
             length,
         } => {
             let due = format3::turn::in_turn(Turn::Start, kind);
-            if due {
-                let end = start + length;
-                return open_header(&file[start..end], end, output, forward, backward);
+            if !due {
+                return Opened::Refused(Refusal::OutOfTurn, 1);
             }
-            Opened::Refused(Refusal::OutOfTurn, 1)
+            let end = start + length;
+            match crate::header::read_header(&file[start..end]) {
+                HeaderAnswer::Refused(refusal) => Opened::Refused(refusal, 1),
+                HeaderAnswer::Legal(header) => Opened::Opened(header, end),
+            }
+        }
+    }
+}
+
+// The file's start, then the lengths of what the caller lends.
+pub fn open(file: &[u8], output: usize, forward: usize, backward: usize) -> Opened
+    ensures { λ r. ⌜ r ≡ openedOf (now (file .entry)) output forward backward ⌝ }
+{
+    match first_header(file) {
+        Opened::Refused(refusal, place) => Opened::Refused(refusal, place),
+        Opened::Opened(header, end) => {
+            let lengths = crate::lengths::lent_lengths(header, output, forward, backward);
+            match lengths {
+                Verdict::Refused(refusal) => Opened::Refused(refusal, 1),
+                Verdict::Passed => Opened::Opened(header, end),
+            }
         }
     }
 }

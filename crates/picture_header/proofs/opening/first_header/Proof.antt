@@ -1,0 +1,125 @@
+-- `picture_header::opening::first_header` meets its contract: each way rewrites with the tests that led there, and a record that is found lies within the file. Assumes nothing.
+use Prim.Native.Nat.{_+_, _≤_}
+use mathlib.Core.Bool.{true}
+use mathlib.Core.Path.{_≡_, sym, _∙_, subst}
+use native.Mathlib.Nat.{add-sub-cancel-left}
+use native.Mathlib.Omega.{arith}
+use borrow.Author.Needs.{needs}
+use borrow.Author.Tests.{le-leb, lt-leb, eq-eqb, ne-eqb, not-true, not-false}
+use lib.Dec.{leb, eqb}
+use lib.ListN.{length, getD}
+use Rattle.format3.proofs.Laws.Record.{Inside, inside}
+use Rattle.format3.specs.Chain.{only}
+use Rattle.picture_header.specs.Opening.{version, firstHeader}
+use Rattle.picture_header.proofs.opening.first_header.Statement.{statement}
+use Rattle.picture_header.proofs.opening.first_header.Tie as tie
+
+-- the tests that were passed before a record is looked for
+abbrev some : (c : tie.Else3) → leb 1 (length (c .before .before .before .before .before .args .file .now)) ≡ true
+some c = le-leb _ _ (c .before .before .before .if1 .left)
+
+abbrev versioned : (c : tie.Else3) → eqb (getD (c .before .before .before .before .before .args .file .now) 0 0) version ≡ true
+versioned c = eq-eqb _ _ (c .before .if2 .left)
+
+abbrev more : (c : tie.Else3) → leb 2 (length (c .before .before .before .before .before .args .file .now)) ≡ true
+more c = le-leb _ _ (c .if3 .left)
+
+-- the header's record lies within the file
+abbrev within : (c : tie.After-kind) → c .kind .given .0 .1 .0 + c .kind .given .0 .1 .1 .0 ≤ length (c .before .before .before .before .before .before .before .before .args .file .now)
+within c = subst (Inside (c .before .before .before .before .before .before .before .before .args .file .now)) (sym (c .before .before .record-at .ensures) ∙ c .kind .given .1) (inside (c .before .before .before .before .before .before .before .before .args .file .now) 1) .fits
+
+returns : tie.Need-returns
+unfolding firstHeader only
+returns c = rw (lt-leb _ _ (c .if1 .taken))
+
+shared-slice-read-if2 : tie.Need-shared-slice-read-if2
+shared-slice-read-if2 c = search needs
+
+returns-2 : tie.Need-returns-2
+unfolding firstHeader only
+returns-2 c = rw (le-leb _ _ (c .before .before .if1 .left), ne-eqb _ _ (c .if2 .taken))
+
+returns-3 : tie.Need-returns-3
+unfolding firstHeader only
+returns-3 c = rw (le-leb _ _ (c .before .before .before .if1 .left), eq-eqb _ _ (c .before .if2 .left), lt-leb _ _ (c .if3 .taken))
+
+record-at-requires : tie.Need-record-at-requires
+record-at-requires c κs = search needs
+
+enum-known-refusal : tie.Need-enum-known-refusal
+enum-known-refusal c = search needs
+
+enum-known-kind : tie.Need-enum-known-kind
+enum-known-kind c = search needs
+
+in-turn-requires : tie.Need-in-turn-requires
+in-turn-requires c κs = search needs
+
+returns-4 : tie.Need-returns-4
+unfolding firstHeader only
+returns-4 c =
+    let t = c .before .before .before .before .before .before in
+    rw (some t, versioned t, more t, ← c .before .before .before .before .before .record-at .ensures, c .before .before .before .kind .given .1, ← c .before .in-turn .ensures, not-true (c .before .in-turn .result) (c .if4 .taken))
+
+add-end : tie.Need-add-end
+add-end c = let w = within (c .before .before .before) in omega arith
+
+sub-read-header : tie.Need-sub-read-header
+sub-read-header c = search needs
+
+part-read-header-start : tie.Need-part-read-header-start
+part-read-header-start c = search needs
+
+part-read-header-end : tie.Need-part-read-header-end
+part-read-header-end c = within (c .before .before .before)
+
+read-header-requires : tie.Need-read-header-requires
+read-header-requires c κs = search needs
+
+enum-known-refusal-2 : tie.Need-enum-known-refusal-2
+enum-known-refusal-2 c = search needs
+
+enum-known-header : tie.Need-enum-known-header
+enum-known-header c = search needs
+
+returns-5 : tie.Need-returns-5
+unfolding firstHeader only
+returns-5 c =
+    let t = c .before .before .before .before in
+    rw (some t, versioned t, more t, ← c .before .before .before .record-at .ensures, c .before .refusal .given .1)
+
+returns-6 : tie.Need-returns-6
+unfolding firstHeader only
+returns-6 c =
+    let t = c .before .before .before .before .before .before .before .before .before .before .before in
+    rw (some t, versioned t, more t, ← c .before .before .before .before .before .before .before .before .before .before .record-at .ensures, c .before .before .before .before .before .before .before .before .kind .given .1, ← c .before .before .before .before .before .before .in-turn .ensures, not-false (c .before .before .before .before .before .before .in-turn .result) (c .before .before .before .before .before .if4 .left), ← rw add-sub-cancel-left at (c .before .before .before .read-header .ensures), c .before .refusal2 .given .1)
+
+returns-7 : tie.Need-returns-7
+unfolding firstHeader only
+returns-7 c =
+    let t = c .before .before .before .before .before .before .before .before .before .before .before in
+    rw (some t, versioned t, more t, ← c .before .before .before .before .before .before .before .before .before .before .record-at .ensures, c .before .before .before .before .before .before .before .before .kind .given .1, ← c .before .before .before .before .before .before .in-turn .ensures, not-false (c .before .before .before .before .before .before .in-turn .result) (c .before .before .before .before .before .if4 .left), ← rw add-sub-cancel-left at (c .before .before .before .read-header .ensures), c .before .header .given .1)
+
+pub first-header-spec : {M : Type 1} → statement M
+first-header-spec =
+    tie.close
+    (tie.spec
+    returns
+    shared-slice-read-if2
+    returns-2
+    returns-3
+    record-at-requires
+    enum-known-refusal
+    enum-known-kind
+    in-turn-requires
+    returns-4
+    add-end
+    sub-read-header
+    part-read-header-start
+    part-read-header-end
+    read-header-requires
+    enum-known-refusal-2
+    enum-known-header
+    returns-5
+    returns-6
+    returns-7)
