@@ -1,0 +1,40 @@
+-- `part_at` meets its contract: its tests are those of `partAt`, in the same order. Assumes nothing.
+use borrow.Author.Tests.{le-leb, lt-leb}
+use Rattle.format3.specs.Chain.{only}
+use Rattle.reel.specs.Part.{partAt}
+use borrow.Author.Needs.{needs}
+use Rattle.reel.proofs.part.part_at.Statement.{statement}
+use Rattle.reel.proofs.part.part_at.Tie as tie
+
+returns : tie.Need-returns
+unfolding partAt only
+returns c = rw (lt-leb _ _ (c .if1 .taken))
+
+sub-if2 : tie.Need-sub-if2
+sub-if2 c = search needs
+
+returns-2 : tie.Need-returns-2
+unfolding partAt only
+returns-2 c = rw (le-leb _ _ (c .before .if1 .left), lt-leb _ _ (c .if2 .taken))
+
+add-start : tie.Need-add-start
+add-start c = search needs
+
+length-at-requires : tie.Need-length-at-requires
+length-at-requires c κs = search needs
+
+sub-if3 : tie.Need-sub-if3
+sub-if3 c = search needs
+
+returns-3 : tie.Need-returns-3
+unfolding partAt only
+returns-3 c = rw (le-leb _ _ (c .before .before .before .if1 .left), le-leb _ _ (c .before .before .if2 .left), ← c .before .length-at .ensures, lt-leb _ _ (c .if3 .taken))
+
+returns-4 : tie.Need-returns-4
+unfolding partAt only
+returns-4 c = rw (le-leb _ _ (c .before .before .before .if1 .left), le-leb _ _ (c .before .before .if2 .left), ← c .before .length-at .ensures, le-leb _ _ (c .if3 .left))
+
+pub part-at-spec : {M : Type 1} → statement M
+part-at-spec =
+    tie.close
+    (tie.spec returns sub-if2 returns-2 add-start length-at-requires sub-if3 returns-3 returns-4)

@@ -1,0 +1,34 @@
+-- `keep` meets its contract: the newer reference moves before the picture takes its place. Assumes nothing.
+use mathlib.Core.Path.{refl}
+use borrow.Author.Needs.{needs}
+use Rattle.reel.proofs.references.keep.Statement.{statement}
+use Rattle.reel.proofs.references.keep.Tie as tie
+
+first-requires : tie.Need-first-requires
+first-requires c κs = search needs
+
+overwrite-requires : tie.Need-overwrite-requires
+overwrite-requires c κs = search needs
+
+overwrite-requires-2 : tie.Need-overwrite-requires-2
+overwrite-requires-2 c κs = search needs
+
+same-length : tie.Need-same-length
+same-length c = search needs
+
+same-length-2 : tie.Need-same-length-2
+same-length-2 c = search needs
+
+returns : tie.Need-returns
+returns c = (refl, (rw (← c .before .before .before .before .before .before .before .before .first .ensures) (c .before .before .before .before .before .before .overwrite .ensures), c .before .before .overwrite2 .ensures))
+
+pub keep-spec : {M : Type 1} → statement M
+keep-spec =
+    tie.close
+    (tie.spec
+    first-requires
+    overwrite-requires
+    overwrite-requires-2
+    same-length
+    same-length-2
+    returns)

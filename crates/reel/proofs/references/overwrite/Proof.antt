@@ -1,0 +1,27 @@
+-- `overwrite` meets its contract: what is copied is as many bytes as fit. Assumes nothing.
+use native.Mathlib.Omega.{arith}
+use lib.ListN.{length, length-take}
+use lib.Seq.{take-all}
+use Rattle.reel.specs.References.{overwritten}
+use borrow.Author.Needs.{needs}
+use Rattle.reel.proofs.references.overwrite.Statement.{statement}
+use Rattle.reel.proofs.references.overwrite.Tie as tie
+
+first-requires : tie.Need-first-requires
+first-requires c κs = search needs
+
+copy-requires : tie.Need-copy-requires
+copy-requires c κs = rw (c .before .first .ensures) (simp length-take (omega arith))
+
+same-length : tie.Need-same-length
+same-length c = search needs
+
+returns : tie.Need-returns
+unfolding overwritten
+returns c =
+    let copied = c .before .before .copy .ensures .1 in
+    let fitting = c .before .before .before .before .first .result .now in
+    rw (← c .before .before .before .before .first .ensures) (rw (take-all (length fitting) fitting (omega arith)) at copied)
+
+pub overwrite-spec : {M : Type 1} → statement M
+overwrite-spec = tie.close (tie.spec first-requires copy-requires same-length returns)

@@ -1,0 +1,4 @@
+pub mod Part
+pub mod References
+pub mod Line
+pub mod Play

@@ -1,0 +1,25 @@
+-- A reel taken apart (document 01, "The program `panel` reads a reel").
+use mathlib.Core.Bool.{Bool}
+use mathlib.Core.List.{List}
+use Prim.Native.Nat.{ℕ, _+_, _*_, _-_}
+use lib.Dec.{ltb, leb}
+use lib.ListN.{length, getD}
+use Rattle.format3.specs.Chain.{only, _$_}
+use Rattle.reel.specs.declared.part.Part.{Part}
+use Rattle.reel.specs.declared.part.Part.the-variants.{File, Cut}
+
+-- "A whole reel above 16,384 bytes prints only `long`"
+abbrev pub isLong : ℕ → Bool
+isLong length = ltb 16384 length
+
+-- the 4-byte length at an offset, big-endian
+abbrev pub lengthAt : List ℕ → ℕ → ℕ
+lengthAt reel at = ((getD reel at 0 * 256 + getD reel (at + 1) 0) * 256 + getD reel (at + 2) 0) * 256 + getD reel (at + 3) 0
+
+-- "per picture a 4-byte length and a file"; "a cut length or file"
+unfoldable pub partAt : List ℕ → ℕ → Part
+partAt reel at =
+    only (leb 4 (length reel)) Cut $
+    only (leb at (length reel - 4)) Cut $
+    only (leb (lengthAt reel at) (length reel - (at + 4))) Cut $
+    File (at + 4) (lengthAt reel at)
