@@ -30,6 +30,10 @@ use Rattle.reel.specs.declared.play.Shown.{Shown}
 use Rattle.reel.specs.declared.play.Shown.the-variants as Shown
 use Rattle.reel.specs.declared.references.Kept.{Kept}
 
+-- the reel's start: no picture yet, and no reference
+abbrev pub firstPosition : Position
+firstPosition = record { at = 0; pictures = 0; kept = record { older = 0; newer = 0 } }
+
 -- the type and the count of macroblocks, 0 each "if there is no kind 1 header or it was refused by 8 or sooner"
 abbrev pub startOf : Opened → PictureStart
 startOf (Opened.Refused refusal place) = record { «coding_type» = 0; macroblocks = 0 }

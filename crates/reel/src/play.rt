@@ -3,7 +3,7 @@ ghost use mathlib.Core.Path.{_≡_};
 ghost use Prim.Native.Nat.{_≤_, min};
 ghost use Rattle.picture.specs.Picture.{answerOf};
 ghost use Rattle.picture_header.specs.Opening.{firstHeader};
-ghost use Rattle.reel.specs.Play.{startOf, lentBytes, madeFrom, finished, playedInto, played, nextOf};
+ghost use Rattle.reel.specs.Play.{firstPosition, startOf, lentBytes, madeFrom, finished, playedInto, played, nextOf};
 use crate::line;
 use crate::line::Line;
 use crate::line::Sums;
@@ -48,6 +48,17 @@ pub enum Shown {
 pub struct Next {
     pub shown: Shown,
     pub position: Position,
+}
+
+// The reel's start, with nothing kept.
+pub fn first_position() -> Position
+    ensures { λ r. ⌜ r ≡ firstPosition ⌝ }
+{
+    Position {
+        at: 0,
+        pictures: 0,
+        kept: Kept { older: 0, newer: 0 },
+    }
 }
 
 // What the start of a file says of its picture.
