@@ -3,3 +3,4 @@ pub mod Cosines
 pub mod About
 pub mod Nearness
 pub mod Accuracy
+pub mod Zeros
