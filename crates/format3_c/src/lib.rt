@@ -1,0 +1,133 @@
+// The entries for C and Rust. Each returns the answer's number, 0 or that of a refusal, and writes the rest of its answer through the
+// pointers that are lent for it. A slice is a pointer and a length. include/format3.h says the same in words.
+ghost use mathlib.Core.Path.{_≡_};
+ghost use mathlib.Core.Bool.{true, false};
+ghost use Rattle.transform.specs.Transform.{inverseTransform};
+ghost use Rattle.transform.specs.Answer.{transformNumber, transformResidues};
+ghost use Rattle.coefficient.specs.Answer.{coefficientNumber, coefficientValue};
+ghost use Rattle.motion.specs.Vector.{decodedNumber, decodedVector};
+ghost use Rattle.format3.specs.Record.{recordOf, answerOf, kindOf, startOf, bodyLengthOf};
+ghost use Rattle.picture.specs.Picture.{pictureOf};
+use format3::record;
+use format3::record::Record;
+use motion::vector;
+use picture::reader;
+
+// The picture of a Format 3 file, from its references into the lent output: number, place, made.
+#[no_mangle]
+pub extern "C" fn format3_reconstruct(
+    file: &[u8],
+    forward: &[u8],
+    backward: &[u8],
+    output: &mut [u8],
+    place: &mut usize,
+    made: &mut usize,
+) -> u32
+    ensures number { λ r. ⌜ r ≡ pictureOf inverseTransform (now (file .entry)) (now (forward .entry)) (now (backward .entry)) (now (output .entry)) .number ⌝ }
+    ensures output { λ _. ⌜ now (output .exit) ≡ pictureOf inverseTransform (now (file .entry)) (now (forward .entry)) (now (backward .entry)) (now (output .entry)) .output ⌝ }
+    ensures place { λ _. ⌜ now (place .exit) ≡ pictureOf inverseTransform (now (file .entry)) (now (forward .entry)) (now (backward .entry)) (now (output .entry)) .place ⌝ }
+    ensures made { λ _. ⌜ now (made .exit) ≡ pictureOf inverseTransform (now (file .entry)) (now (forward .entry)) (now (backward .entry)) (now (output .entry)) .made ⌝ }
+{
+    let answer = reader::reconstruct(file, forward, backward, output);
+    *place = answer.place;
+    *made = answer.made;
+    answer.number
+}
+
+// The residues of any sixty-four numbers, row by row.
+#[no_mangle]
+pub extern "C" fn format3_transform(coefficients: &[i16; 64], residues: &mut [i16; 64]) -> u32
+    ensures number { λ r. ⌜ r ≡ transformNumber (now (coefficients .entry)) ⌝ }
+    ensures residues { λ _. ⌜ now (residues .exit) ≡ transformResidues (now (coefficients .entry)) ⌝ }
+{
+    let answer = transform::transform(*coefficients);
+    let values = answer.residues;
+    *residues = values;
+    answer.number
+}
+
+// The intra AC coefficient of a level.
+#[no_mangle]
+pub extern "C" fn format3_intra_coefficient(
+    level: i32,
+    scale: i32,
+    weight: i32,
+    coefficient: &mut i16,
+) -> u32
+    ensures number { λ r. ⌜ r ≡ coefficientNumber level scale weight ⌝ }
+    ensures coefficient { λ _. ⌜ now (coefficient .exit) ≡ coefficientValue true level scale weight ⌝ }
+{
+    let answer = coefficient::coefficient(true, level, scale, weight);
+    let value = answer.value;
+    *coefficient = value;
+    answer.number
+}
+
+// The coefficient of a level where the macroblock is not intra.
+#[no_mangle]
+pub extern "C" fn format3_non_intra_coefficient(
+    level: i32,
+    scale: i32,
+    weight: i32,
+    coefficient: &mut i16,
+) -> u32
+    ensures number { λ r. ⌜ r ≡ coefficientNumber level scale weight ⌝ }
+    ensures coefficient { λ _. ⌜ now (coefficient .exit) ≡ coefficientValue false level scale weight ⌝ }
+{
+    let answer = coefficient::coefficient(false, level, scale, weight);
+    let value = answer.value;
+    *coefficient = value;
+    answer.number
+}
+
+// A vector from its code and residual and the past, not doubled.
+#[no_mangle]
+pub extern "C" fn format3_vector(
+    f_code: u32,
+    past: i32,
+    code: i32,
+    residual: u32,
+    vector: &mut i32,
+) -> u32
+    ensures number { λ r. ⌜ r ≡ decodedNumber «f_code» past code residual ⌝ }
+    ensures vector { λ _. ⌜ now (vector .exit) ≡ decodedVector «f_code» past code residual ⌝ }
+{
+    let decoded = vector::decode_vector(f_code, past, code, residual);
+    let value = decoded.vector;
+    *vector = value;
+    decoded.number
+}
+
+// The record at an offset: its kind, and where its body starts and how long that is; zeros where it is refused.
+#[no_mangle]
+pub extern "C" fn format3_show_record(
+    file: &[u8],
+    offset: usize,
+    kind: &mut usize,
+    start: &mut usize,
+    length: &mut usize,
+) -> u32
+    ensures number { λ r. ⌜ r ≡ answerOf (recordOf (now (file .entry)) offset) ⌝ }
+    ensures kind { λ _. ⌜ now (kind .exit) ≡ kindOf (recordOf (now (file .entry)) offset) ⌝ }
+    ensures start { λ _. ⌜ now (start .exit) ≡ startOf (recordOf (now (file .entry)) offset) ⌝ }
+    ensures length { λ _. ⌜ now (length .exit) ≡ bodyLengthOf (recordOf (now (file .entry)) offset) ⌝ }
+{
+    match record::record_at(file, offset) {
+        Record::Found {
+            kind: found,
+            start: from,
+            length: count,
+        } => {
+            *kind = found as usize;
+            *start = from;
+            *length = count;
+            refusals::ACCEPTED
+        }
+        Record::Refused(refusal) => {
+            *kind = 0;
+            *start = 0;
+            *length = 0;
+            refusals::number(refusal)
+        }
+    }
+}
