@@ -1,6 +1,7 @@
 //! Tests of the definitions against the world: another decoder of Format 3, cases made for both decoders, fixtures of
 //! another codec, and the IEEE P1180 measurement. Nothing here is shared with the crates that are tested.
 
+use std::path::Path;
 use std::process::ExitCode;
 
 pub mod compare;
@@ -21,5 +22,14 @@ pub fn exit_code(program: &str, result: Result<(), String>) -> ExitCode {
             eprintln!("{program}: {failure}");
             ExitCode::FAILURE
         }
+    }
+}
+
+/// The program after a leading `--panel`, if there is one, and the other arguments.
+pub fn panel_argument(arguments: &[String]) -> Result<(Option<&Path>, &[String]), String> {
+    match arguments {
+        [option, program, rest @ ..] if option == "--panel" => Ok((Some(Path::new(program)), rest)),
+        [option, ..] if option == "--panel" => Err("--panel needs a program".into()),
+        _ => Ok((None, arguments)),
     }
 }

@@ -47,7 +47,7 @@ extern "C" {
         coefficient: *mut i16,
     ) -> u32;
 
-    fn format3_vector(f_code: i32, past: i32, code: i32, residual: i32, vector: *mut i32) -> u32;
+    fn format3_vector(f_code: u32, past: i32, code: i32, residual: u32, vector: *mut i32) -> u32;
 
     fn format3_show_record(
         file: *const u8,
@@ -100,8 +100,10 @@ fn coefficient(entry: Coefficient, level: i32, scale: i32, weight: i32) -> (u32,
     (number, coefficient)
 }
 
+/// A negative f_code or residual comes to one far above its range, as it does in C.
 fn vector(f_code: i32, past: i32, code: i32, residual: i32) -> (u32, i32) {
     let mut vector = UNWRITTEN as i32;
+    let (f_code, residual) = (f_code as u32, residual as u32);
     // SAFETY: the pointer is of a live number.
     let number = unsafe { format3_vector(f_code, past, code, residual, &mut vector) };
     (number, vector)

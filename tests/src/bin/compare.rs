@@ -1,14 +1,14 @@
-//! `compare PANEL [COUNT [SEED]]`: the exported library and the program `panel` against the other decoder, on COUNT single
-//! pictures and COUNT reels, and on the edges of every other entry. A small COUNT fails: it brings about too few answers.
+//! `compare [--panel PROGRAM] [COUNT [SEED]]`: the exported library against the other decoder on COUNT single pictures and on
+//! the edges of every other entry, and the program `panel`, if given, on COUNT reels. A small COUNT fails: it brings about
+//! too few answers.
 
-use std::path::Path;
 use std::process::ExitCode;
 
 use format3_tests::compare::{
     changed_fields, coefficients, panel, pictures, require_every_answer, transforms, vectors,
 };
-use format3_tests::exit_code;
 use format3_tests::library::ENTRIES;
+use format3_tests::{exit_code, panel_argument};
 
 /// Enough for every size of a picture that fits: they take turns in every fourth case.
 const COUNT: u64 = 4000;
@@ -20,19 +20,23 @@ fn main() -> ExitCode {
 }
 
 fn run(arguments: &[String]) -> Result<(), String> {
-    let number = |index: usize, default: u64| match arguments.get(index) {
+    let (program, numbers) = panel_argument(arguments)?;
+    let number = |index: usize, default: u64| match numbers.get(index) {
         Some(argument) => argument
             .parse()
             .map_err(|_| format!("no number: {argument}")),
         None => Ok(default),
     };
-    let program = arguments
-        .first()
-        .ok_or("usage: compare PANEL [COUNT [SEED]]")?;
-    compare(Path::new(program), number(1, COUNT)?, number(2, SEED)?)
+    let (count, seed) = (number(0, COUNT)?, number(1, SEED)?);
+    compare_entries(count, seed)?;
+    if let Some(program) = program {
+        println!("{} lines of {count} reels", panel(program, seed, count)?);
+    }
+    println!("no difference");
+    Ok(())
 }
 
-fn compare(program: &Path, count: u64, seed: u64) -> Result<(), String> {
+fn compare_entries(count: u64, seed: u64) -> Result<(), String> {
     println!("{} coefficients", coefficients(&ENTRIES)?);
     println!("{} vectors", vectors(&ENTRIES)?);
     println!("{} blocks", transforms(&ENTRIES, seed, 20_000)?);
@@ -41,8 +45,5 @@ fn compare(program: &Path, count: u64, seed: u64) -> Result<(), String> {
     }
     let counts = pictures(&ENTRIES, seed, count)?;
     println!("{count} pictures, by answer: {counts:?}");
-    require_every_answer(&counts)?;
-    println!("{} lines of {count} reels", panel(program, seed, count)?);
-    println!("no difference");
-    Ok(())
+    require_every_answer(&counts)
 }

@@ -1,29 +1,34 @@
-//! `fixtures PANEL`: the exported library and the program `panel` against the fixtures.
+//! `fixtures [--panel PROGRAM]`: the exported library, and the program `panel`, if given, against the fixtures.
 
 use std::path::Path;
 use std::process::ExitCode;
 
 use format3_tests::compare::run_panel;
-use format3_tests::exit_code;
 use format3_tests::fixtures::{panel_fixtures, stream_fixtures};
 use format3_tests::library::ENTRIES;
+use format3_tests::{exit_code, panel_argument};
 
 fn main() -> ExitCode {
-    let result = match std::env::args().nth(1) {
-        Some(program) => check(Path::new(&program)),
-        None => Err("usage: fixtures PANEL".into()),
-    };
-    exit_code("fixtures", result)
+    let arguments: Vec<String> = std::env::args().skip(1).collect();
+    exit_code("fixtures", run(&arguments))
 }
 
-fn check(program: &Path) -> Result<(), String> {
-    for fixture in panel_fixtures() {
-        fixture.check(&run_panel(program, &fixture.reel)?)?;
-        println!("{}: as expected by panel", fixture.name);
-    }
+fn run(arguments: &[String]) -> Result<(), String> {
     for fixture in stream_fixtures() {
         fixture.check(ENTRIES.reconstruct)?;
         println!("{}: as expected by the library", fixture.name);
+    }
+    match panel_argument(arguments)? {
+        (Some(program), []) => check_panel(program),
+        (None, []) => Ok(()),
+        _ => Err("usage: fixtures [--panel PROGRAM]".into()),
+    }
+}
+
+fn check_panel(program: &Path) -> Result<(), String> {
+    for fixture in panel_fixtures() {
+        fixture.check(&run_panel(program, &fixture.reel)?)?;
+        println!("{}: as expected by panel", fixture.name);
     }
     Ok(())
 }

@@ -1,0 +1,130 @@
+/* figures: every entry called from C at figures of document 01. Prints each that is not as it should be, and fails. */
+#include <stdint.h>
+#include <stdio.h>
+
+#include "format3.h"
+
+static int failures;
+
+static void expect(const char *what, long expected, long found)
+{
+    if (expected == found)
+        return;
+    printf("%s: expected %ld, found %ld\n", what, expected, found);
+    failures++;
+}
+
+static void intra(int32_t level, int32_t scale, int32_t weight, uint32_t number, long expected)
+{
+    int16_t coefficient = -1;
+    expect("intra answer", number, format3_intra_coefficient(level, scale, weight, &coefficient));
+    expect("intra coefficient", expected, coefficient);
+}
+
+static void non_intra(int32_t level, int32_t scale, int32_t weight, uint32_t number, long expected)
+{
+    int16_t coefficient = -1;
+    expect("non-intra answer", number, format3_non_intra_coefficient(level, scale, weight, &coefficient));
+    expect("non-intra coefficient", expected, coefficient);
+}
+
+static void coefficients(void)
+{
+    intra(1, 1, 16, FORMAT3_ACCEPTED, 1);
+    intra(1, 1, 1, FORMAT3_ACCEPTED, 0);
+    intra(-255, 31, 83, FORMAT3_ACCEPTED, -2048);
+    intra(256, 1, 16, FORMAT3_NUMBER_OUT_OF_RANGE, 0);
+    non_intra(1, 1, 16, FORMAT3_ACCEPTED, 3);
+    non_intra(-1, 2, 16, FORMAT3_ACCEPTED, -5);
+    non_intra(1, 32, 16, FORMAT3_NUMBER_OUT_OF_RANGE, 0);
+}
+
+static void vector(uint32_t f_code, int32_t past, int32_t code, uint32_t residual, uint32_t number, long expected)
+{
+    int32_t found = -1;
+    expect("vector answer", number, format3_vector(f_code, past, code, residual, &found));
+    expect("vector", expected, found);
+}
+
+static void vectors(void)
+{
+    vector(1, 15, 1, 0, FORMAT3_ACCEPTED, -16);
+    vector(2, 0, 1, 0, FORMAT3_ACCEPTED, 1);
+    vector(2, 0, -1, 0, FORMAT3_ACCEPTED, -1);
+    vector(8, 0, 1, 0, FORMAT3_NUMBER_OUT_OF_RANGE, 0);
+}
+
+/* A DC coefficient alone gives 64 times one number. */
+static void transformed(int16_t dc, uint32_t number, long expected)
+{
+    int16_t coefficients[64] = {0}, residues[64] = {0};
+    coefficients[0] = dc;
+    residues[63] = -1;
+    expect("transform answer", number, format3_transform(coefficients, residues));
+    for (int k = 0; k < 64; k++)
+        expect("residue", expected, residues[k]);
+}
+
+static void transforms(void)
+{
+    transformed(8, FORMAT3_ACCEPTED, 1);
+    transformed(4, FORMAT3_ACCEPTED, 0);
+    transformed(2040, FORMAT3_ACCEPTED, 255);
+    transformed(2048, FORMAT3_NUMBER_OUT_OF_RANGE, 0);
+}
+
+/* The worked reel's first file: a grey picture of one macroblock. */
+static const uint8_t GREY[41] = {3, 0, 8, 1, 1, 1, 1, 0, 0, 0, 0, 0, 4, 3, 8, 0, 0, 0, 22, 4, 16, 0, 1};
+
+static void shown(size_t file_length, size_t offset, uint32_t number, long expected_kind, long expected_start, long expected_length)
+{
+    size_t kind = 9, start = 9, length = 9;
+    expect("record answer", number, format3_show_record(GREY, file_length, offset, &kind, &start, &length));
+    expect("record kind", expected_kind, (long)kind);
+    expect("record start", expected_start, (long)start);
+    expect("record length", expected_length, (long)length);
+}
+
+static void records(void)
+{
+    shown(sizeof GREY, 1, FORMAT3_ACCEPTED, FORMAT3_KIND_HEADER, 4, 7);
+    shown(sizeof GREY, 11, FORMAT3_ACCEPTED, FORMAT3_KIND_SLICE, 14, 3);
+    shown(sizeof GREY, 17, FORMAT3_ACCEPTED, FORMAT3_KIND_MACROBLOCK, 20, 21);
+    shown(sizeof GREY - 1, 17, FORMAT3_RECORD_CUT, 0, 0, 0);
+    shown(sizeof GREY, 0, FORMAT3_RECORD_CUT, 0, 0, 0);
+    shown(sizeof GREY, 4, FORMAT3_RECORD_CUT, 0, 0, 0);
+    shown(0, 0, FORMAT3_RECORD_CUT, 0, 0, 0);
+}
+
+static void picture(size_t file_length, size_t output_length, uint32_t number, long expected_place, long expected_made)
+{
+    uint8_t output[384];
+    size_t place = 9, made = 9;
+    for (int k = 0; k < 384; k++)
+        output[k] = 7;
+    expect("picture answer", number,
+        format3_reconstruct(GREY, file_length, NULL, 0, NULL, 0, output, output_length, &place, &made));
+    expect("place", expected_place, (long)place);
+    expect("made", expected_made, (long)made);
+    for (int k = 0; k < 384; k++)
+        expect("pel", expected_made == 1 ? 128 : 7, output[k]);
+}
+
+static void pictures(void)
+{
+    picture(sizeof GREY, 384, FORMAT3_ACCEPTED, 41, 1);
+    picture(sizeof GREY, 383, FORMAT3_OUTPUT_LENGTH, 1, 0);
+    picture(sizeof GREY - 1, 384, FORMAT3_RECORD_CUT, 17, 0);
+    picture(17, 384, FORMAT3_FILE_ENDS, 17, 0);
+    picture(0, 384, FORMAT3_FILE_EMPTY, 0, 0);
+}
+
+int main(void)
+{
+    coefficients();
+    vectors();
+    transforms();
+    records();
+    pictures();
+    return failures == 0 ? 0 : 1;
+}

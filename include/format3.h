@@ -1,0 +1,121 @@
+/* Format 3 pictures: from macroblock symbols to pels.
+ *
+ * The library libformat3_c.a holds the entries declared here. They are proved: each takes every input, ends, never does
+ * anything undefined, and answers what is said of it below for all files, numbers and lengths. `crates/format3_c` has
+ * the same as equations.
+ *
+ * What the caller must see to, since nothing in C can check it:
+ *   - a pointer and the length after it are of one buffer that may be read (or written, where it is not const) whole;
+ *     where the length is 0 the pointer is never used, and may be null;
+ *   - every other pointer is of one object of its type, or of the 64 that are said, aligned as C aligns it, not null;
+ *   - what is written through one pointer overlaps nothing that another pointer of the same call is of: not the output
+ *     a reference or the file, nor `place` `made`. What is only read may overlap: both references may be one picture;
+ *   - nobody else writes these buffers during the call.
+ * Nothing is allocated or kept from call to call, so the entries may be called from several threads at once.
+ *
+ * Every entry returns one of the numbers of `enum format3_answer`, and writes everything that its pointers are for,
+ * whatever the number. */
+#ifndef FORMAT3_H
+#define FORMAT3_H
+
+#include <stddef.h>
+#include <stdint.h>
+
+#ifdef __cplusplus
+extern "C" {
+#endif
+
+/* The answers, by who can cause them. */
+enum format3_answer {
+    FORMAT3_ACCEPTED = 0,
+
+    /* the writer of the file */
+    FORMAT3_FILE_EMPTY = 1,          /* the file has no byte */
+    FORMAT3_VERSION = 2,             /* its first byte is not 3 */
+    FORMAT3_RECORD_CUT = 3,          /* fewer than 3 bytes left, a length of 0, or one past the file's end */
+    FORMAT3_RECORD_KIND = 4,         /* a kind that is not 1..4 */
+    FORMAT3_OUT_OF_TURN = 5,         /* a record of a legal kind that may not stand where it does */
+    FORMAT3_BODY_LENGTH = 6,         /* a body too short for its fields, or with bytes left over */
+    FORMAT3_FILE_ENDS = 7,           /* the file ends with macroblocks or the header missing */
+
+    /* the encoder */
+    FORMAT3_HEADER = 8,              /* a size, type, flag or f_code in the header */
+    FORMAT3_MATRIX = 9,              /* which matrix, one given twice, a weight of 0, an intra first weight that is not 8 */
+    FORMAT3_QUANTIZER_SCALE = 10,    /* a scale that is not 1..31 */
+    FORMAT3_SLICE_START = 11,        /* a slice that does not start at the next address */
+    FORMAT3_MACROBLOCK_TYPE = 12,    /* a type that the picture's type does not have */
+    FORMAT3_ADDRESS_INCREMENT = 13,  /* 0, past the last address, not 1 first in a slice, or a skip that is not allowed */
+    FORMAT3_VECTOR_CODE = 14,        /* a motion code or residual */
+    FORMAT3_PATTERN = 15,            /* a pattern that is not 1..63 */
+    FORMAT3_COEFFICIENT = 16,        /* a count of pairs, a level, or a position past 63 */
+    FORMAT3_DC_COEFFICIENT = 17,     /* a DC difference outside -255..255, or a DC outside 0..2040 */
+    FORMAT3_VECTOR_OUTSIDE = 18,     /* a vector that leaves the reference picture */
+
+    /* the caller */
+    FORMAT3_OUTPUT_LENGTH = 19,      /* the output is not 384 bytes a macroblock */
+    FORMAT3_FORWARD_LENGTH = 20,     /* the forward reference is not as long as the output, or not empty where unused */
+    FORMAT3_BACKWARD_LENGTH = 21,    /* the backward reference likewise */
+    FORMAT3_NUMBER_OUT_OF_RANGE = 22 /* a number given to the transform, a coefficient or the vector entry */
+};
+
+/* A picture of N macroblocks, at most 48 wide, 36 high and 396 in all, is 384 x N bytes. */
+enum format3_limit {
+    FORMAT3_WIDEST = 48,
+    FORMAT3_HIGHEST = 36,
+    FORMAT3_MOST_MACROBLOCKS = 396,
+    FORMAT3_MACROBLOCK_BYTES = 384
+};
+
+/* The kinds of records. A header's body has width and height in macroblocks, then the picture's type: 1 I, 2 P, 3 B. */
+enum format3_kind {
+    FORMAT3_KIND_HEADER = 1,
+    FORMAT3_KIND_MATRIX = 2,
+    FORMAT3_KIND_SLICE = 3,
+    FORMAT3_KIND_MACROBLOCK = 4
+};
+
+/* The picture of a Format 3 file, from its references into the output.
+ *
+ * The output is a picture's bytes: the Y plane, 16 pels by 16 lines a macroblock, then the Cb plane, then the Cr plane,
+ * 8 by 8 a macroblock, each row by row. A reference is such a picture of the same count of macroblocks: P pictures use
+ * the forward one, B pictures both, and one that is not used has the length 0.
+ *
+ * Answers 0 to 21. Accepted (0): all N macroblocks are in the output, `place` is the file's length and `made` is N.
+ * Refused: `place` is the offset in the file of the length of the first record that is refused (0 for 1 and 2, the
+ * file's length for 7), and `made` is the count of macroblocks written: those of the records before that one are in
+ * the output, in the order of their addresses, and every other byte of the output is as it was before the call. */
+uint32_t format3_reconstruct(
+    const uint8_t *file, size_t file_length,
+    const uint8_t *forward, size_t forward_length,
+    const uint8_t *backward, size_t backward_length,
+    uint8_t *output, size_t output_length,
+    size_t *place, size_t *made);
+
+/* The inverse transform of 64 coefficients, row by row, the row being the vertical frequency, to 64 residues of
+ * -256..255. The exact sums are within 9/16 of those with the cosines before they are limited.
+ * Answers 22 where a coefficient is outside -2048..2047, and then the residues are zeros. */
+uint32_t format3_transform(const int16_t coefficients[64], int16_t residues[64]);
+
+/* The coefficient of a level: intra AC, and of a macroblock that is not intra.
+ * Answers 22 where the level is outside -255..255, the scale outside 1..31 or the weight outside 1..255, and then the
+ * coefficient is 0. A level of 0 gives 0. */
+uint32_t format3_intra_coefficient(int32_t level, int32_t scale, int32_t weight, int16_t *coefficient);
+uint32_t format3_non_intra_coefficient(int32_t level, int32_t scale, int32_t weight, int16_t *coefficient);
+
+/* A component of a motion vector, in the unit of its picture's full-pel flag: what the past keeps, not doubled.
+ * With f = 2^(f_code - 1), answers 22 where the f_code is outside 1..7, the past outside -16f..16f-1, the code outside
+ * -16..16, or the residual is f or more, or not 0 with a code of 0; and then the vector is 0. */
+uint32_t format3_vector(uint32_t f_code, int32_t past, int32_t code, uint32_t residual, int32_t *vector);
+
+/* The record at an offset of a file: its kind, and where in the file its body starts and how long that is. The next
+ * record is at `start` + `length`; the first of a file is at 1.
+ * Answers 0, 3 (also for an offset at or past the file's end) or 4; where it is refused, all three are 0. */
+uint32_t format3_show_record(
+    const uint8_t *file, size_t file_length, size_t offset,
+    size_t *kind, size_t *start, size_t *length);
+
+#ifdef __cplusplus
+}
+#endif
+
+#endif
