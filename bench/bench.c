@@ -1,0 +1,261 @@
+/* The exported library beside plain C of the same algorithm.
+ *
+ *   bench compare REEL..              both make the same pictures and refusals: answers and every byte
+ *   bench time REEL..                 pictures and macroblocks a second, repeated until they are stable
+ *   bench reel WHO NUMBER REEL        decodes one picture of a reel once, inside measured(), for an instruction counter
+ *   bench made WHO KIND BLOCKS PAIRS  the same for a made picture
+ *   bench transform WHO               the same for the transform of one block
+ *   bench census NUMBER REEL          what a picture of a reel is made of
+ *
+ * WHO is library or plain; KIND is intra, whole, half or mixed. bench/run calls all of it. */
+#include <stdbool.h>
+#include <stdint.h>
+#include <stdio.h>
+#include <stdlib.h>
+#include <string.h>
+#include <time.h>
+
+#include "format3.h"
+#include "job.h"
+#include "plain.h"
+
+typedef uint32_t reconstruct_function(
+    const uint8_t *file, size_t file_length,
+    const uint8_t *forward, size_t forward_length,
+    const uint8_t *backward, size_t backward_length,
+    uint8_t *output, size_t output_length,
+    size_t *place, size_t *made);
+
+struct answer {
+    uint32_t number;
+    size_t place;
+    size_t made;
+};
+
+enum { MOST_BYTES = FORMAT3_MACROBLOCK_BYTES * FORMAT3_MOST_MACROBLOCKS };
+
+static struct answer run(reconstruct_function *reconstruct, const struct job *job, uint8_t *output)
+{
+    struct answer answer;
+    answer.number = reconstruct(
+        job->file, job->file_length, job->forward, job->forward_length, job->backward, job->backward_length,
+        output, job->picture_length, &answer.place, &answer.made);
+    return answer;
+}
+
+/* ---- comparing */
+
+static bool same(const struct job *job)
+{
+    static uint8_t ours[MOST_BYTES], theirs[MOST_BYTES];
+    memset(ours, 0x5a, job->picture_length);
+    memset(theirs, 0x5a, job->picture_length);
+    struct answer library = run(format3_reconstruct, job, ours), plain = run(plain_reconstruct, job, theirs);
+    return library.number == plain.number && library.place == plain.place && library.made == plain.made
+        && memcmp(ours, theirs, job->picture_length) == 0;
+}
+
+/* The file with a byte changed, at places spread over it. */
+static bool same_when_damaged(const struct job *job, int times)
+{
+    for (int k = 0; k < times; k++) {
+        uint8_t *byte = job->file + job->file_length * k / times;
+        uint8_t kept = *byte;
+        *byte = (uint8_t)(kept ^ 1 << k % 8);
+        bool equal = same(job);
+        *byte = kept;
+        if (!equal)
+            return false;
+    }
+    return true;
+}
+
+static int compare(char **reels, int count)
+{
+    for (int k = 0; k < count; k++) {
+        struct jobs jobs = jobs_of_reel(reels[k]);
+        for (int number = 0; number < jobs.count; number++) {
+            if (!same(&jobs.job[number]) || !same_when_damaged(&jobs.job[number], 40)) {
+                printf("%s: picture %d differs\n", reels[k], number + 1);
+                return 1;
+            }
+        }
+        printf("%s: %d pictures, and each damaged 40 times: equal\n", reels[k], jobs.count);
+    }
+    return 0;
+}
+
+/* ---- timing */
+
+enum { FEWEST_ROUNDS = 20, MOST_ROUNDS = 400 };
+
+static double now(void)
+{
+    struct timespec time;
+    clock_gettime(CLOCK_MONOTONIC, &time);
+    return (double)time.tv_sec + 1e-9 * (double)time.tv_nsec;
+}
+
+/* The seconds that all pictures of a reel take. */
+static double round_of(reconstruct_function *reconstruct, struct jobs jobs)
+{
+    static uint8_t output[MOST_BYTES];
+    double start = now();
+    for (int k = 0; k < jobs.count; k++)
+        run(reconstruct, &jobs.job[k], output);
+    return now() - start;
+}
+
+/* Takes the better time, and answers whether it is better by more than a hundredth. */
+static bool improves(double *best, double seconds)
+{
+    bool better = seconds < 0.99 * *best;
+    if (seconds < *best)
+        *best = seconds;
+    return better;
+}
+
+/* The best round of each, turn by turn, until none was better for a while: others on the machine only make a round longer. */
+static void best_rounds(struct jobs jobs, double *library, double *plain)
+{
+    int since_better = 0;
+    *library = *plain = 1e9;
+    for (int k = 0; k < MOST_ROUNDS && since_better < FEWEST_ROUNDS; k++) {
+        bool better = improves(library, round_of(format3_reconstruct, jobs));
+        better = improves(plain, round_of(plain_reconstruct, jobs)) || better;
+        since_better = better ? 0 : since_better + 1;
+    }
+}
+
+static void print_speed(const char *who, struct jobs jobs, double seconds)
+{
+    int macroblocks = 0;
+    for (int k = 0; k < jobs.count; k++)
+        macroblocks += jobs.job[k].macroblocks;
+    printf("  %-8s %8.0f pictures/s %10.0f macroblocks/s\n", who, jobs.count / seconds, macroblocks / seconds);
+}
+
+static int time_reels(char **reels, int count)
+{
+    for (int k = 0; k < count; k++) {
+        double library, plain;
+        struct jobs jobs = jobs_of_reel(reels[k]);
+        best_rounds(jobs, &library, &plain);
+        printf("%s: %d pictures of %d macroblocks\n", reels[k], jobs.count, jobs.job[0].macroblocks);
+        print_speed("library", jobs, library);
+        print_speed("plain C", jobs, plain);
+        printf("  the library takes %.2f times as long\n", library / plain);
+    }
+    return 0;
+}
+
+/* ---- once, for an instruction counter that counts inside these functions alone */
+
+__attribute__((noinline)) static struct answer measured(reconstruct_function *reconstruct, const struct job *job, uint8_t *output)
+{
+    return run(reconstruct, job, output);
+}
+
+__attribute__((noinline)) static void measured_transform(bool library, const int16_t coefficients[64], int16_t residues[64])
+{
+    if (library)
+        format3_transform(coefficients, residues);
+    else
+        plain_transform(coefficients, residues);
+}
+
+/* Decodes a picture once; it must be the one that the library made before. */
+static int once(reconstruct_function *reconstruct, const struct job *job)
+{
+    static uint8_t output[MOST_BYTES];
+    struct answer answer = measured(reconstruct, job, output);
+    if (answer.number == FORMAT3_ACCEPTED && memcmp(output, job->picture, job->picture_length) == 0)
+        return 0;
+    fprintf(stderr, "bench: not the picture\n");
+    return 1;
+}
+
+static bool is_library(const char *who)
+{
+    if (strcmp(who, "library") != 0 && strcmp(who, "plain") != 0) {
+        fprintf(stderr, "bench: library or plain, not %s\n", who);
+        exit(2);
+    }
+    return strcmp(who, "library") == 0;
+}
+
+static reconstruct_function *who_is(const char *who)
+{
+    return is_library(who) ? format3_reconstruct : plain_reconstruct;
+}
+
+static const struct job *picture_of(const char *number, const char *reel)
+{
+    struct jobs jobs = jobs_of_reel(reel);
+    int k = atoi(number);
+    if (k < 1 || k > jobs.count) {
+        fprintf(stderr, "bench: %s has no picture %s\n", reel, number);
+        exit(2);
+    }
+    return &jobs.job[k - 1];
+}
+
+static enum made_kind kind_of(const char *kind)
+{
+    static const char *const names[] = {"intra", "whole", "half", "mixed"};
+    for (int k = MADE_INTRA; k <= MADE_MIXED; k++)
+        if (strcmp(kind, names[k]) == 0)
+            return k;
+    fprintf(stderr, "bench: no kind %s\n", kind);
+    exit(2);
+}
+
+static int made(char **argument)
+{
+    struct job job = made_job(kind_of(argument[1]), atoi(argument[2]), atoi(argument[3]));
+    return once(who_is(argument[0]), &job);
+}
+
+static int transform(const char *who)
+{
+    int16_t coefficients[64], residues[64];
+    for (int k = 0; k < 64; k++)
+        coefficients[k] = (int16_t)((37 * k % 61 - 30) * 5);
+    measured_transform(is_library(who), coefficients, residues);
+    return 0;
+}
+
+static int census(const char *number, const char *reel)
+{
+#ifdef PLAIN_CENSUS
+    const struct job *job = picture_of(number, reel);
+    memset(&plain_census, 0, sizeof plain_census);
+    int failed = once(plain_reconstruct, job);
+    printf("%c %d %lu %lu %lu %lu %lu %lu\n", job->letter, job->macroblocks, plain_census.pairs, plain_census.transforms,
+        plain_census.whole_pel_fetches, plain_census.half_pel_fetches, plain_census.means_of_both, plain_census.stores);
+    return failed;
+#else
+    (void)number, (void)reel;
+    fprintf(stderr, "bench: not compiled with PLAIN_CENSUS\n");
+    return 2;
+#endif
+}
+
+int main(int count, char **argument)
+{
+    const char *command = count > 1 ? argument[1] : "";
+    if (strcmp(command, "compare") == 0)
+        return compare(argument + 2, count - 2);
+    if (strcmp(command, "time") == 0)
+        return time_reels(argument + 2, count - 2);
+    if (strcmp(command, "reel") == 0 && count == 5)
+        return once(who_is(argument[2]), picture_of(argument[3], argument[4]));
+    if (strcmp(command, "made") == 0 && count == 6)
+        return made(argument + 2);
+    if (strcmp(command, "transform") == 0 && count == 3)
+        return transform(argument[2]);
+    if (strcmp(command, "census") == 0 && count == 4)
+        return census(argument[2], argument[3]);
+    fprintf(stderr, "bench: see the head of bench.c for its arguments\n");
+    return 2;
+}

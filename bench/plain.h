@@ -1,0 +1,32 @@
+/* Format 3 in plain C: the same algorithm as the library's, with its refusals and its exact transform, written as one
+ * writes C. It is not proved, and is here only to be measured beside it. */
+#ifndef PLAIN_H
+#define PLAIN_H
+
+#include <stddef.h>
+#include <stdint.h>
+
+/* As format3_reconstruct. */
+uint32_t plain_reconstruct(
+    const uint8_t *file, size_t file_length,
+    const uint8_t *forward, size_t forward_length,
+    const uint8_t *backward, size_t backward_length,
+    uint8_t *output, size_t output_length,
+    size_t *place, size_t *made);
+
+/* As format3_transform, of coefficients that are in range. */
+void plain_transform(const int16_t coefficients[64], int16_t residues[64]);
+
+/* What was done since the counts were last cleared, where this is compiled with PLAIN_CENSUS: pairs, and 8 by 8 blocks. */
+struct plain_census {
+    unsigned long pairs;
+    unsigned long transforms;
+    unsigned long whole_pel_fetches;
+    unsigned long half_pel_fetches;
+    unsigned long means_of_both;
+    unsigned long stores;
+};
+
+extern struct plain_census plain_census;
+
+#endif
