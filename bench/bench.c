@@ -115,7 +115,7 @@ static bool improves(double *best, double seconds)
     return better;
 }
 
-/* The best round of each, turn by turn, until none was better for a while: others on the machine only make a round longer. */
+/* The best round of each, turn by turn, until none was better for a while: what else the machine does only adds to one. */
 static void best_rounds(struct jobs jobs, double *library, double *plain)
 {
     int since_better = 0;
@@ -151,12 +151,14 @@ static int time_reels(char **reels, int count)
 
 /* ---- once, for an instruction counter that counts inside these functions alone */
 
-__attribute__((noinline)) static struct answer measured(reconstruct_function *reconstruct, const struct job *job, uint8_t *output)
+__attribute__((noinline))
+static struct answer measured(reconstruct_function *reconstruct, const struct job *job, uint8_t *output)
 {
     return run(reconstruct, job, output);
 }
 
-__attribute__((noinline)) static void measured_transform(bool library, const int16_t coefficients[64], int16_t residues[64])
+__attribute__((noinline))
+static void measured_transform(bool library, const int16_t coefficients[64], int16_t residues[64])
 {
     if (library)
         format3_transform(coefficients, residues);

@@ -82,8 +82,8 @@ enum format3_kind {
  *
  * Answers 0 to 21. Accepted (0): all N macroblocks are in the output, `place` is the file's length and `made` is N.
  * Refused: `place` is the offset in the file of the length of the first record that is refused (0 for 1 and 2, the
- * file's length for 7), and `made` is the count of macroblocks written: those of the records before that one are in
- * the output, in the order of their addresses, and every other byte of the output is as it was before the call. */
+ * file's length for 7), and `made` is the count of macroblocks that the records before it made. These, at the addresses
+ * 0 to `made` - 1, are in the output, and every other byte of the output is as it was before the call. */
 uint32_t format3_reconstruct(
     const uint8_t *file, size_t file_length,
     const uint8_t *forward, size_t forward_length,

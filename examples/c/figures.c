@@ -76,7 +76,8 @@ static void transforms(void)
 /* The worked reel's first file: a grey picture of one macroblock. */
 static const uint8_t GREY[41] = {3, 0, 8, 1, 1, 1, 1, 0, 0, 0, 0, 0, 4, 3, 8, 0, 0, 0, 22, 4, 16, 0, 1};
 
-static void shown(size_t file_length, size_t offset, uint32_t number, long expected_kind, long expected_start, long expected_length)
+static void shown(
+    size_t file_length, size_t offset, uint32_t number, long expected_kind, long expected_start, long expected_length)
 {
     size_t kind = 9, start = 9, length = 9;
     expect("record answer", number, format3_show_record(GREY, file_length, offset, &kind, &start, &length));
