@@ -21,7 +21,8 @@ use Rattle.matrices.specs.Matrix.{matrixOf}
 use Rattle.motion.proofs.VectorLaws.{factor-least}
 use Rattle.picture_header.specs.Header.{HeaderWithin}
 use Rattle.picture_state.proofs.PlanLaws.{pasts-within, motion-within, no-motion-within, skip-within, own-forward-used, own-backward-used, skip-forward-used, skip-backward-used}
-use Rattle.picture_state.specs.Plan.{ownMotion, nextPasts, planOf, CodesWithin, Plannable}
+use Rattle.picture_state.specs.Plan.{planOf, Plannable}
+use Rattle.picture_state.specs.Vectors.{ownMotion, nextPasts, CodesWithin}
 use Rattle.picture_state.specs.State.{zeroVector, startState}
 use Rattle.picture.proofs.RecordLaws.{found-after}
 use Rattle.picture.specs.MacroblockRecord.{contextOf, Acted, advanced, ownDrawn, drawn, macroblockActed}
@@ -52,13 +53,15 @@ codes-within h k = record {
 
 pub plannable : (s : PictureState) (m : MacroblockSymbols) → StateWithin s → SymbolsLegal (contextOf s) m → Plannable s m
 plannable s m w l = record {
-  symbols = record {
-    forward-few = w .header .forward .most;
-    backward-few = w .header .backward .most;
-    forward = codes-within (factor-least (s .header .forward .«f_code»)) (l .forward-known);
-    backward = codes-within (factor-least (s .header .backward .«f_code»)) (l .backward-known);
+  slice = record {
+    symbols = record {
+      forward-few = w .header .forward .most;
+      backward-few = w .header .backward .most;
+      forward = codes-within (factor-least (s .header .forward .«f_code»)) (l .forward-known);
+      backward = codes-within (factor-least (s .header .backward .«f_code»)) (l .backward-known);
+    };
+    pasts = w .pasts;
   };
-  pasts = w .pasts;
   some = l .increment-some;
   near = omega (arith, w .inside, w .header .size .few);
 }
@@ -67,11 +70,11 @@ pub planned : (s : PictureState) (m : MacroblockSymbols) (forward backward outpu
 unfolding planOf ownMotion
 planned s m forward backward output p l =
     let w = p .state in
-    let r = pasts-within s m (plannable s m w l) in
+    let r = pasts-within (s .header) m (s .slice) (plannable s m w l .slice) in
     record {
       advancing = record { size = w .header .size; place = refl; inside = omega (arith, l .address-inside, l .increment-some); counted = w .counted };
       skip-within = skip-within (s .header .«coding_type») (s .slice .motion) (w .motion);
-      own-within = motion-within (s .header) (m .flags) (nextPasts s m) r;
+      own-within = motion-within (s .header) (m .flags) (nextPasts (s .header) m (s .slice .pasts)) r;
       skip-lent = record {
         forward-whole = λ e. p .lent .forward-whole (skip-forward-used (s .header .«coding_type») (s .slice .motion) (w .forward-used) e);
         backward-whole = λ e. p .lent .backward-whole (skip-backward-used (s .header .«coding_type») (s .slice .motion) (w .backward-used) e);
@@ -95,14 +98,14 @@ pub record Kept (s t : PictureState) : Type 0 where
 advanced-kept : (s : PictureState) (m : MacroblockSymbols) → StateWithin s → SymbolsLegal (contextOf s) m → Kept s (advanced s (planOf s m))
 unfolding planOf ownMotion
 advanced-kept s m w l =
-    let r = pasts-within s m (plannable s m w l) in
+    let r = pasts-within (s .header) m (s .slice) (plannable s m w l .slice) in
     record {
       within = record {
         header = w .header;
         scale = rw (le-leb 1 (m .scale) (l .scale-some), le-leb (m .scale) 31 (l .scale-most));
         dc = l .pasts-legal;
         pasts = r;
-        motion = motion-within (s .header) (m .flags) (nextPasts s m) r;
+        motion = motion-within (s .header) (m .flags) (nextPasts (s .header) m (s .slice .pasts)) r;
         forward-used = λ e. own-forward-used (s .header .«coding_type») (m .flags) (w .header .first-type) (w .header .last-type) (l .type-legal) e;
         backward-used = λ e. own-backward-used (s .header .«coding_type») (m .flags) (w .header .first-type) (w .header .last-type) (l .type-legal) e;
         inside = omega (arith, l .address-inside, l .increment-some);

@@ -13,7 +13,7 @@ use Rattle.macroblock.specs.Macroblock.{Lent}
 use Rattle.macroblock.specs.declared.fit.Fit.the-variants.{Fits}
 use Rattle.blocks.specs.Blocks.{LegalPasts}
 use Rattle.symbols.specs.Slice.{legalScale}
-use Rattle.picture_state.specs.Plan.{PastsWithin}
+use Rattle.picture_state.specs.Vectors.{PastsWithin}
 use Rattle.picture_state.specs.declared.state.PictureState.{PictureState}
 use Rattle.picture_state.specs.declared.plan.Plan.{Plan}
 

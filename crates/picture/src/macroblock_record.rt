@@ -33,8 +33,8 @@ fn context_of(picture: PictureState) -> MacroblockContext
     let backward = header.backward;
     let dc = slice.dc;
     let macroblocks = size.macroblocks();
-    let forward_f = picture_state::plan::factor_of(forward);
-    let backward_f = picture_state::plan::factor_of(backward);
+    let forward_f = picture_state::vectors::factor_of(forward);
+    let backward_f = picture_state::vectors::factor_of(backward);
     MacroblockContext {
         head: HeadContext {
             coding: header.coding_type,

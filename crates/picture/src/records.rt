@@ -10,7 +10,7 @@ use format3::record::MATRIX;
 use format3::record::Record;
 use format3::record::SLICE;
 use format3::verdict::Verdict;
-use picture_state::state;
+use picture_state::slice;
 use picture_state::state::PictureState;
 use refusals::Refusal;
 use symbols::slice::SliceAnswer;
@@ -70,7 +70,8 @@ fn act_slice(picture: PictureState, body: &[u8]) -> Outcome
             let header = picture.header;
             let matrices = picture.matrices;
             let loaded = picture.loaded;
-            let slice = state::reset_slice(start.scale);
+            let before = picture.slice;
+            let slice = slice::after_reset(before, start.scale);
             let turn = format3::turn::turn_after(SLICE, false);
             Outcome {
                 verdict: Verdict::Passed,

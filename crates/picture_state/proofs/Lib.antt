@@ -1,1 +1,3 @@
 pub mod PlanLaws
+pub mod SliceLaws
+mod LentState

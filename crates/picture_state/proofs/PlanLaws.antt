@@ -14,7 +14,9 @@ use Rattle.macroblock.specs.Compensation.{VectorWithin, MotionWithin}
 use Rattle.motion.proofs.VectorLaws.{vector-within, used-within, factor-most}
 use Rattle.motion.specs.Vector.{factorOf, vectorOf}
 use Rattle.picture_header.specs.Header.{typeI, typeP, typeB, usesForward, usesBackward}
-use Rattle.picture_state.specs.Plan.{hasForward, hasBackward, isIntra, decodedVector, pastsBefore, forwardAfter, backwardAfter, pastsAfter, usedOf, predictsForward, predictsBackward, ownMotion, skipMotion, nextPasts, CodeWithin, Decodable, PastsWithin, SymbolsWithin, Plannable}
+use Rattle.picture_state.specs.Vectors.{hasForward, hasBackward, isIntra, decodedVector, pastsBefore, forwardAfter, backwardAfter, pastsAfter, usedOf, predictsForward, predictsBackward, ownMotion, nextPasts, CodeWithin, Decodable, PastsWithin, SymbolsWithin}
+use Rattle.picture_state.specs.Plan.{skipMotion}
+use Rattle.picture_state.specs.Slice.{Updatable}
 use Rattle.picture_state.specs.State.{zeroVector, zeroPasts, noMotion, stillMotion}
 use Rattle.symbols.proofs.Laws.MacroblockHead.{types-above}
 use Rattle.symbols.specs.MacroblockHead.{legalType}
@@ -26,7 +28,7 @@ use Rattle.macroblock_symbols.specs.declared.MacroblockSymbols.{MacroblockSymbo
 use Rattle.macroblock.specs.declared.compensation.Motion.{Motion}
 use Rattle.macroblock.specs.declared.compensation.Vector.{Vector}
 use Rattle.picture_state.specs.declared.state.VectorPasts.{VectorPasts}
-use Rattle.picture_state.specs.declared.state.PictureState.{PictureState}
+use Rattle.picture_state.specs.declared.state.SliceState.{SliceState}
 
 -- what holds of both values holds of the one that a test picks
 either : {A : Type 0} (P : A → Type 0) (test : Bool) {x y : A} → P x → P y → P (cond test x y)
@@ -73,11 +75,11 @@ after-within h m pasts w p =
     either PastsWithin (isIntra (m .flags)) zero-pasts-within
     (record { forward = forward-within h m (pasts .forward) w (p .forward); backward = backward-within h m (pasts .backward) w (p .backward) })
 
-pub pasts-within : (s : PictureState) (m : MacroblockSymbols) → Plannable s m → PastsWithin (nextPasts s m)
+pub pasts-within : (h : Header) (m : MacroblockSymbols) (s : SliceState) → Updatable h m s → PastsWithin (nextPasts h m (s .pasts))
 unfolding nextPasts
-pasts-within s m p =
-    after-within (s .header) m (pastsBefore (s .header .«coding_type») (m .increment) (s .slice .pasts)) (p .symbols)
-    (before-within (s .header .«coding_type») (m .increment) (s .slice .pasts) (p .pasts))
+pasts-within h m s u =
+    after-within h m (pastsBefore (h .«coding_type») (m .increment) (s .pasts)) (u .symbols)
+    (before-within (h .«coding_type») (m .increment) (s .pasts) (u .pasts))
 
 -- ---- a used vector is at most twice a past in size
 used-vector-within : (coding : VectorCoding) (v : Vector) → VectorWithin 1024 v → VectorWithin 2048 (usedOf coding v)
@@ -205,6 +207,6 @@ pub record SameCodes (g h : Header) : Type 0 where
   pub forward : g .forward .«f_code» ≡ h .forward .«f_code»
   pub backward : g .backward .«f_code» ≡ h .backward .«f_code»
 
-pub pasts-undoubled : (s t : PictureState) (m : MacroblockSymbols) → SameCodes (s .header) (t .header) → s .slice .pasts ≡ t .slice .pasts → nextPasts s m ≡ nextPasts t m
+pub pasts-undoubled : (g h : Header) (m : MacroblockSymbols) (pasts : VectorPasts) → SameCodes g h → nextPasts g m pasts ≡ nextPasts h m pasts
 unfolding nextPasts pastsBefore pastsAfter forwardAfter backwardAfter
-pasts-undoubled s t m same pasts = rw (same .type, same .forward, same .backward, pasts)
+pasts-undoubled g h m pasts same = rw (same .type, same .forward, same .backward)

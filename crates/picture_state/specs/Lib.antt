@@ -1,2 +1,4 @@
 pub mod State
+pub mod Vectors
+pub mod Slice
 pub mod Plan

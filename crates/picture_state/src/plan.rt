@@ -1,20 +1,13 @@
-// What a macroblock's symbols come to: the skipped macroblocks, its own directions and vectors, and the slice's state after it.
+// What a macroblock's symbols come to: the skipped macroblocks, its own address and motion, and the slice's state after it.
 ghost use mathlib.Core.Path.{_≡_};
-ghost use Prim.Native.Nat.{_≤_};
-ghost use Rattle.motion.specs.Vector.{factorOf};
-ghost use Rattle.macroblock.specs.Compensation.{VectorWithin};
-ghost use Rattle.picture_state.specs.Plan.{hasForward, hasBackward, isIntra, decodedVector, pastsBefore, forwardAfter, backwardAfter, pastsAfter, usedOf, predictsForward, predictsBackward, ownMotion, skipMotion, nextPasts, planOf, Decodable, PastsWithin, SymbolsWithin, Plannable};
+ghost use Rattle.picture_state.specs.Plan.{skipMotion, planOf, Plannable};
+use crate::slice;
 use crate::state;
 use crate::state::PictureState;
 use crate::state::SliceState;
-use crate::state::VectorPasts;
 use macroblock::compensation::Motion;
-use macroblock::compensation::Vector;
 use macroblock_symbols::MacroblockSymbols;
-use picture_header::header::Header;
 use picture_header::header::P_PICTURE;
-use picture_header::header::VectorCoding;
-use symbols::vector_codes::VectorCodes;
 
 pub struct Plan {
     // The skipped macroblocks before it, and their motion.
@@ -27,169 +20,6 @@ pub struct Plan {
     pub slice: SliceState,
 }
 
-pub fn has_forward(flags: u8) -> bool
-    ensures { λ r. ⌜ r ≡ hasForward flags ⌝ }
-{
-    flags / 2 % 2 == 1
-}
-
-pub fn has_backward(flags: u8) -> bool
-    ensures { λ r. ⌜ r ≡ hasBackward flags ⌝ }
-{
-    flags / 4 % 2 == 1
-}
-
-pub fn is_intra(flags: u8) -> bool
-    ensures { λ r. ⌜ r ≡ isIntra flags ⌝ }
-{
-    16 <= flags
-}
-
-// The count f of residuals: 1 where the picture has no vectors of this direction.
-pub fn factor_of(coding: VectorCoding) -> u32
-    requires { ⌜ coding .«f_code» ≤ 7 ⌝ }
-    ensures { λ r. ⌜ r ≡ factorOf (coding .«f_code») ⌝ }
-{
-    let code = coding.f_code;
-    if code < 1 {
-        return 1;
-    }
-    motion::vector::factor(code as u32)
-}
-
-// A vector from its codes and its past.
-fn decode(coding: VectorCoding, past: Vector, codes: VectorCodes) -> Vector
-    requires { ⌜ Decodable coding past codes ⌝ }
-    ensures { λ r. ⌜ r ≡ decodedVector coding past codes ⌝ }
-{
-    let f = factor_of(coding);
-    let horizontal = codes.horizontal;
-    let vertical = codes.vertical;
-    let right = motion::vector::next_vector(
-        f,
-        past.right,
-        horizontal.code as i32,
-        horizontal.residual as u32,
-    );
-    let down = motion::vector::next_vector(
-        f,
-        past.down,
-        vertical.code as i32,
-        vertical.residual as u32,
-    );
-    Vector { right, down }
-}
-
-// The pasts that a record's own codes are added to.
-fn pasts_before(coding: u8, increment: u16, pasts: VectorPasts) -> VectorPasts
-    ensures { λ r. ⌜ r ≡ pastsBefore coding increment pasts ⌝ }
-{
-    if coding == P_PICTURE {
-        if 1 < increment {
-            return state::zero_pasts();
-        }
-    }
-    pasts
-}
-
-fn forward_after(header: Header, symbols: MacroblockSymbols, past: Vector) -> Vector
-    requires { ⌜ SymbolsWithin header symbols × VectorWithin 1024 past ⌝ }
-    ensures { λ r. ⌜ r ≡ forwardAfter header symbols past ⌝ }
-{
-    let given = has_forward(symbols.flags);
-    if given {
-        let coding = header.forward;
-        let codes = symbols.forward;
-        return decode(coding, past, codes);
-    }
-    if header.coding_type == P_PICTURE {
-        return Vector { right: 0, down: 0 };
-    }
-    past
-}
-
-fn backward_after(header: Header, symbols: MacroblockSymbols, past: Vector) -> Vector
-    requires { ⌜ SymbolsWithin header symbols × VectorWithin 1024 past ⌝ }
-    ensures { λ r. ⌜ r ≡ backwardAfter header symbols past ⌝ }
-{
-    let given = has_backward(symbols.flags);
-    if given {
-        let coding = header.backward;
-        let codes = symbols.backward;
-        return decode(coding, past, codes);
-    }
-    past
-}
-
-fn pasts_after(header: Header, symbols: MacroblockSymbols, pasts: VectorPasts) -> VectorPasts
-    requires { ⌜ SymbolsWithin header symbols × PastsWithin pasts ⌝ }
-    ensures { λ r. ⌜ r ≡ pastsAfter header symbols pasts ⌝ }
-{
-    let intra = is_intra(symbols.flags);
-    if intra {
-        return state::zero_pasts();
-    }
-    let forward_past = pasts.forward;
-    let backward_past = pasts.backward;
-    let forward = forward_after(header, symbols, forward_past);
-    let backward = backward_after(header, symbols, backward_past);
-    VectorPasts { forward, backward }
-}
-
-// A vector for use: doubled where the direction counts whole pels.
-fn use_vector(coding: VectorCoding, vector: Vector) -> Vector
-    requires { ⌜ VectorWithin 1024 vector ⌝ }
-    ensures { λ r. ⌜ r ≡ usedOf coding vector ⌝ }
-{
-    let right = motion::vector::used_vector(coding.full_pel, vector.right);
-    let down = motion::vector::used_vector(coding.full_pel, vector.down);
-    Vector { right, down }
-}
-
-fn predicts_forward(coding: u8, flags: u8) -> bool
-    ensures { λ r. ⌜ r ≡ predictsForward coding flags ⌝ }
-{
-    let intra = is_intra(flags);
-    if intra {
-        return false;
-    }
-    let given = has_forward(flags);
-    if given {
-        return true;
-    }
-    coding == P_PICTURE
-}
-
-fn predicts_backward(flags: u8) -> bool
-    ensures { λ r. ⌜ r ≡ predictsBackward flags ⌝ }
-{
-    let intra = is_intra(flags);
-    if intra {
-        return false;
-    }
-    has_backward(flags)
-}
-
-fn own_motion(header: Header, flags: u8, pasts: VectorPasts) -> Motion
-    requires { ⌜ PastsWithin pasts ⌝ }
-    ensures { λ r. ⌜ r ≡ ownMotion header flags pasts ⌝ }
-{
-    let forward = predicts_forward(header.coding_type, flags);
-    let backward = predicts_backward(flags);
-    let forward_coding = header.forward;
-    let backward_coding = header.backward;
-    let forward_past = pasts.forward;
-    let backward_past = pasts.backward;
-    let forward_vector = use_vector(forward_coding, forward_past);
-    let backward_vector = use_vector(backward_coding, backward_past);
-    Motion {
-        forward,
-        backward,
-        forward_vector,
-        backward_vector,
-    }
-}
-
 fn skip_motion(coding: u8, last: Motion) -> Motion
     ensures { λ r. ⌜ r ≡ skipMotion coding last ⌝ }
 {
@@ -199,43 +29,24 @@ fn skip_motion(coding: u8, last: Motion) -> Motion
     last
 }
 
-fn next_pasts(picture: PictureState, symbols: MacroblockSymbols) -> VectorPasts
-    requires { ⌜ Plannable picture symbols ⌝ }
-    ensures { λ r. ⌜ r ≡ nextPasts picture symbols ⌝ }
-{
-    let header = picture.header;
-    let slice = picture.slice;
-    let kept = slice.pasts;
-    let pasts = pasts_before(header.coding_type, symbols.increment, kept);
-    pasts_after(header, symbols, pasts)
-}
-
 // All that a macroblock's symbols come to.
 pub fn make_plan(picture: PictureState, symbols: MacroblockSymbols) -> Plan
     requires { ⌜ Plannable picture symbols ⌝ }
     ensures { λ r. ⌜ r ≡ planOf picture symbols ⌝ }
 {
-    let pasts = next_pasts(picture, symbols);
     let header = picture.header;
-    let motion = own_motion(header, symbols.flags, pasts);
-    let last = picture.slice.motion;
+    let before = picture.slice;
+    let last = before.motion;
     let skip = skip_motion(header.coding_type, last);
     let skipped = symbols.increment as usize - 1;
     let address = picture.next + skipped;
-    let dc = symbols.dc;
-    let intra = is_intra(symbols.flags);
+    let slice = slice::after_update(before, header, symbols);
+    let motion = slice.motion;
     Plan {
         skipped,
         skip_motion: skip,
         address,
         motion,
-        slice: SliceState {
-            scale: symbols.scale,
-            dc,
-            pasts,
-            motion,
-            intra,
-            first: false,
-        },
+        slice,
     }
 }

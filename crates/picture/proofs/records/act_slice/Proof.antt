@@ -13,8 +13,8 @@ enum-known-refusal c = search needs
 enum-known-start : tie.Need-enum-known-start
 enum-known-start c = search needs
 
-reset-slice-requires : tie.Need-reset-slice-requires
-reset-slice-requires c κs = search needs
+after-reset-requires : tie.Need-after-reset-requires
+after-reset-requires c κs = search needs
 
 turn-after-requires : tie.Need-turn-after-requires
 turn-after-requires c κs = search needs
@@ -25,7 +25,10 @@ returns c = rw (← c .before .before .before .read-slice .ensures, c .before .r
 
 returns-2 : tie.Need-returns-2
 unfolding sliceOutcome
-returns-2 c = rw (← c .before .before .before .before .before .before .before .before .read-slice .ensures, c .before .before .before .before .before .before .start .given .1, c .turn-after .ensures, c .before .reset-slice .ensures)
+returns-2 c =
+    let reset = c .before in
+    let arm = reset .before .before .before .before .before .before in
+    rw (← arm .before .before .read-slice .ensures, arm .start .given .1, c .turn-after .ensures, reset .after-reset .ensures)
 
 pub act-slice-spec : {M : Type 1} → statement M
 act-slice-spec =
@@ -34,7 +37,7 @@ act-slice-spec =
     read-slice-requires
     enum-known-refusal
     enum-known-start
-    reset-slice-requires
+    after-reset-requires
     turn-after-requires
     returns
     returns-2)

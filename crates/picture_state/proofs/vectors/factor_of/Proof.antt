@@ -1,9 +1,9 @@
--- `plan::factor_of` meets its contract: an f_code of 0 gives 1, as the definition does. Assumes nothing.
+-- `vectors::factor_of` meets its contract: an f_code of 0 gives 1, as the definition does. Assumes nothing.
 use mathlib.Core.Path.{_≡_}
 use native.Mathlib.Omega.{arith}
 use borrow.Author.Needs.{needs}
-use Rattle.picture_state.proofs.plan.factor_of.Statement.{statement}
-use Rattle.picture_state.proofs.plan.factor_of.Tie as tie
+use Rattle.picture_state.proofs.vectors.factor_of.Statement.{statement}
+use Rattle.picture_state.proofs.vectors.factor_of.Tie as tie
 
 returns : tie.Need-returns
 returns c = let none : c .before .args .coding .«f_code» ≡ 0 = omega (arith, c .if1 .taken) in rw none

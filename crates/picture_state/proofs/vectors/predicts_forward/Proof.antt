@@ -1,9 +1,9 @@
--- `plan::predicts_forward` meets its contract: its tests are those of the definition. Assumes nothing.
+-- `vectors::predicts_forward` meets its contract: its tests are those of the definition. Assumes nothing.
 use mathlib.Core.Path.{sym, _∙_}
 use borrow.Author.Needs.{needs}
-use Rattle.picture_state.specs.Plan.{predictsForward}
-use Rattle.picture_state.proofs.plan.predicts_forward.Statement.{statement}
-use Rattle.picture_state.proofs.plan.predicts_forward.Tie as tie
+use Rattle.picture_state.specs.Vectors.{predictsForward}
+use Rattle.picture_state.proofs.vectors.predicts_forward.Statement.{statement}
+use Rattle.picture_state.proofs.vectors.predicts_forward.Tie as tie
 
 is-intra-requires : tie.Need-is-intra-requires
 is-intra-requires c κs = search needs

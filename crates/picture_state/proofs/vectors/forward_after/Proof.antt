@@ -1,11 +1,11 @@
--- `plan::forward_after` meets its contract: its tests are those of the definition. Assumes nothing.
+-- `vectors::forward_after` meets its contract: its tests are those of the definition. Assumes nothing.
 use mathlib.Core.Path.{sym, _∙_}
 use borrow.Author.Needs.{needs}
 use borrow.Author.Tests.{eq-eqb, ne-eqb}
 use Rattle.picture_state.proofs.PlanLaws.{forward-decodable}
-use Rattle.picture_state.specs.Plan.{forwardAfter}
-use Rattle.picture_state.proofs.plan.forward_after.Statement.{statement}
-use Rattle.picture_state.proofs.plan.forward_after.Tie as tie
+use Rattle.picture_state.specs.Vectors.{forwardAfter}
+use Rattle.picture_state.proofs.vectors.forward_after.Statement.{statement}
+use Rattle.picture_state.proofs.vectors.forward_after.Tie as tie
 
 has-forward-requires : tie.Need-has-forward-requires
 has-forward-requires c κs = search needs

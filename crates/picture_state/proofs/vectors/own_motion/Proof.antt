@@ -1,8 +1,8 @@
--- `plan::own_motion` meets its contract: each field is its own call. Assumes nothing.
+-- `vectors::own_motion` meets its contract: each field is its own call. Assumes nothing.
 use borrow.Author.Needs.{needs}
-use Rattle.picture_state.specs.Plan.{ownMotion}
-use Rattle.picture_state.proofs.plan.own_motion.Statement.{statement}
-use Rattle.picture_state.proofs.plan.own_motion.Tie as tie
+use Rattle.picture_state.specs.Vectors.{ownMotion}
+use Rattle.picture_state.proofs.vectors.own_motion.Statement.{statement}
+use Rattle.picture_state.proofs.vectors.own_motion.Tie as tie
 
 predicts-forward-requires : tie.Need-predicts-forward-requires
 predicts-forward-requires c κs = search needs

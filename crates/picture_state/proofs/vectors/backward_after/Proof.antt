@@ -1,10 +1,10 @@
--- `plan::backward_after` meets its contract: its test is that of the definition. Assumes nothing.
+-- `vectors::backward_after` meets its contract: its test is that of the definition. Assumes nothing.
 use mathlib.Core.Path.{sym, _∙_}
 use borrow.Author.Needs.{needs}
 use Rattle.picture_state.proofs.PlanLaws.{backward-decodable}
-use Rattle.picture_state.specs.Plan.{backwardAfter}
-use Rattle.picture_state.proofs.plan.backward_after.Statement.{statement}
-use Rattle.picture_state.proofs.plan.backward_after.Tie as tie
+use Rattle.picture_state.specs.Vectors.{backwardAfter}
+use Rattle.picture_state.proofs.vectors.backward_after.Statement.{statement}
+use Rattle.picture_state.proofs.vectors.backward_after.Tie as tie
 
 has-backward-requires : tie.Need-has-backward-requires
 has-backward-requires c κs = search needs

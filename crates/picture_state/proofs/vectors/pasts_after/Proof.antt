@@ -1,9 +1,9 @@
--- `plan::pasts_after` meets its contract: its test is that of the definition, and each direction is its own call. Assumes nothing.
+-- `vectors::pasts_after` meets its contract: its test is that of the definition, and each direction is its own call. Assumes nothing.
 use mathlib.Core.Path.{sym, _∙_}
 use borrow.Author.Needs.{needs}
-use Rattle.picture_state.specs.Plan.{pastsAfter}
-use Rattle.picture_state.proofs.plan.pasts_after.Statement.{statement}
-use Rattle.picture_state.proofs.plan.pasts_after.Tie as tie
+use Rattle.picture_state.specs.Vectors.{pastsAfter}
+use Rattle.picture_state.proofs.vectors.pasts_after.Statement.{statement}
+use Rattle.picture_state.proofs.vectors.pasts_after.Tie as tie
 
 is-intra-requires : tie.Need-is-intra-requires
 is-intra-requires c κs = search needs

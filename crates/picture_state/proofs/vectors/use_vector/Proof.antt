@@ -1,8 +1,8 @@
--- `plan::use_vector` meets its contract: each part is doubled where the flag says so. Assumes nothing.
+-- `vectors::use_vector` meets its contract: each part is doubled where the flag says so. Assumes nothing.
 use mir.Syntax.{w32}
 use Rattle.integers.proofs.Machine.{Held, number, kept, bound, returned}
-use Rattle.picture_state.proofs.plan.use_vector.Statement.{statement}
-use Rattle.picture_state.proofs.plan.use_vector.Tie as tie
+use Rattle.picture_state.proofs.vectors.use_vector.Statement.{statement}
+use Rattle.picture_state.proofs.vectors.use_vector.Tie as tie
 
 -- the two parts of the vector, as they are passed
 abbrev right : (c : tie.Start) → Held (c .args .vector .right)

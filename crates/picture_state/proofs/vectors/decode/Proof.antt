@@ -1,4 +1,4 @@
--- `plan::decode` meets its contract: each part is the vector of its own codes. Assumes nothing.
+-- `vectors::decode` meets its contract: each part is the vector of its own codes. Assumes nothing.
 use Prim.Native.Nat.{_≤_}
 use mathlib.Core.Path.{_∙_}
 use native.Mathlib.Nat.{lt-of-lt-of-le}
@@ -7,8 +7,8 @@ use mir.Syntax.{w16, w32}
 use Rattle.integers.proofs.Machine.{Held, number, fits, kept, bound, returned}
 use Rattle.motion.proofs.VectorLaws.{factor-most}
 use Rattle.motion.specs.Vector.{factorOf, vectorOf}
-use Rattle.picture_state.proofs.plan.decode.Statement.{statement}
-use Rattle.picture_state.proofs.plan.decode.Tie as tie
+use Rattle.picture_state.proofs.vectors.decode.Statement.{statement}
+use Rattle.picture_state.proofs.vectors.decode.Tie as tie
 
 -- the two parts of the past and the two codes, as they are passed
 abbrev right : (c : tie.Start) → Held (c .args .past .right)

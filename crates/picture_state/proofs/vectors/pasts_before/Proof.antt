@@ -1,9 +1,9 @@
--- `plan::pasts_before` meets its contract: its tests are those of the definition. Assumes nothing.
+-- `vectors::pasts_before` meets its contract: its tests are those of the definition. Assumes nothing.
 use borrow.Author.Needs.{needs}
 use borrow.Author.Tests.{lt-ltb, le-ltb, eq-eqb, ne-eqb}
-use Rattle.picture_state.specs.Plan.{pastsBefore}
-use Rattle.picture_state.proofs.plan.pasts_before.Statement.{statement}
-use Rattle.picture_state.proofs.plan.pasts_before.Tie as tie
+use Rattle.picture_state.specs.Vectors.{pastsBefore}
+use Rattle.picture_state.proofs.vectors.pasts_before.Statement.{statement}
+use Rattle.picture_state.proofs.vectors.pasts_before.Tie as tie
 
 zero-pasts-requires : tie.Need-zero-pasts-requires
 zero-pasts-requires c κs = search needs

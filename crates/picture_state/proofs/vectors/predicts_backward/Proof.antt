@@ -1,9 +1,9 @@
--- `plan::predicts_backward` meets its contract: its test is that of the definition. Assumes nothing.
+-- `vectors::predicts_backward` meets its contract: its test is that of the definition. Assumes nothing.
 use mathlib.Core.Path.{sym, _∙_}
 use borrow.Author.Needs.{needs}
-use Rattle.picture_state.specs.Plan.{predictsBackward}
-use Rattle.picture_state.proofs.plan.predicts_backward.Statement.{statement}
-use Rattle.picture_state.proofs.plan.predicts_backward.Tie as tie
+use Rattle.picture_state.specs.Vectors.{predictsBackward}
+use Rattle.picture_state.proofs.vectors.predicts_backward.Statement.{statement}
+use Rattle.picture_state.proofs.vectors.predicts_backward.Tie as tie
 
 is-intra-requires : tie.Need-is-intra-requires
 is-intra-requires c κs = search needs

@@ -1,0 +1,42 @@
+-- Laws of a slice's state: what a reset keeps, and what an update keeps. Assumes nothing.
+use mathlib.Core.Bool.{Bool, true, false, cond, _&&_}
+use mathlib.Core.Path.{_≡_, refl}
+use Prim.Native.Nat.{ℕ}
+use lib.Dec.{ltb, eqb}
+use lib.IntN.{pos}
+use Rattle.macroblock_symbols.specs.MacroblockSymbols.{startingPasts}
+use Rattle.macroblock_symbols.specs.declared.MacroblockSymbols.{MacroblockSymbols}
+use Rattle.picture_header.specs.Header.{typeP, typeB}
+use Rattle.picture_header.specs.declared.header.Header.{Header}
+use Rattle.picture_state.specs.State.{resetSlice}
+use Rattle.picture_state.specs.Slice.{sliceAfter}
+use Rattle.picture_state.specs.Vectors.{hasForward, hasBackward, isIntra, pastsBefore, forwardAfter, backwardAfter, pastsAfter, nextPasts}
+use Rattle.picture_state.specs.declared.state.SliceState.{SliceState}
+
+same : {A : Type 0} (test : Bool) (x : A) → cond test x x ≡ x
+same true x = refl
+same false x = refl
+
+-- ---- a reset keeps the slice record's scale and nothing else: whatever lay there before, the codes of the next macroblock are added to 0 and its DC differences to 1024, in every
+-- picture type and after any increment. It rules out a past that is carried from one slice into the next
+pub record ResetKeepsNothing (scale : ℕ) : Type 0 where
+  pub scale-given : resetSlice scale .scale ≡ scale
+  pub vectors-0 : (coding increment : ℕ) → pastsBefore coding increment (resetSlice scale .pasts) ≡ record { forward = record { right = pos 0; down = pos 0 }; backward = record { right = pos 0; down = pos 0 } }
+  pub dc-1024 : (increment : ℕ) → startingPasts (resetSlice scale .dc) increment ≡ record { y = pos 1024; cb = pos 1024; cr = pos 1024 }
+
+pub reset-keeps-nothing : (scale : ℕ) → ResetKeepsNothing scale
+unfolding pastsBefore startingPasts
+reset-keeps-nothing scale = record {
+  scale-given = refl;
+  vectors-0 = λ coding increment. same (eqb coding typeP && ltb 1 increment) _;
+  dc-1024 = λ increment. same (ltb 1 increment) _;
+}
+
+-- ---- an update keeps the past of a direction that a B macroblock does not use, also after skipped macroblocks. It rules out an update that clears it, or puts the other direction's there
+pub record UpdateKeepsUnused (h : Header) (m : MacroblockSymbols) (s : SliceState) : Type 0 where
+  pub forward : hasForward (m .flags) ≡ false → sliceAfter h m s .pasts .forward ≡ s .pasts .forward
+  pub backward : hasBackward (m .flags) ≡ false → sliceAfter h m s .pasts .backward ≡ s .pasts .backward
+
+pub update-keeps-unused : (h : Header) (m : MacroblockSymbols) (s : SliceState) → h .«coding_type» ≡ typeB → isIntra (m .flags) ≡ false → UpdateKeepsUnused h m s
+unfolding nextPasts pastsBefore pastsAfter forwardAfter backwardAfter
+update-keeps-unused h m s type predicted = record { forward = λ unused. rw (type, predicted, unused); backward = λ unused. rw (type, predicted, unused) }
