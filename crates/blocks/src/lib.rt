@@ -230,7 +230,7 @@ fn read_inter_block(
 }
 
 // Whether a block is coded: 32 in the pattern for the first, 1 for the last.
-fn is_coded(pattern: u8, block: usize) -> bool
+pub fn is_coded(pattern: u8, block: usize) -> bool
     requires { ⌜ block < 6 ⌝ }
     ensures { λ r. ⌜ r ≡ isCoded pattern block ⌝ }
 {

@@ -6,12 +6,13 @@ use Prim.Native.Nat.{ℕ, _+_, _-_, _^_}
 use native.Mathlib.Nat.{zero-div}
 use native.Mathlib.Numerals.{add-one}
 use lib.IntN.{ℤ}
+use Rattle.blocks.specs.Blocks.{isCoded}
 use Rattle.picture_header.specs.declared.size.PictureSize.{PictureSize}
 use Rattle.macroblock.specs.declared.place.Position.{Position}
 use Rattle.macroblock.specs.declared.compensation.Motion.{Motion}
 use Rattle.macroblock.specs.Place.{positionOf, placeOf, putAt}
 use Rattle.macroblock.specs.Compensation.{predictedBlock}
-use Rattle.macroblock.specs.Block.{coded, withResidue, blockOf}
+use Rattle.macroblock.specs.Block.{withResidue, blockOf}
 use Rattle.macroblock.specs.Macroblock.{withBlocks, withMacroblock, withPredictions}
 
 pub blocks-none : (p : Position) (blocks : ℕ → List ℕ) (picture : List ℕ) → picture ≡ withBlocks p blocks 0 picture
@@ -24,8 +25,8 @@ unfolding withBlocks
 blocks-more p blocks n picture = rw add-one
 
 -- ---- with the pattern 0 each block is its prediction, so the coefficients do not matter
-none-coded : (block : ℕ) → coded 0 block ≡ false
-unfolding coded
+none-coded : (block : ℕ) → isCoded 0 block ≡ false
+unfolding isCoded
 none-coded block = rw (zero-div (2 ^ (5 - block)))
 
 pub block-uncoded : (transform : List ℤ → ℕ → ℤ) (forward backward : List ℕ) (p : Position) (m : Motion) (c : List ℤ) (block : ℕ)

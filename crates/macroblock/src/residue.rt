@@ -3,15 +3,7 @@ ghost use mathlib.Core.Path.{_≡_};
 ghost use Prim.Native.Nat.{_<_};
 ghost use Rattle.integers.specs.Bound.{AllWithin};
 ghost use Rattle.transform.specs.Transform.{inverseTransform};
-ghost use Rattle.macroblock.specs.Block.{coded, coefficientsOf, withResidue};
-
-// Whether the block's bit is in the pattern.
-fn is_coded(pattern: u8, block: usize) -> bool
-    requires { ⌜ block < 6 ⌝ }
-    ensures { λ r. ⌜ r ≡ coded pattern block ⌝ }
-{
-    (pattern >> (5 - block)) % 2 == 1
-}
+ghost use Rattle.macroblock.specs.Block.{coefficientsOf, withResidue};
 
 // The block's sixty-four of the macroblock's coefficients.
 fn block_coefficients(coefficients: &[i16; 384], block: usize) -> [i16; 64]
@@ -34,7 +26,7 @@ pub fn add_residue(
     requires { ⌜ AllWithin 2048 (now coefficients) × (block < 6) ⌝ }
     ensures { λ r. ⌜ r ≡ withResidue inverseTransform pattern (now (coefficients .entry)) block predicted ⌝ }
 {
-    if !is_coded(pattern, block) {
+    if !blocks::is_coded(pattern, block) {
         return predicted;
     }
     let own = block_coefficients(coefficients, block);

@@ -22,7 +22,8 @@ use symbols::vector_codes::VectorCodes;
 
 const ALL_BLOCKS: u8 = 63;
 
-const RESET_DC: i16 = 1024;
+// The DC pasts at a slice's start, and after a macroblock that is skipped or not intra.
+pub const RESET_DC: i16 = 1024;
 
 // What a macroblock is read with: what its head is tested against, f of each direction, and the DC pasts.
 pub struct MacroblockContext {

@@ -14,7 +14,7 @@ use Rattle.macroblock.specs.Compensation.{VectorWithin, MotionWithin}
 use Rattle.motion.proofs.VectorLaws.{vector-within, used-within, factor-most}
 use Rattle.motion.specs.Vector.{factorOf, vectorOf}
 use Rattle.picture_header.specs.Header.{typeI, typeP, typeB, usesForward, usesBackward}
-use Rattle.picture_state.specs.Vectors.{hasForward, hasBackward, isIntra, decodedVector, pastsBefore, forwardAfter, backwardAfter, pastsAfter, usedOf, predictsForward, predictsBackward, ownMotion, nextPasts, CodeWithin, Decodable, PastsWithin, SymbolsWithin}
+use Rattle.picture_state.specs.Vectors.{decodedVector, pastsBefore, forwardAfter, backwardAfter, pastsAfter, usedOf, predictsForward, predictsBackward, ownMotion, nextPasts, CodeWithin, Decodable, PastsWithin, SymbolsWithin}
 use Rattle.picture_state.specs.Plan.{skipMotion}
 use Rattle.picture_state.specs.Slice.{Updatable}
 use Rattle.picture_state.specs.State.{zeroVector, zeroPasts, noMotion, stillMotion}
@@ -24,6 +24,7 @@ use Rattle.picture_header.specs.declared.header.Header.{Header}
 use Rattle.picture_header.specs.declared.header.VectorCoding.{VectorCoding}
 use Rattle.symbols.specs.declared.vector_codes.VectorCode.{VectorCode}
 use Rattle.symbols.specs.declared.vector_codes.VectorCodes.{VectorCodes}
+use Rattle.macroblock_symbols.specs.Vectors.{gives}
 use Rattle.macroblock_symbols.specs.declared.MacroblockSymbols.{MacroblockSymbols}
 use Rattle.macroblock.specs.declared.compensation.Motion.{Motion}
 use Rattle.macroblock.specs.declared.compensation.Vector.{Vector}
@@ -62,17 +63,17 @@ backward-decodable h m past w p = record { few = w .backward-few; small = p; leg
 forward-within : (h : Header) (m : MacroblockSymbols) (past : Vector) → SymbolsWithin h m → VectorWithin 1024 past → VectorWithin 1024 (forwardAfter h m past)
 unfolding forwardAfter
 forward-within h m past w p =
-    either (VectorWithin 1024) (hasForward (m .flags)) (decoded-within (h .forward) past (m .forward) (forward-decodable h m past w p))
+    either (VectorWithin 1024) (gives (m .flags) 2) (decoded-within (h .forward) past (m .forward) (forward-decodable h m past w p))
     (either (VectorWithin 1024) (eqb (h .«coding_type») typeP) (zero-within 1024) p)
 
 backward-within : (h : Header) (m : MacroblockSymbols) (past : Vector) → SymbolsWithin h m → VectorWithin 1024 past → VectorWithin 1024 (backwardAfter h m past)
 unfolding backwardAfter
-backward-within h m past w p = either (VectorWithin 1024) (hasBackward (m .flags)) (decoded-within (h .backward) past (m .backward) (backward-decodable h m past w p)) p
+backward-within h m past w p = either (VectorWithin 1024) (gives (m .flags) 4) (decoded-within (h .backward) past (m .backward) (backward-decodable h m past w p)) p
 
 after-within : (h : Header) (m : MacroblockSymbols) (pasts : VectorPasts) → SymbolsWithin h m → PastsWithin pasts → PastsWithin (pastsAfter h m pasts)
 unfolding pastsAfter
 after-within h m pasts w p =
-    either PastsWithin (isIntra (m .flags)) zero-pasts-within
+    either PastsWithin (gives (m .flags) 16) zero-pasts-within
     (record { forward = forward-within h m (pasts .forward) w (p .forward); backward = backward-within h m (pasts .backward) w (p .backward) })
 
 pub pasts-within : (h : Header) (m : MacroblockSymbols) (s : SliceState) → Updatable h m s → PastsWithin (nextPasts h m (s .pasts))
@@ -165,11 +166,11 @@ skip-backward-used coding last used = go (eqb coding typeP)
 
 -- ---- what a reader of document 01 expects of the pasts
 -- "In B an unused direction keeps its past": no reset where a direction is not given
-pub forward-kept-in-B : (h : Header) (m : MacroblockSymbols) (past : Vector) → h .«coding_type» ≡ typeB → hasForward (m .flags) ≡ false → forwardAfter h m past ≡ past
+pub forward-kept-in-B : (h : Header) (m : MacroblockSymbols) (past : Vector) → h .«coding_type» ≡ typeB → gives (m .flags) 2 ≡ false → forwardAfter h m past ≡ past
 unfolding forwardAfter
 forward-kept-in-B h m past type unused = rw (unused, type)
 
-pub backward-kept : (h : Header) (m : MacroblockSymbols) (past : Vector) → hasBackward (m .flags) ≡ false → backwardAfter h m past ≡ past
+pub backward-kept : (h : Header) (m : MacroblockSymbols) (past : Vector) → gives (m .flags) 4 ≡ false → backwardAfter h m past ≡ past
 unfolding backwardAfter
 backward-kept h m past unused = rw unused
 
@@ -192,12 +193,12 @@ unfolding skipMotion
 skip-copies-in-P last = refl
 
 -- in P a macroblock without vector does not keep the past
-pub unused-clears-in-P : (h : Header) (m : MacroblockSymbols) (past : Vector) → h .«coding_type» ≡ typeP → hasForward (m .flags) ≡ false → forwardAfter h m past ≡ zeroVector
+pub unused-clears-in-P : (h : Header) (m : MacroblockSymbols) (past : Vector) → h .«coding_type» ≡ typeP → gives (m .flags) 2 ≡ false → forwardAfter h m past ≡ zeroVector
 unfolding forwardAfter
 unused-clears-in-P h m past type unused = rw (unused, type)
 
 -- intra clears both pasts, in every type
-pub intra-clears : (h : Header) (m : MacroblockSymbols) (pasts : VectorPasts) → isIntra (m .flags) ≡ true → pastsAfter h m pasts ≡ zeroPasts
+pub intra-clears : (h : Header) (m : MacroblockSymbols) (pasts : VectorPasts) → gives (m .flags) 16 ≡ true → pastsAfter h m pasts ≡ zeroPasts
 unfolding pastsAfter
 intra-clears h m pasts intra = rw intra
 

@@ -5,16 +5,12 @@ use lib.IntN.{pos}
 use Rattle.format3.specs.declared.turn.Turn.the-variants as Turn
 use Rattle.macroblock.specs.declared.compensation.Motion.{Motion}
 use Rattle.macroblock.specs.declared.compensation.Vector.{Vector}
-use Rattle.blocks.specs.declared.DcPasts.{DcPasts}
+use Rattle.macroblock_symbols.specs.MacroblockSymbols.{resetPasts}
 use Rattle.matrices.specs.Matrix.{defaultMatrices}
 use Rattle.picture_header.specs.declared.header.Header.{Header}
 use Rattle.picture_state.specs.declared.state.VectorPasts.{VectorPasts}
 use Rattle.picture_state.specs.declared.state.SliceState.{SliceState}
 use Rattle.picture_state.specs.declared.state.PictureState.{PictureState}
-
--- "Pasts are 1024 at a slice's start"
-abbrev pub startDc : DcPasts
-startDc = record { y = pos 1024; cb = pos 1024; cr = pos 1024 }
 
 -- "Pasts are 0 at a slice's start"
 abbrev pub zeroVector : Vector
@@ -33,7 +29,7 @@ stillMotion = record { forward = true; backward = false; «forward_vector» = ze
 
 -- the state at a slice's start, of the slice record alone
 abbrev pub resetSlice : ℕ → SliceState
-resetSlice scale = record { scale = scale; dc = startDc; pasts = zeroPasts; motion = noMotion; intra = false; first = true }
+resetSlice scale = record { scale = scale; dc = resetPasts; pasts = zeroPasts; motion = noMotion; intra = false; first = true }
 
 -- the state after the header: the default matrices, and no macroblock
 abbrev pub startState : Header → PictureState

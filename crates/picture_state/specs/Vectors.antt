@@ -1,7 +1,7 @@
--- The vectors of a macroblock, and the pasts after them (document 01, "Vectors and prediction").
+-- The vectors of a macroblock, and the pasts after them (document 01, "Vectors and prediction"). Of the type, a sum, 2 is forward, 4 backward and 16 intra.
 use mathlib.Core.Bool.{Bool, true, false, cond, _&&_}
-use Prim.Native.Nat.{ℕ, _/_, _%_, _≤_, _<_}
-use lib.Dec.{eqb, leb, ltb}
+use Prim.Native.Nat.{ℕ, _≤_, _<_}
+use lib.Dec.{eqb, ltb}
 use Rattle.integers.specs.Bound.{Within}
 use Rattle.motion.specs.Vector.{factorOf, vectorOf, usedVector}
 use Rattle.picture_header.specs.Header.{typeP}
@@ -9,22 +9,13 @@ use Rattle.picture_header.specs.declared.header.Header.{Header}
 use Rattle.picture_header.specs.declared.header.VectorCoding.{VectorCoding}
 use Rattle.symbols.specs.declared.vector_codes.VectorCode.{VectorCode}
 use Rattle.symbols.specs.declared.vector_codes.VectorCodes.{VectorCodes}
+use Rattle.macroblock_symbols.specs.Vectors.{gives}
 use Rattle.macroblock_symbols.specs.declared.MacroblockSymbols.{MacroblockSymbols}
 use Rattle.macroblock.specs.Compensation.{VectorWithin}
 use Rattle.macroblock.specs.declared.compensation.Motion.{Motion}
 use Rattle.macroblock.specs.declared.compensation.Vector.{Vector}
 use Rattle.picture_state.specs.State.{zeroVector, zeroPasts}
 use Rattle.picture_state.specs.declared.state.VectorPasts.{VectorPasts}
-
--- "Type is a sum of 1 scale given, 2 forward, 4 backward, 8 pattern, 16 intra"
-abbrev pub hasForward : ℕ → Bool
-hasForward flags = eqb (flags / 2 % 2) 1
-
-abbrev pub hasBackward : ℕ → Bool
-hasBackward flags = eqb (flags / 4 % 2) 1
-
-abbrev pub isIntra : ℕ → Bool
-isIntra flags = leb 16 flags
 
 -- a vector from its codes: "It is added to the past", across and down
 abbrev pub decodedVector : VectorCoding → Vector → VectorCodes → Vector
@@ -40,15 +31,15 @@ pastsBefore coding increment pasts = cond (eqb coding typeP && ltb 1 increment) 
 -- "in P also after a macroblock without vector .. In B an unused direction keeps its past"
 unfoldable pub forwardAfter : Header → MacroblockSymbols → Vector → Vector
 forwardAfter h m past =
-    cond (hasForward (m .flags)) (decodedVector (h .forward) past (m .forward)) (cond (eqb (h .«coding_type») typeP) zeroVector past)
+    cond (gives (m .flags) 2) (decodedVector (h .forward) past (m .forward)) (cond (eqb (h .«coding_type») typeP) zeroVector past)
 
 unfoldable pub backwardAfter : Header → MacroblockSymbols → Vector → Vector
-backwardAfter h m past = cond (hasBackward (m .flags)) (decodedVector (h .backward) past (m .backward)) past
+backwardAfter h m past = cond (gives (m .flags) 4) (decodedVector (h .backward) past (m .backward)) past
 
 -- "Pasts are 0 .. after intra"
 unfoldable pub pastsAfter : Header → MacroblockSymbols → VectorPasts → VectorPasts
 pastsAfter h m pasts =
-    cond (isIntra (m .flags)) zeroPasts (record { forward = forwardAfter h m (pasts .forward); backward = backwardAfter h m (pasts .backward) })
+    cond (gives (m .flags) 16) zeroPasts (record { forward = forwardAfter h m (pasts .forward); backward = backwardAfter h m (pasts .backward) })
 
 -- "the full-pel flag doubles it afterwards for use"
 abbrev pub usedOf : VectorCoding → Vector → Vector
@@ -56,10 +47,10 @@ usedOf coding v = record { right = usedVector (coding .«full_pel») (v .right);
 
 -- the directions of a macroblock: none where it is intra; "P without vector uses vector 0"
 unfoldable pub predictsForward : ℕ → ℕ → Bool
-predictsForward coding flags = cond (isIntra flags) false (cond (hasForward flags) true (eqb coding typeP))
+predictsForward coding flags = cond (gives flags 16) false (cond (gives flags 2) true (eqb coding typeP))
 
 unfoldable pub predictsBackward : ℕ → Bool
-predictsBackward flags = cond (isIntra flags) false (hasBackward flags)
+predictsBackward flags = cond (gives flags 16) false (gives flags 4)
 
 -- the macroblock's own directions and vectors: what the pasts now are, for use
 unfoldable pub ownMotion : Header → ℕ → VectorPasts → Motion

@@ -7,6 +7,7 @@ use crate::state::SliceState;
 use crate::vectors;
 use macroblock_symbols::MacroblockSymbols;
 use picture_header::header::Header;
+use symbols::macroblock_head::INTRA;
 
 // The state after a macroblock's symbols.
 pub fn slice_after(slice: SliceState, header: Header, symbols: MacroblockSymbols) -> SliceState
@@ -17,7 +18,7 @@ pub fn slice_after(slice: SliceState, header: Header, symbols: MacroblockSymbols
     let pasts = vectors::next_pasts(header, symbols, kept);
     let motion = vectors::own_motion(header, symbols.flags, pasts);
     let dc = symbols.dc;
-    let intra = vectors::is_intra(symbols.flags);
+    let intra = macroblock_symbols::vectors::gives_part(symbols.flags, INTRA);
     SliceState {
         scale: symbols.scale,
         dc,

@@ -5,6 +5,7 @@ use blocks::DcPasts;
 use format3::turn::Turn;
 use macroblock::compensation::Motion;
 use macroblock::compensation::Vector;
+use macroblock_symbols::RESET_DC;
 use matrices::Loaded;
 use matrices::Matrices;
 use picture_header::header::Header;
@@ -66,9 +67,9 @@ pub fn reset_slice(scale: u8) -> SliceState
     SliceState {
         scale,
         dc: DcPasts {
-            y: 1024,
-            cb: 1024,
-            cr: 1024,
+            y: RESET_DC,
+            cb: RESET_DC,
+            cr: RESET_DC,
         },
         pasts: VectorPasts {
             forward: Vector { right: 0, down: 0 },

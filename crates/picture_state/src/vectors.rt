@@ -3,7 +3,7 @@ ghost use mathlib.Core.Path.{_≡_};
 ghost use Prim.Native.Nat.{_≤_};
 ghost use Rattle.motion.specs.Vector.{factorOf};
 ghost use Rattle.macroblock.specs.Compensation.{VectorWithin};
-ghost use Rattle.picture_state.specs.Vectors.{hasForward, hasBackward, isIntra, decodedVector, pastsBefore, forwardAfter, backwardAfter, pastsAfter, usedOf, predictsForward, predictsBackward, ownMotion, nextPasts, Decodable, PastsWithin, SymbolsWithin};
+ghost use Rattle.picture_state.specs.Vectors.{decodedVector, pastsBefore, forwardAfter, backwardAfter, pastsAfter, usedOf, predictsForward, predictsBackward, ownMotion, nextPasts, Decodable, PastsWithin, SymbolsWithin};
 use crate::state;
 use crate::state::VectorPasts;
 use macroblock::compensation::Motion;
@@ -12,25 +12,10 @@ use macroblock_symbols::MacroblockSymbols;
 use picture_header::header::Header;
 use picture_header::header::P_PICTURE;
 use picture_header::header::VectorCoding;
+use symbols::macroblock_head::BACKWARD;
+use symbols::macroblock_head::FORWARD;
+use symbols::macroblock_head::INTRA;
 use symbols::vector_codes::VectorCodes;
-
-pub fn has_forward(flags: u8) -> bool
-    ensures { λ r. ⌜ r ≡ hasForward flags ⌝ }
-{
-    flags / 2 % 2 == 1
-}
-
-pub fn has_backward(flags: u8) -> bool
-    ensures { λ r. ⌜ r ≡ hasBackward flags ⌝ }
-{
-    flags / 4 % 2 == 1
-}
-
-pub fn is_intra(flags: u8) -> bool
-    ensures { λ r. ⌜ r ≡ isIntra flags ⌝ }
-{
-    16 <= flags
-}
 
 // The count f of residuals: 1 where the picture has no vectors of this direction.
 pub fn factor_of(coding: VectorCoding) -> u32
@@ -83,7 +68,7 @@ fn forward_after(header: Header, symbols: MacroblockSymbols, past: Vector) -> Ve
     requires { ⌜ SymbolsWithin header symbols × VectorWithin 1024 past ⌝ }
     ensures { λ r. ⌜ r ≡ forwardAfter header symbols past ⌝ }
 {
-    let given = has_forward(symbols.flags);
+    let given = macroblock_symbols::vectors::gives_part(symbols.flags, FORWARD);
     if given {
         let coding = header.forward;
         let codes = symbols.forward;
@@ -99,7 +84,7 @@ fn backward_after(header: Header, symbols: MacroblockSymbols, past: Vector) -> V
     requires { ⌜ SymbolsWithin header symbols × VectorWithin 1024 past ⌝ }
     ensures { λ r. ⌜ r ≡ backwardAfter header symbols past ⌝ }
 {
-    let given = has_backward(symbols.flags);
+    let given = macroblock_symbols::vectors::gives_part(symbols.flags, BACKWARD);
     if given {
         let coding = header.backward;
         let codes = symbols.backward;
@@ -112,7 +97,7 @@ fn pasts_after(header: Header, symbols: MacroblockSymbols, pasts: VectorPasts) -
     requires { ⌜ SymbolsWithin header symbols × PastsWithin pasts ⌝ }
     ensures { λ r. ⌜ r ≡ pastsAfter header symbols pasts ⌝ }
 {
-    let intra = is_intra(symbols.flags);
+    let intra = macroblock_symbols::vectors::gives_part(symbols.flags, INTRA);
     if intra {
         return state::zero_pasts();
     }
@@ -136,11 +121,11 @@ fn use_vector(coding: VectorCoding, vector: Vector) -> Vector
 fn predicts_forward(coding: u8, flags: u8) -> bool
     ensures { λ r. ⌜ r ≡ predictsForward coding flags ⌝ }
 {
-    let intra = is_intra(flags);
+    let intra = macroblock_symbols::vectors::gives_part(flags, INTRA);
     if intra {
         return false;
     }
-    let given = has_forward(flags);
+    let given = macroblock_symbols::vectors::gives_part(flags, FORWARD);
     if given {
         return true;
     }
@@ -150,11 +135,11 @@ fn predicts_forward(coding: u8, flags: u8) -> bool
 fn predicts_backward(flags: u8) -> bool
     ensures { λ r. ⌜ r ≡ predictsBackward flags ⌝ }
 {
-    let intra = is_intra(flags);
+    let intra = macroblock_symbols::vectors::gives_part(flags, INTRA);
     if intra {
         return false;
     }
-    has_backward(flags)
+    macroblock_symbols::vectors::gives_part(flags, BACKWARD)
 }
 
 pub fn own_motion(header: Header, flags: u8, pasts: VectorPasts) -> Motion

@@ -1,7 +1,7 @@
 -- What the field readers find, from the length and the elements. Assumes nothing.
-use mathlib.Core.Path.{_≡_, refl, sym, ap, _∙_}
+use mathlib.Core.Path.{_≡_, refl, sym, _∙_}
 use mathlib.Core.List.{List, [], _∷_}
-use Prim.Native.Nat.{ℕ, zero, suc, _+_, _-_, _*_, _<_, _≤_}
+use Prim.Native.Nat.{ℕ, _+_, _-_, _*_, _<_, _≤_}
 use native.Mathlib.Omega.{arith}
 use lib.IntN.{ℤ, pos, negsuc, negℤ, _-ℤ_}
 use lib.Signed.{mag}
@@ -53,16 +53,6 @@ module _ {A : Type 0} (P : A → Type 0) (l : List ℕ) (short : A) where
   pub signed-all : (f : SignedField) (rest : ℤ → List ℕ → A) → P short → ((z : ℤ) (left : List ℕ) → P (rest z left)) → P (signedThen f l short rest)
   signed-all (S.Value z c) rest s r = r z _
   signed-all S.Short rest s r = s
-
-drop-none : {A : Type 0} (k : ℕ) → drop {A = A} k [] ≡ []
-drop-none zero = refl
-drop-none (suc k) = refl
-
--- the part after a part
-pub drop-more : {A : Type 0} (n m : ℕ) (l : List A) → drop m (drop n l) ≡ drop (n + m) l
-drop-more zero m l = let same : m ≡ 0 + m = omega arith in ap (λ (k : ℕ). drop k l) same
-drop-more (suc n) m [] = drop-none m ∙ sym (drop-none (suc n + m))
-drop-more (suc n) m (x ∷ l) = let next : suc (n + m) ≡ suc n + m = omega arith in drop-more n m l ∙ ap (λ (k : ℕ). drop k (x ∷ l)) next
 
 -- the part from n on, as a slice gives it
 pub rest-from : (n : ℕ) (l : List ℕ) → take (length l - n) (drop n l) ≡ drop n l

@@ -9,6 +9,7 @@ use borrow.Author.Tests.{leb-true}
 use lib.Dec.{leb}
 use lib.IntN.{ℤ, pos, negsuc}
 use lib.ListN.{getD, drop}
+use lib.Seq.{drop-drop}
 use Rattle.integers.specs.Bound.{Within}
 use Rattle.integers.specs.Limit.{inRange, eqZ}
 use Rattle.integers.proofs.Bound.{within-literal}
@@ -21,7 +22,7 @@ use Rattle.format3.specs.declared.verdict.Verdict.the-variants.{Passed}
 use Rattle.format3.specs.declared.verdict.Verdict.the-variants as Verdict
 use Rattle.format3.specs.Field.{byteOf, signedWordOf}
 use Rattle.format3.proofs.Laws.Chain.{only-all, both}
-use Rattle.format3.proofs.Laws.Field.{byte-all, signed-all, drop-more}
+use Rattle.format3.proofs.Laws.Field.{byte-all, signed-all}
 use Rattle.pairs.specs.declared.BlockCoding.{BlockCoding}
 use Rattle.pairs.specs.declared.Pair.{Pair}
 use Rattle.pairs.specs.declared.PairAnswer.{PairAnswer}
@@ -105,8 +106,8 @@ module _ (c : BlockCoding) (matrix : List ℕ) where
         let low : pair .position ≤ 63 = placed next (drop at body) e .low in record {
           near = omega arith;
           passed = omega (arith, p .passed);
-          answered = rw (← drop-more at 3 body) (sym (ap (λ (r : Reading _). r .answer) one) ∙ p .answered);
-          stored = rw (← drop-more at 3 body) (sym (ap (λ (r : Reading _). r .store now) one) ∙ p .stored);
+          answered = rw (← drop-drop 3 at body) (sym (ap (λ (r : Reading _). r .answer) one) ∙ p .answered);
+          stored = rw (← drop-drop 3 at body) (sym (ap (λ (r : Reading _). r .store now) one) ∙ p .stored);
         }
 
 -- ---- what the pairs store

@@ -10,13 +10,13 @@ next-pasts-requires c κs = (c .before .pre .symbols, c .before .pre .pasts)
 own-motion-requires : tie.Need-own-motion-requires
 own-motion-requires c κs = rw (c .next-pasts .ensures) (pasts-within _ _ _ (c .before .before .pre))
 
-is-intra-requires : tie.Need-is-intra-requires
-is-intra-requires c κs = search needs
+gives-part-requires : tie.Need-gives-part-requires
+gives-part-requires c κs = search needs
 
 returns : tie.Need-returns
 returns c =
     let own = c .before .before in
-    rw (own .own-motion .ensures, own .before .next-pasts .ensures, c .is-intra .ensures)
+    rw (own .own-motion .ensures, own .before .next-pasts .ensures, c .gives-part .ensures)
 
 pub slice-after-spec : {M : Type 1} → statement M
-slice-after-spec = tie.close (tie.spec next-pasts-requires own-motion-requires is-intra-requires returns)
+slice-after-spec = tie.close (tie.spec next-pasts-requires own-motion-requires gives-part-requires returns)

@@ -6,19 +6,19 @@ use Rattle.picture_state.specs.Vectors.{backwardAfter}
 use Rattle.picture_state.proofs.vectors.backward_after.Statement.{statement}
 use Rattle.picture_state.proofs.vectors.backward_after.Tie as tie
 
-has-backward-requires : tie.Need-has-backward-requires
-has-backward-requires c κs = search needs
+gives-part-requires : tie.Need-gives-part-requires
+gives-part-requires c κs = search needs
 
 decode-requires : tie.Need-decode-requires
 decode-requires c κs = let s = c .before .before .before .before in backward-decodable (s .args .header) (s .args .symbols) (s .args .past) (s .pre .0) (s .pre .1)
 
 returns : tie.Need-returns
 unfolding backwardAfter
-returns c = rw (sym (c .before .before .before .before .has-backward .ensures) ∙ c .before .before .before .if1 .taken) (c .decode .ensures)
+returns c = rw (sym (c .before .before .before .before .gives-part .ensures) ∙ c .before .before .before .if1 .taken) (c .decode .ensures)
 
 returns-2 : tie.Need-returns-2
 unfolding backwardAfter
-returns-2 c = rw (sym (c .before .has-backward .ensures) ∙ c .if1 .left)
+returns-2 c = rw (sym (c .before .gives-part .ensures) ∙ c .if1 .left)
 
 pub backward-after-spec : {M : Type 1} → statement M
-backward-after-spec = tie.close (tie.spec has-backward-requires decode-requires returns returns-2)
+backward-after-spec = tie.close (tie.spec gives-part-requires decode-requires returns returns-2)

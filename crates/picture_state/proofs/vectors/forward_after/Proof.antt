@@ -7,24 +7,24 @@ use Rattle.picture_state.specs.Vectors.{forwardAfter}
 use Rattle.picture_state.proofs.vectors.forward_after.Statement.{statement}
 use Rattle.picture_state.proofs.vectors.forward_after.Tie as tie
 
-has-forward-requires : tie.Need-has-forward-requires
-has-forward-requires c κs = search needs
+gives-part-requires : tie.Need-gives-part-requires
+gives-part-requires c κs = search needs
 
 decode-requires : tie.Need-decode-requires
 decode-requires c κs = let s = c .before .before .before .before in forward-decodable (s .args .header) (s .args .symbols) (s .args .past) (s .pre .0) (s .pre .1)
 
 returns : tie.Need-returns
 unfolding forwardAfter
-returns c = rw (sym (c .before .before .before .before .has-forward .ensures) ∙ c .before .before .before .if1 .taken) (c .decode .ensures)
+returns c = rw (sym (c .before .before .before .before .gives-part .ensures) ∙ c .before .before .before .if1 .taken) (c .decode .ensures)
 
 returns-2 : tie.Need-returns-2
 unfolding forwardAfter
-returns-2 c = rw (sym (c .before .before .before .has-forward .ensures) ∙ c .before .before .if1 .left, eq-eqb _ _ (c .if2 .taken))
+returns-2 c = rw (sym (c .before .before .before .gives-part .ensures) ∙ c .before .before .if1 .left, eq-eqb _ _ (c .if2 .taken))
 
 returns-3 : tie.Need-returns-3
 unfolding forwardAfter
-returns-3 c = rw (sym (c .before .before .before .has-forward .ensures) ∙ c .before .before .if1 .left, ne-eqb _ _ (c .if2 .left))
+returns-3 c = rw (sym (c .before .before .before .gives-part .ensures) ∙ c .before .before .if1 .left, ne-eqb _ _ (c .if2 .left))
 
 pub forward-after-spec : {M : Type 1} → statement M
 forward-after-spec =
-    tie.close (tie.spec has-forward-requires decode-requires returns returns-2 returns-3)
+    tie.close (tie.spec gives-part-requires decode-requires returns returns-2 returns-3)

@@ -5,24 +5,24 @@ use Rattle.picture_state.specs.Vectors.{predictsForward}
 use Rattle.picture_state.proofs.vectors.predicts_forward.Statement.{statement}
 use Rattle.picture_state.proofs.vectors.predicts_forward.Tie as tie
 
-is-intra-requires : tie.Need-is-intra-requires
-is-intra-requires c κs = search needs
+gives-part-requires : tie.Need-gives-part-requires
+gives-part-requires c κs = search needs
 
 returns : tie.Need-returns
 unfolding predictsForward
-returns c = rw (sym (c .before .is-intra .ensures) ∙ c .if1 .taken)
+returns c = rw (sym (c .before .gives-part .ensures) ∙ c .if1 .taken)
 
-has-forward-requires : tie.Need-has-forward-requires
-has-forward-requires c κs = search needs
+gives-part-requires-2 : tie.Need-gives-part-requires-2
+gives-part-requires-2 c κs = search needs
 
 returns-2 : tie.Need-returns-2
 unfolding predictsForward
-returns-2 c = rw (sym (c .before .before .before .is-intra .ensures) ∙ c .before .before .if1 .left, sym (c .before .has-forward .ensures) ∙ c .if2 .taken)
+returns-2 c = rw (sym (c .before .before .before .gives-part .ensures) ∙ c .before .before .if1 .left, sym (c .before .gives-part2 .ensures) ∙ c .if2 .taken)
 
 returns-3 : tie.Need-returns-3
 unfolding predictsForward
-returns-3 c = rw (sym (c .before .before .before .is-intra .ensures) ∙ c .before .before .if1 .left, sym (c .before .has-forward .ensures) ∙ c .if2 .left)
+returns-3 c = rw (sym (c .before .before .before .gives-part .ensures) ∙ c .before .before .if1 .left, sym (c .before .gives-part2 .ensures) ∙ c .if2 .left)
 
 pub predicts-forward-spec : {M : Type 1} → statement M
 predicts-forward-spec =
-    tie.close (tie.spec is-intra-requires returns has-forward-requires returns-2 returns-3)
+    tie.close (tie.spec gives-part-requires returns gives-part-requires-2 returns-2 returns-3)
