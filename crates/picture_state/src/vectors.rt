@@ -85,12 +85,12 @@ fn backward_after(header: Header, symbols: MacroblockSymbols, past: Vector) -> V
     ensures { λ r. ⌜ r ≡ backwardAfter header symbols past ⌝ }
 {
     let given = macroblock_symbols::vectors::gives_part(symbols.flags, BACKWARD);
-    if given {
-        let coding = header.backward;
-        let codes = symbols.backward;
-        return decode(coding, past, codes);
+    if !given {
+        return past;
     }
-    past
+    let coding = header.backward;
+    let codes = symbols.backward;
+    decode(coding, past, codes)
 }
 
 fn pasts_after(header: Header, symbols: MacroblockSymbols, pasts: VectorPasts) -> VectorPasts
