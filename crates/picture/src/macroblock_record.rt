@@ -1,6 +1,5 @@
 // What a macroblock record does: its symbols are read and tested to their end, then every vector's fit, then all its macroblocks are written.
 ghost use mathlib.Core.Path.{_≡_};
-ghost use Prim.Native.Nat.{_≤_};
 ghost use Rattle.integers.specs.Bound.{AllWithin};
 ghost use Rattle.transform.specs.Transform.{inverseTransform};
 ghost use Rattle.picture.specs.MacroblockRecord.{outcomeOf, passes, advanced, contextOf, written, ownDrawn, drawn, macroblockActed};
