@@ -2,8 +2,8 @@
 mod input;
 mod print;
 
+use player::play;
 use reel::part;
-use reel::play;
 
 // Three buffers for pictures of at most 40 macroblocks: both references, and the output.
 fn play_all(reel: &[u8], older: &mut [u8], newer: &mut [u8], output: &mut [u8]) {

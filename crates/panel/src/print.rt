@@ -1,9 +1,9 @@
 // What is printed: fields with a space between them, a line each.
 use libc::STDOUT_FILENO;
 use picture::reader::Answer;
-use reel::line::Line;
-use reel::line::Sums;
-use reel::play::Shown;
+use player::line::Line;
+use player::play::Shown;
+use reel::planes::Sums;
 
 // A number and the byte after it.
 fn print_field(number: u64, separator: &[u8; 1]) {

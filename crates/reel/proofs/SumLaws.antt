@@ -5,7 +5,7 @@ use Prim.Native.Nat.{ℕ, zero, suc, _+_, _*_, _≤_, _<_}
 use native.Mathlib.Omega.{arith}
 use lib.ListN.{length, getD, take}
 use lib.Seq.{take-all}
-use Rattle.reel.specs.Line.{total}
+use Rattle.reel.specs.Planes.{total}
 
 total-more : (pels : List ℕ) (k : ℕ) → k < length pels → total (take (suc k) pels) ≡ total (take k pels) + getD pels k 0
 unfolding total

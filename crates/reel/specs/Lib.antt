@@ -1,4 +1,3 @@
 pub mod Part
+pub mod Planes
 pub mod References
-pub mod Line
-pub mod Play

@@ -1,5 +1,4 @@
-// What the program `panel` prints of a reel: the reel taken apart, the references kept and lent, and each picture's line.
-pub mod line;
+// A reel taken apart, the references that it keeps and lends, and the sums of a picture's planes.
 pub mod part;
-pub mod play;
+pub mod planes;
 pub mod references;

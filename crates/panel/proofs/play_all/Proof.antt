@@ -4,7 +4,7 @@ use Prim.Native.Nat.{_-_, _≤_}
 use native.Mathlib.Omega.{arith}
 use borrow.Author.Needs.{needs}
 use lib.ListN.{length}
-use Rattle.reel.proofs.PlayLaws.{Moved, moves-on}
+use Rattle.player.proofs.PlayLaws.{Moved, moves-on}
 use Rattle.panel.proofs.play_all.Statement.{statement}
 use Rattle.panel.proofs.play_all.Tie as tie
 

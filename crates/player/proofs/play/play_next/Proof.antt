@@ -1,0 +1,74 @@
+-- `play_next` meets its contract: a file that is found lies within the reel. Assumes nothing.
+use mathlib.Core.Path.{refl, sym, _∙_}
+use native.Mathlib.Nat.{add-sub-cancel-left}
+use native.Mathlib.Omega.{arith}
+use Rattle.player.specs.Play.{nextOf}
+use Rattle.player.proofs.PlayLaws.{inside}
+use borrow.Author.Needs.{needs}
+use Rattle.player.proofs.play.play_next.Statement.{statement}
+use Rattle.player.proofs.play.play_next.Tie as tie
+
+part-at-requires : tie.Need-part-at-requires
+part-at-requires c κs = search needs
+
+enum-told : tie.Need-enum-told
+enum-told c = search needs
+
+enum-known-start : tie.Need-enum-known-start
+enum-known-start c = search needs
+
+add-number : tie.Need-add-number
+add-number c = let within = inside _ _ .fits _ _ (sym (c .before .before .before .before .part-at .ensures) ∙ c .before .before .start .given .1) in omega (arith, within .0, within .1, c .before .before .before .before .before .before .before .before .before .before .pre)
+
+add-end : tie.Need-add-end
+add-end c = let within = inside _ _ .fits _ _ (sym (c .before .before .before .before .part-at .ensures) ∙ c .before .before .start .given .1) in omega (arith, within .1)
+
+sub-play-picture : tie.Need-sub-play-picture
+sub-play-picture c = search needs
+
+part-play-picture-start : tie.Need-part-play-picture-start
+part-play-picture-start c = search needs
+
+part-play-picture-end : tie.Need-part-play-picture-end
+part-play-picture-end c = inside _ _ .fits _ _ (sym (c .before .before .before .before .part-at .ensures) ∙ c .before .before .start .given .1) .1
+
+play-picture-requires : tie.Need-play-picture-requires
+play-picture-requires c κs = search needs
+
+returns : tie.Need-returns
+unfolding nextOf
+returns c = rw (← c .before .before .part-at .ensures, c .enum-told .given .1) (refl, (refl, (refl, refl)))
+
+same-length : tie.Need-same-length
+same-length c = search needs
+
+same-length-2 : tie.Need-same-length-2
+same-length-2 c = search needs
+
+same-length-3 : tie.Need-same-length-3
+same-length-3 c = search needs
+
+returns-2 : tie.Need-returns-2
+unfolding nextOf
+returns-2 c =
+    let given = rw add-sub-cancel-left at (c .before .before .before .before .before .before .before .before .play-picture .ensures) in
+    rw (← c .before .before .before .before .before .before .before .before .before .before .before .before .before .before .before .before .before .part-at .ensures, c .before .before .before .before .before .before .before .before .before .before .before .before .before .before .before .start .given .1) (rw (given .0) refl, given .1)
+
+pub play-next-spec : {M : Type 1} → statement M
+play-next-spec =
+    tie.close
+    (tie.spec
+    part-at-requires
+    enum-told
+    enum-known-start
+    add-number
+    add-end
+    sub-play-picture
+    part-play-picture-start
+    part-play-picture-end
+    play-picture-requires
+    returns
+    same-length
+    same-length-2
+    same-length-3
+    returns-2)

@@ -1,0 +1,65 @@
+-- `sums_of` meets its contract: each plane is the part that `sumsOf` takes, and it has few enough pels to be summed. Assumes nothing.
+use native.Mathlib.Omega.{arith}
+use lib.ListN.{length-take}
+use Rattle.reel.specs.Planes.{sumsOf}
+use borrow.Author.Needs.{needs}
+use Rattle.reel.proofs.planes.sums_of.Statement.{statement}
+use Rattle.reel.proofs.planes.sums_of.Tie as tie
+
+mul-chroma : tie.Need-mul-chroma
+mul-chroma c = search needs
+
+mul-first : tie.Need-mul-first
+mul-first c = search needs
+
+first-requires : tie.Need-first-requires
+first-requires c κs = search needs
+
+sum-requires : tie.Need-sum-requires
+sum-requires c κs = rw (c .first .ensures) (simp length-take (omega (arith, c .before .before .pre)))
+
+mul-after : tie.Need-mul-after
+mul-after c = search needs
+
+after-requires : tie.Need-after-requires
+after-requires c κs = search needs
+
+first-requires-2 : tie.Need-first-requires-2
+first-requires-2 c κs = search needs
+
+sum-requires-2 : tie.Need-sum-requires-2
+sum-requires-2 c κs = rw (c .first2 .ensures) (simp length-take (omega (arith, c .before .before .before .before .before .pre)))
+
+mul-after-2 : tie.Need-mul-after-2
+mul-after-2 c = search needs
+
+after-requires-2 : tie.Need-after-requires-2
+after-requires-2 c κs = search needs
+
+first-requires-3 : tie.Need-first-requires-3
+first-requires-3 c κs = search needs
+
+sum-requires-3 : tie.Need-sum-requires-3
+sum-requires-3 c κs = rw (c .first3 .ensures) (simp length-take (omega (arith, c .before .before .before .before .before .before .before .before .pre)))
+
+returns : tie.Need-returns
+unfolding sumsOf
+returns c = rw (c .before .before .before .before .before .before .sum .ensures, c .before .before .before .before .before .before .before .first .ensures, c .before .before .before .sum2 .ensures, c .before .before .before .before .first2 .ensures, c .before .before .before .before .before .after .ensures, c .sum3 .ensures, c .before .first3 .ensures, c .before .before .after2 .ensures)
+
+pub sums-of-spec : {M : Type 1} → statement M
+sums-of-spec =
+    tie.close
+    (tie.spec
+    mul-chroma
+    mul-first
+    first-requires
+    sum-requires
+    mul-after
+    after-requires
+    first-requires-2
+    sum-requires-2
+    mul-after-2
+    after-requires-2
+    first-requires-3
+    sum-requires-3
+    returns)
