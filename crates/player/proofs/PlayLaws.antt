@@ -14,7 +14,7 @@ use Rattle.picture_header.specs.Opening.{firstHeader}
 use Rattle.picture_header.specs.declared.opening.Opened.{Opened}
 use Rattle.picture_header.specs.declared.opening.Opened.the-variants as Opened
 use Rattle.reel.specs.Part.{partAt, lengthAt}
-use Rattle.player.specs.Play.{startOf, nextOf}
+use Rattle.player.specs.Play.{startOf, lentBytes, nextOf}
 use Rattle.reel.specs.declared.part.Part.{Part}
 use Rattle.reel.specs.declared.part.Part.the-variants as Part
 use Rattle.player.specs.declared.play.Position.{Position}
@@ -48,6 +48,14 @@ start-within file = go (firstHeader file) refl
     go : (x : Opened) → firstHeader file ≡ x → startOf x .macroblocks ≤ 396
     go (Opened.Refused refusal place) e = omega arith
     go (Opened.Opened h end) e = begun file e .header .size .few
+
+-- ---- an output that is lent fits a buffer for 40 macroblocks, and so does a reference that is kept
+pub lent-within : (macroblocks : ℕ) → lentBytes macroblocks ≤ 15360
+lent-within macroblocks = go (leb macroblocks 40) refl
+  where
+    go : (b : Bool) → leb macroblocks 40 ≡ b → lentBytes macroblocks ≤ 15360
+    go true e = rw e (omega (arith, leb-true macroblocks 40 e))
+    go false e = rw e (omega arith)
 
 -- ---- a file found in the reel lies within it, after its length
 pub record Inside (reel : List ℕ) (at : ℕ) (p : Part) : Type 0 where
