@@ -4,28 +4,39 @@ ghost use lib.ListN.{length};
 ghost use Rattle.io.specs.Counts.{Counts};
 use libc::STDIN_FILENO;
 
-// One read: how many bytes it put at the buffer's start, 0 at the input's end. A read that fails is told, and ends the input.
-fn read_some(buffer: &mut [u8]) -> usize
-    ensures { λ r. ⌜ r ≤ length (now (buffer .exit)) ⌝ }
-{
-    let got = libc::read(STDIN_FILENO, buffer);
-    if got < 0 {
-        os::fail(b"standard input");
-    }
-    io::count(got, buffer)
+// What one read came to: how many bytes it put at the buffer's start, 0 at the input's end, and whether it failed.
+struct Piece {
+    length: usize,
+    failed: bool,
 }
 
-// Reads until the buffer is full or the input ends, and answers how many bytes were read.
+// One read; where it fails, that is told.
+fn read_some(buffer: &mut [u8]) -> Piece
+    ensures { λ r. ⌜ r .length ≤ length (now (buffer .exit)) ⌝ }
+{
+    let got = libc::read(STDIN_FILENO, buffer);
+    let length = io::count(got, buffer);
+    let failed = got < 0;
+    if failed {
+        os::fail(b"standard input");
+    }
+    Piece { length, failed }
+}
+
+// Reads until the buffer is full or the input ends, and answers how many bytes were read: none where a read failed.
 pub fn read_all(buffer: &mut [u8]) -> usize
     ensures { λ r. ⌜ Counts r (now (buffer .exit)) ⌝ }
 {
     let mut read = 0usize;
     while read < buffer.len() {
-        let more = read_some(&mut buffer[read..]);
-        if more == 0 {
+        let piece = read_some(&mut buffer[read..]);
+        if piece.failed {
+            return 0;
+        }
+        if piece.length == 0 {
             return read;
         }
-        read += more;
+        read += piece.length;
     }
     read
 }

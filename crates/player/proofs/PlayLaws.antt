@@ -2,7 +2,7 @@
 use mathlib.Core.Bool.{Bool, true, false}
 use mathlib.Core.List.{List}
 use mathlib.Core.Path.{_≡_, refl, sym, _∙_}
-use Prim.Native.Nat.{ℕ, min, _+_, _≤_, _<_}
+use Prim.Native.Nat.{ℕ, min, _+_, _*_, _≤_, _<_}
 use native.Mathlib.Omega.{arith}
 use lib.Dec.{leb}
 use lib.ListN.{length, take, drop, drop-of-length-le}
@@ -77,17 +77,18 @@ inside reel at =
     none : Inside reel at Part.Cut
     none = record { fits = λ start n e. let z : _≡_ {A = ℕ} 0 1 = cc in absurd (omega arith) }
 
--- ---- the position moves on to the reel's end, and no more pictures were counted than bytes passed
+-- ---- the position moves on to the reel's end; a picture takes 4 bytes at least, and counts once
 pub record Moved (reel : List ℕ) (before after : Position) : Type 0 where
   pub on : before .at < length reel → before .at < after .at
-  pub counted : before .pictures ≤ before .at → before .at < length reel → after .pictures ≤ after .at
+  pub counted : 4 * before .pictures ≤ before .at → before .at < length reel → 4 * after .pictures ≤ after .at
+  pub once : after .at < length reel → after .pictures ≡ before .pictures + 1
 
 pub moves-on : (reel : List ℕ) (position : Position) (older newer output : List ℕ) → Moved reel position (nextOf reel position older newer output .next .position)
 unfolding nextOf
 moves-on reel position older newer output = go (partAt reel (position .at)) refl
   where
     go : (p : Part) → partAt reel (position .at) ≡ p → Moved reel position (nextOf reel position older newer output .next .position)
-    go Part.Cut e = rw e (record { on = λ h. h; counted = λ h i. omega arith })
+    go Part.Cut e = rw e (record { on = λ h. h; counted = λ h i. omega arith; once = λ h. absurd (omega arith) })
     go (Part.File start n) e =
         let within = inside reel (position .at) .fits start n e in
-        rw e (record { on = λ h. omega (arith, within .0); counted = λ h i. omega (arith, within .0) })
+        rw e (record { on = λ h. omega (arith, within .0); counted = λ h i. omega (arith, within .0); once = λ h. refl })

@@ -6,6 +6,7 @@ use borrow.Author.Needs.{needs}
 use lib.ListN.{length, length-take, length-drop}
 use borrow.Rule.Slice.PartMut.{putMid, same-len-mid, mid-len}
 use lib.Seq.{length-take-le}
+use Rattle.io.specs.Counts.{Counts}
 use Rattle.panel.proofs.input.read_all.Statement.{statement}
 use Rattle.panel.proofs.input.read_all.Tie as tie
 
@@ -39,31 +40,41 @@ kept c = same-len-mid (c .before .before .before .before .loop .read) (length (c
     (part-long c ∙ sym (mid-len (c .before .before .before .before .loop .read) (length (c .before .before .before .before .loop .buffer)) (c .before .before .before .before .loop .buffer) (omega arith)))
 
 -- what was read fits the rest of the buffer
-more-fits : (c : tie.After-buffer Inv-loop μ-loop) → c .before .before .before .before .loop .read + c .before .read-some .result ≤ length (c .before .before .before .before .loop .buffer)
+more-fits : (c : tie.After-buffer Inv-loop μ-loop) → c .before .before .before .before .loop .read + c .before .read-some .result .length ≤ length (c .before .before .before .before .loop .buffer)
 more-fits c = let long = part-long c in let more = c .before .read-some .ensures in omega (arith, c .before .before .before .before .loop .inv .0)
+
+-- as many bytes as there were before
+counts : (c : tie.After-buffer Inv-loop μ-loop) → Counts (c .before .before .before .before .loop .read) (putMid (c .before .before .before .before .loop .read) (length (c .before .before .before .before .loop .buffer) - c .before .before .before .before .loop .read) (c .before .before .before .before .loop .buffer) (c .before .read-some .last .0))
+counts c =
+    let inside = subst (λ (n : ℕ). c .before .before .before .before .loop .read ≤ n) (sym (kept c)) (c .before .before .before .before .loop .inv .0) in
+    (inside, sym (length-take-le _ _ inside))
 
 same-length : tie.Need-same-length Inv-loop μ-loop
 same-length c = kept (c .before .before) ∙ c .before .before .before .before .before .before .loop .inv .1
 
 returns : tie.Need-returns Inv-loop μ-loop
-returns c =
-    let inside = subst (λ (n : ℕ). c .before .before .before .before .before .before .loop .read ≤ n) (sym (kept (c .before .before))) (c .before .before .before .before .before .before .loop .inv .0) in
-    (inside, sym (length-take-le _ _ inside))
-
-add-read : tie.Need-add-read Inv-loop μ-loop
-add-read c = let fits = more-fits (c .before .before) in let same = c .before .before .before .before .before .before .loop .inv .1 in search needs
-
-loop-less : tie.Need-loop-less Inv-loop μ-loop
-loop-less c = let same = kept (c .before .before) in let fits = more-fits (c .before .before) in omega arith
-
-loop-again : tie.Need-loop-again Inv-loop μ-loop
-loop-again c = (rw (kept (c .before .before)) (more-fits (c .before .before)), kept (c .before .before) ∙ c .before .before .before .before .before .before .loop .inv .1)
+returns c = (omega arith, refl)
 
 same-length-2 : tie.Need-same-length-2 Inv-loop μ-loop
-same-length-2 c = c .before .loop .inv .1
+same-length-2 c = kept (c .before .before .before .before) ∙ c .before .before .before .before .before .before .before .before .loop .inv .1
 
 returns-2 : tie.Need-returns-2 Inv-loop μ-loop
-returns-2 c = (c .before .loop .inv .0, sym (length-take-le _ _ (c .before .loop .inv .0)))
+returns-2 c = counts (c .before .before .before .before)
+
+add-read : tie.Need-add-read Inv-loop μ-loop
+add-read c = let fits = more-fits (c .before .before .before .before .before) in let same = c .before .before .before .before .before .before .before .before .before .loop .inv .1 in search needs
+
+loop-less : tie.Need-loop-less Inv-loop μ-loop
+loop-less c = let same = kept (c .before .before .before .before .before) in let fits = more-fits (c .before .before .before .before .before) in omega arith
+
+loop-again : tie.Need-loop-again Inv-loop μ-loop
+loop-again c = (rw (kept (c .before .before .before .before .before)) (more-fits (c .before .before .before .before .before)), kept (c .before .before .before .before .before) ∙ c .before .before .before .before .before .before .before .before .before .loop .inv .1)
+
+same-length-3 : tie.Need-same-length-3 Inv-loop μ-loop
+same-length-3 c = c .before .loop .inv .1
+
+returns-3 : tie.Need-returns-3 Inv-loop μ-loop
+returns-3 c = (c .before .loop .inv .0, sym (length-take-le _ _ (c .before .loop .inv .0)))
 
 pub read-all-spec : {M : Type 1} → statement M
 read-all-spec =
@@ -78,8 +89,10 @@ read-all-spec =
     read-some-requires
     same-length
     returns
+    same-length-2
+    returns-2
     add-read
     loop-less
     loop-again
-    same-length-2
-    returns-2)
+    same-length-3
+    returns-3)

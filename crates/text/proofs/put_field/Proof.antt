@@ -1,0 +1,69 @@
+-- `put_field` meets its contract: the digits are as many as the number has. Assumes nothing.
+use mathlib.Core.List.{List, [], _∷_, _++_, append-assoc}
+use mathlib.Core.Path.{ap, _∙_}
+use Prim.Native.Nat.{ℕ, _+_, _≤_}
+use native.Mathlib.Omega.{arith}
+use lib.ListN.{length, take, length-take}
+use Rattle.io.specs.Digits.{digits}
+use Rattle.text.proofs.NumberLaws.{fewest, few}
+use borrow.Author.Needs.{needs}
+use Rattle.text.proofs.put_field.Statement.{statement}
+use Rattle.text.proofs.put_field.Tie as tie
+
+-- the digits are at most 20, and so they fit the text
+digits-few : (c : tie.After-decimal) → c .decimal .result ≤ 20
+digits-few c = few (c .before .before .before .args .number) (c .decimal .result) (omega (arith, c .before .before .before .fits)) (c .decimal .ensures .1 .0)
+
+digits-fit : (c : tie.After-decimal) → c .before .before .before .args .at + length (take (c .decimal .result) (c .decimal .last .1 .0)) ≤ length (c .before .before .before .args .text .now)
+digits-fit c = simp length-take (omega (arith, digits-few c, c .before .before .before .pre))
+
+-- where they end
+digits-end : (c : tie.After-put-bytes) → c .put-bytes .result ≤ c .before .before .before .before .before .before .args .at + 20
+digits-end c = let end = simp length-take at (c .put-bytes .ensures .0) in omega (arith, digits-few (c .before .before .before))
+
+decimal-requires : tie.Need-decimal-requires
+decimal-requires c κs = search needs
+
+array-share-prefix-digits : tie.Need-array-share-prefix-digits
+array-share-prefix-digits c = search needs
+
+slice-aggregate-put-bytes : tie.Need-slice-aggregate-put-bytes
+slice-aggregate-put-bytes c = search needs
+
+put-bytes-requires : tie.Need-put-bytes-requires
+put-bytes-requires c κs = digits-fit (c .before .before)
+
+slice-aggregate-put-bytes-2 : tie.Need-slice-aggregate-put-bytes-2
+slice-aggregate-put-bytes-2 c = search needs
+
+put-bytes-requires-2 : tie.Need-put-bytes-requires-2
+put-bytes-requires-2 c κs = let long = c .before .before .before .text .given in omega (arith, digits-end (c .before .before .before .before), c .before .before .before .before .before .before .before .before .before .before .pre)
+
+same-length : tie.Need-same-length
+same-length c = search needs
+
+returns : tie.Need-returns
+returns c =
+    let number = c .before .before .before .before .before .before .before .before .before .before .before .before .before .args .number in
+    let kept = take (c .before .before .before .before .before .before .before .before .before .before .before .before .before .args .at) (c .before .before .before .before .before .before .before .before .before .before .before .before .before .args .text .now) in
+    let after = c .before .before .before .before .before .before .before .before .before .before .before .before .before .args .after ∷ [] in
+    let digits-are = c .before .before .before .before .before .before .before .before .before .before .decimal .ensures .1 .1 ∙ ap (λ (k : ℕ). digits 10 k number) (fewest number (c .before .before .before .before .before .before .before .before .before .before .decimal .result) (c .before .before .before .before .before .before .before .before .before .before .decimal .ensures .1 .0)) in (
+      omega (arith, c .before .before .put-bytes2 .ensures .0, digits-end (c .before .before .before .before .before .before .before)),
+      c .before .before .put-bytes2 .ensures .1
+          ∙ ap (λ (l : List ℕ). l ++ after) (c .before .before .before .before .before .before .before .put-bytes .ensures .1)
+          ∙ append-assoc kept _ after
+          ∙ ap (λ (l : List ℕ). kept ++ (l ++ after)) digits-are,
+    )
+
+pub put-field-spec : {M : Type 1} → statement M
+put-field-spec =
+    tie.close
+    (tie.spec
+    decimal-requires
+    array-share-prefix-digits
+    slice-aggregate-put-bytes
+    put-bytes-requires
+    slice-aggregate-put-bytes-2
+    put-bytes-requires-2
+    same-length
+    returns)
