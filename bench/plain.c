@@ -16,7 +16,7 @@ enum { I_PICTURE = 1, P_PICTURE = 2, B_PICTURE = 3 };
 enum { GIVES_SCALE = 1, GIVES_FORWARD = 2, GIVES_BACKWARD = 4, GIVES_PATTERN = 8, IS_INTRA = 16 };
 enum { FORWARD = 0, BACKWARD = 1 };
 enum { INTRA_WEIGHTS = 0, NON_INTRA_WEIGHTS = 1 };
-enum { DC_RESET = 1024, DC_MOST = 2040, LEVEL_MOST = 255, CODE_MOST = 16, SCALE_MOST = 31 };
+enum { DC_RESET = 1024, DC_MOST = 2040, LEVEL_MOST = 255, F_CODE_MOST = 7, CODE_MOST = 16, SCALE_MOST = 31 };
 
 enum turn { AFTER_HEADER, AFTER_SLICE, AFTER_MACROBLOCK, COMPLETE };
 
@@ -624,9 +624,13 @@ static uint32_t read_record(struct rest left, int *kind, struct rest *body)
 
 static bool read_direction(struct picture *picture, int which, bool used, const uint8_t field[2])
 {
-    picture->direction[which].full_pel = field[0];
-    picture->direction[which].f = used ? 1 << (field[1] - 1) : 0;
-    return used ? field[0] <= 1 && field[1] >= 1 && field[1] <= 7 : field[0] == 0 && field[1] == 0;
+    int full_pel = field[0], f_code = field[1];
+    if (!used)
+        return full_pel == 0 && f_code == 0;
+    if (full_pel > 1 || f_code < 1 || f_code > F_CODE_MOST)
+        return false;
+    picture->direction[which] = (struct direction){full_pel == 1, 1 << (f_code - 1)};
+    return true;
 }
 
 static uint32_t read_header(struct picture *picture, struct rest body)
