@@ -56,9 +56,9 @@ static bool same(const struct job *job)
 }
 
 /* The file with a byte changed, at places spread over it. */
-static bool same_when_damaged(const struct job *job, int times)
+static bool same_when_damaged(const struct job *job, size_t times)
 {
-    for (int k = 0; k < times; k++) {
+    for (size_t k = 0; k < times; k++) {
         uint8_t *byte = job->file + job->file_length * k / times;
         uint8_t kept = *byte;
         *byte = (uint8_t)(kept ^ 1 << k % 8);
@@ -207,7 +207,7 @@ static enum made_kind kind_of(const char *kind)
     static const char *const names[] = {"intra", "whole", "half", "mixed"};
     for (int k = MADE_INTRA; k <= MADE_MIXED; k++)
         if (strcmp(kind, names[k]) == 0)
-            return k;
+            return (enum made_kind)k;
     fprintf(stderr, "bench: no kind %s\n", kind);
     exit(2);
 }

@@ -70,7 +70,7 @@ static struct job job_of_file(uint8_t *file, size_t length, struct references re
     int type = file[6];
     struct job job = {.file = file, .file_length = length, .macroblocks = file[4] * file[5]};
     job.letter = LETTERS[type <= B_PICTURE ? type : 0];
-    job.picture_length = (size_t)FORMAT3_MACROBLOCK_BYTES * job.macroblocks;
+    job.picture_length = (size_t)(FORMAT3_MACROBLOCK_BYTES * job.macroblocks);
     job.picture = allocate(job.picture_length);
     if (type == P_PICTURE)
         lend(&job, references.newer, NULL);
@@ -107,7 +107,7 @@ struct jobs jobs_of_reel(const char *path)
     struct bytes reel = read_whole(path);
     struct jobs jobs = {NULL, count_files(reel)};
     struct references references = {NULL, NULL};
-    jobs.job = allocate(jobs.count * sizeof *jobs.job);
+    jobs.job = allocate((size_t)jobs.count * sizeof *jobs.job);
     size_t offset = 0;
     for (int k = 0; k < jobs.count; k++) {
         size_t length = big_endian(reel.data + offset);

@@ -427,7 +427,7 @@ struct place {
 
 static struct place place_of(const struct picture *picture, int address, int number)
 {
-    size_t macroblocks = (size_t)picture->width * picture->height;
+    size_t macroblocks = (size_t)(picture->width * picture->height);
     int column = address % picture->width, row = address / picture->width;
     if (number < 4)
         return (struct place){0, 16 * picture->width, 16 * column + 8 * (number % 2), 16 * row + 8 * (number / 2)};
@@ -437,7 +437,7 @@ static struct place place_of(const struct picture *picture, int address, int num
 /* The block at half-pel place (x, y) of a plane: the mean of one, two or four pels. */
 static void fetch_block(const uint8_t *plane, int stride, int x, int y, uint8_t block[64])
 {
-    const uint8_t *from = plane + (size_t)(y >> 1) * stride + (x >> 1);
+    const uint8_t *from = plane + (ptrdiff_t)(y >> 1) * stride + (x >> 1);
     bool right = x & 1, down = y & 1;
     if (right || down)
         COUNT(half_pel_fetches);
@@ -448,13 +448,13 @@ static void fetch_block(const uint8_t *plane, int stride, int x, int y, uint8_t 
             memcpy(block, from, 8);
         else if (!down)
             for (int i = 0; i < 8; i++)
-                block[i] = (from[i] + from[i + 1] + 1) >> 1;
+                block[i] = (uint8_t)((from[i] + from[i + 1] + 1) >> 1);
         else if (!right)
             for (int i = 0; i < 8; i++)
-                block[i] = (from[i] + from[i + stride] + 1) >> 1;
+                block[i] = (uint8_t)((from[i] + from[i + stride] + 1) >> 1);
         else
             for (int i = 0; i < 8; i++)
-                block[i] = (from[i] + from[i + 1] + from[i + stride] + from[i + stride + 1] + 2) >> 2;
+                block[i] = (uint8_t)((from[i] + from[i + 1] + from[i + stride] + from[i + stride + 1] + 2) >> 2);
     }
 }
 
@@ -480,7 +480,7 @@ static void predict_block(
     fetch_from(picture->reference[BACKWARD], place, motion->vector[BACKWARD], chroma, other);
     COUNT(means_of_both);
     for (int k = 0; k < 64; k++)
-        block[k] = (block[k] + other[k] + 1) >> 1;
+        block[k] = (uint8_t)((block[k] + other[k] + 1) >> 1);
 }
 
 static void add_residues(const int16_t coefficients[64], uint8_t block[64])
@@ -497,7 +497,7 @@ static void store_block(uint8_t *plane, struct place place, const uint8_t block[
 {
     COUNT(stores);
     for (int j = 0; j < 8; j++)
-        memcpy(plane + (size_t)(place.y + j) * place.stride + place.x, block + 8 * j, 8);
+        memcpy(plane + (ptrdiff_t)(place.y + j) * place.stride + place.x, block + 8 * j, 8);
 }
 
 /* A macroblock's six blocks; `coefficients` has those in the pattern. */
@@ -655,7 +655,7 @@ static uint32_t read_header(struct picture *picture, struct rest body)
 
 static uint32_t test_lengths(const struct picture *picture, size_t output, size_t forward, size_t backward)
 {
-    size_t bytes = (size_t)FORMAT3_MACROBLOCK_BYTES * picture->width * picture->height;
+    size_t bytes = (size_t)(FORMAT3_MACROBLOCK_BYTES * picture->width * picture->height);
     if (output != bytes)
         return FORMAT3_OUTPUT_LENGTH;
     if (forward != (picture->type == I_PICTURE ? 0 : bytes))
