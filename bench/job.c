@@ -8,10 +8,11 @@
 
 enum { I_PICTURE = 1, P_PICTURE = 2, B_PICTURE = 3 };
 enum { FORWARD = 2, BACKWARD = 4, PATTERN = 8, INTRA = 16 };
+enum { LENGTH_BYTES = 4, UP_TO_TYPE = 7 };
 
 static const char LETTERS[] = "?IPB";
 
-static void fail(const char *what, const char *why)
+_Noreturn static void fail(const char *what, const char *why)
 {
     fprintf(stderr, "bench: %s: %s\n", what, why);
     exit(2);
@@ -37,8 +38,10 @@ static struct bytes read_whole(const char *path)
     FILE *file = fopen(path, "rb");
     if (file == NULL || fseek(file, 0, SEEK_END) != 0)
         fail(path, "cannot be read");
-    struct bytes bytes = {NULL, (size_t)ftell(file)};
-    bytes.data = allocate(bytes.length);
+    long length = ftell(file);
+    if (length < 0)
+        fail(path, "has no length");
+    struct bytes bytes = {allocate((size_t)length), (size_t)length};
     rewind(file);
     if (fread(bytes.data, 1, bytes.length, file) != bytes.length)
         fail(path, "cannot be read");
@@ -89,15 +92,25 @@ static void decode(struct job *job, const char *name)
         fail(name, "a picture is refused");
 }
 
-static size_t big_endian(const uint8_t length[4])
+static size_t big_endian(const uint8_t length[LENGTH_BYTES])
 {
     return (size_t)length[0] << 24 | (size_t)length[1] << 16 | (size_t)length[2] << 8 | length[3];
 }
 
-static int count_files(struct bytes reel)
+/* The length of the file whose own length stands at an offset. Ends the program where either is cut. */
+static size_t file_length_at(const char *path, struct bytes reel, size_t offset)
+{
+    size_t left = reel.length - offset;
+    size_t length = left < LENGTH_BYTES ? 0 : big_endian(reel.data + offset);
+    if (left < LENGTH_BYTES || left - LENGTH_BYTES < length)
+        fail(path, "is cut");
+    return length;
+}
+
+static int count_files(const char *path, struct bytes reel)
 {
     int count = 0;
-    for (size_t offset = 0; offset + 4 <= reel.length; offset += 4 + big_endian(reel.data + offset))
+    for (size_t offset = 0; offset < reel.length; offset += LENGTH_BYTES + file_length_at(path, reel, offset))
         count++;
     return count;
 }
@@ -105,19 +118,21 @@ static int count_files(struct bytes reel)
 struct jobs jobs_of_reel(const char *path)
 {
     struct bytes reel = read_whole(path);
-    struct jobs jobs = {NULL, count_files(reel)};
+    struct jobs jobs = {NULL, count_files(path, reel)};
     struct references references = {NULL, NULL};
+    if (jobs.count == 0)
+        fail(path, "has no picture");
     jobs.job = allocate((size_t)jobs.count * sizeof *jobs.job);
     size_t offset = 0;
     for (int k = 0; k < jobs.count; k++) {
-        size_t length = big_endian(reel.data + offset);
-        if (length < 7 || reel.length - offset - 4 < length)
-            fail(path, "is cut");
-        jobs.job[k] = job_of_file(reel.data + offset + 4, length, references);
+        size_t length = file_length_at(path, reel, offset);
+        if (length < UP_TO_TYPE)
+            fail(path, "a picture has no header");
+        jobs.job[k] = job_of_file(reel.data + offset + LENGTH_BYTES, length, references);
         decode(&jobs.job[k], path);
         if (jobs.job[k].letter != 'B')
             references = (struct references){&jobs.job[k], references.newer};
-        offset += 4 + length;
+        offset += LENGTH_BYTES + length;
     }
     return jobs;
 }

@@ -25,7 +25,8 @@ struct jobs {
     int count;
 };
 
-/* The pictures of a reel, decoded once by the library. Ends the program where the reel or a picture is not whole. */
+/* The pictures of a reel, decoded once by the library. Ends the program where there is none, or where the reel or
+ * a picture is not whole. */
 struct jobs jobs_of_reel(const char *path);
 
 /* What the macroblocks of a made picture are. */
