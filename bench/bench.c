@@ -1,11 +1,12 @@
 /* The exported library beside plain C of the same algorithm.
  *
- *   bench compare REEL..              both make the same pictures and refusals: answers and every byte
- *   bench time REEL..                 pictures and macroblocks a second, repeated until they are stable
- *   bench reel WHO NUMBER REEL        decodes one picture of a reel once, inside measured(), for an instruction counter
- *   bench made WHO KIND BLOCKS PAIRS  the same for a made picture
- *   bench transform WHO               the same for the transform of one block
- *   bench census NUMBER REEL          what a picture of a reel is made of
+ *   bench compare REEL..                both make the same pictures and refusals: answers and every byte
+ *   bench time REEL..                   pictures and macroblocks a second, repeated until they are stable
+ *   bench reel WHO NUMBER REEL          decodes one picture of a reel once, inside measured(), for an instruction counter
+ *   bench made WHO KIND BLOCKS PAIRS    the same for a made picture
+ *   bench transform WHO                 the same for the transform of one block
+ *   bench reel-census NUMBER REEL       what a picture of a reel is made of
+ *   bench made-census KIND BLOCKS PAIRS what a made picture is made of
  *
  * WHO is library or plain; KIND is intra, whole, half or mixed. bench/run calls all of it. */
 #include <stdbool.h>
@@ -212,10 +213,14 @@ static enum made_kind kind_of(const char *kind)
     exit(2);
 }
 
-static int made(char **argument)
+static struct job made_of(char **argument)
 {
-    struct job job = made_job(kind_of(argument[1]), atoi(argument[2]), atoi(argument[3]));
-    return once(who_is(argument[0]), &job);
+    return made_job(kind_of(argument[0]), atoi(argument[1]), atoi(argument[2]));
+}
+
+static int made(const char *who, struct job job)
+{
+    return once(who_is(who), &job);
 }
 
 static int transform(const char *who)
@@ -227,17 +232,16 @@ static int transform(const char *who)
     return 0;
 }
 
-static int census(const char *number, const char *reel)
+static int census(struct job job)
 {
 #ifdef PLAIN_CENSUS
-    const struct job *job = picture_of(number, reel);
     memset(&plain_census, 0, sizeof plain_census);
-    int failed = once(plain_reconstruct, job);
-    printf("%c %d %lu %lu %lu %lu %lu %lu\n", job->letter, job->macroblocks, plain_census.pairs, plain_census.transforms,
+    int failed = once(plain_reconstruct, &job);
+    printf("%c %d %lu %lu %lu %lu %lu %lu\n", job.letter, job.macroblocks, plain_census.pairs, plain_census.transforms,
         plain_census.whole_pel_fetches, plain_census.half_pel_fetches, plain_census.means_of_both, plain_census.stores);
     return failed;
 #else
-    (void)number, (void)reel;
+    (void)job;
     fprintf(stderr, "bench: not compiled with PLAIN_CENSUS\n");
     return 2;
 #endif
@@ -253,11 +257,13 @@ int main(int count, char **argument)
     if (strcmp(command, "reel") == 0 && count == 5)
         return once(who_is(argument[2]), picture_of(argument[3], argument[4]));
     if (strcmp(command, "made") == 0 && count == 6)
-        return made(argument + 2);
+        return made(argument[2], made_of(argument + 3));
     if (strcmp(command, "transform") == 0 && count == 3)
         return transform(argument[2]);
-    if (strcmp(command, "census") == 0 && count == 4)
-        return census(argument[2], argument[3]);
+    if (strcmp(command, "reel-census") == 0 && count == 4)
+        return census(*picture_of(argument[2], argument[3]));
+    if (strcmp(command, "made-census") == 0 && count == 5)
+        return census(made_of(argument + 2));
     fprintf(stderr, "bench: see the head of bench.c for its arguments\n");
     return 2;
 }
