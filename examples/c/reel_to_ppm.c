@@ -41,6 +41,11 @@ struct picture {
     size_t length;
 };
 
+struct reference {
+    const uint8_t *bytes;
+    size_t length;
+};
+
 /* Three pictures that take turns: the last two that others may be predicted from, and the one being decoded. */
 struct decoder {
     struct picture pictures[3];
@@ -54,8 +59,6 @@ struct answer {
     size_t place;
     size_t made;
 };
-
-static const struct picture NO_PICTURE;
 
 static struct header header_of(const uint8_t *file, size_t length)
 {
@@ -80,26 +83,23 @@ static size_t picture_length(struct header header)
     return length <= MOST_BYTES ? length : 0;
 }
 
-static const struct picture *forward_of(const struct decoder *decoder, enum picture_type type)
+/* A picture as a reference; one that is not used is lent empty. */
+static struct reference lent(bool used, const struct picture *picture)
 {
-    if (type == P_PICTURE)
-        return decoder->newer;
-    return type == B_PICTURE ? decoder->older : &NO_PICTURE;
-}
-
-static const struct picture *backward_of(const struct decoder *decoder, enum picture_type type)
-{
-    return type == B_PICTURE ? decoder->newer : &NO_PICTURE;
+    if (!used)
+        return (struct reference){NULL, 0};
+    return (struct reference){picture->bytes, picture->length};
 }
 
 static struct answer decode(struct decoder *decoder, const uint8_t *file, size_t length, struct header header)
 {
-    const struct picture *forward = forward_of(decoder, header.type);
-    const struct picture *backward = backward_of(decoder, header.type);
+    bool both = header.type == B_PICTURE;
+    struct reference forward = lent(both || header.type == P_PICTURE, both ? decoder->older : decoder->newer);
+    struct reference backward = lent(both, decoder->newer);
     struct answer answer;
     decoder->output->length = picture_length(header);
     answer.number = format3_reconstruct(
-        file, length, forward->bytes, forward->length, backward->bytes, backward->length,
+        file, length, forward.bytes, forward.length, backward.bytes, backward.length,
         decoder->output->bytes, decoder->output->length, &answer.place, &answer.made);
     return answer;
 }
@@ -178,7 +178,11 @@ static bool write_pels(FILE *file, struct header header, const struct picture *p
 static bool write_ppm(const char *folder, int number, struct header header, const struct picture *picture)
 {
     char path[4096];
-    snprintf(path, sizeof path, "%s/%04d.ppm", folder, number);
+    int length = snprintf(path, sizeof path, "%s/%04d.ppm", folder, number);
+    if (length < 0 || (size_t)length >= sizeof path) {
+        fprintf(stderr, "%s: the path is too long\n", folder);
+        return false;
+    }
     FILE *file = fopen(path, "wb");
     if (file == NULL) {
         fprintf(stderr, "%s: %s\n", path, strerror(errno));
@@ -230,7 +234,20 @@ static bool show_reel(struct decoder *decoder, struct bytes reel, const char *fo
     return all;
 }
 
-/* The bytes of a file; none, with a message, where it cannot be read. */
+/* The bytes of an open file, which the caller frees. Answers whether all of them were read. */
+static bool read_bytes(FILE *file, struct bytes *bytes)
+{
+    if (fseek(file, 0, SEEK_END) != 0)
+        return false;
+    long length = ftell(file);
+    if (length < 0 || fseek(file, 0, SEEK_SET) != 0)
+        return false;
+    bytes->length = (size_t)length;
+    bytes->data = malloc(bytes->length + 1);
+    return bytes->data != NULL && fread(bytes->data, 1, bytes->length, file) == bytes->length;
+}
+
+/* The same by a path, with a message where it cannot be read. */
 static bool read_file(const char *path, struct bytes *bytes)
 {
     FILE *file = fopen(path, "rb");
@@ -238,12 +255,7 @@ static bool read_file(const char *path, struct bytes *bytes)
         fprintf(stderr, "%s: %s\n", path, strerror(errno));
         return false;
     }
-    fseek(file, 0, SEEK_END);
-    long length = ftell(file);
-    rewind(file);
-    bytes->length = length < 0 ? 0 : (size_t)length;
-    bytes->data = malloc(bytes->length + 1);
-    bool whole = length >= 0 && bytes->data != NULL && fread(bytes->data, 1, bytes->length, file) == bytes->length;
+    bool whole = read_bytes(file, bytes);
     fclose(file);
     if (!whole)
         fprintf(stderr, "%s: not read whole\n", path);
