@@ -2,19 +2,20 @@
  *
  * The library libformat3_c.a holds the entries declared here. They are proved: each takes every input, ends, never does
  * anything undefined, and answers what is said of it below for all files, numbers and lengths. `crates/format3_c` has
- * the same as equations.
+ * the same as equations with definitions; that these are the standard's and document 01's is read and tested.
  *
  * What the caller must see to, since nothing in C can check it:
  *   - a pointer and the length after it are of one buffer that may be read (or written, where it is not const) whole;
  *     where the length is 0 the pointer is never used, and may be null;
  *   - every other pointer is of one object of its type, or of the 64 that are said, aligned as C aligns it, not null;
  *   - what is written through one pointer overlaps nothing that another pointer of the same call is of: not the output
- *     a reference or the file, nor `place` `made`. What is only read may overlap: both references may be one picture;
+ *     a reference or the file, nor `place` `made`, nor the residues the coefficients: a block is never transformed in
+ *     place. What is only read may overlap: both references may be one picture;
  *   - nobody else writes these buffers during the call.
  * Nothing is allocated or kept from call to call, so the entries may be called from several threads at once.
  *
- * Every entry returns one of the numbers of `enum format3_answer`, and writes everything that its pointers are for,
- * whatever the number. */
+ * Every entry returns one of the numbers of `enum format3_answer`. Whatever the number, it writes every single object
+ * and array that it has a pointer to for writing; of `output` it writes what is said there. */
 #ifndef FORMAT3_H
 #define FORMAT3_H
 
@@ -80,10 +81,13 @@ enum format3_kind {
  * 8 by 8 a macroblock, each row by row. A reference is such a picture of the same count of macroblocks: P pictures use
  * the forward one, B pictures both, and one that is not used has the length 0.
  *
- * Answers 0 to 21. Accepted (0): all N macroblocks are in the output, `place` is the file's length and `made` is N.
+ * Answers 0 to 21. Accepted (0): the output is the picture that clause 2.4.4 of ISO/IEC 11172-2 defines for the file's
+ * symbols and matrices and these references, with the inverse transform of `format3_transform`; `place` is the file's
+ * length and `made` is N.
  * Refused: `place` is the offset in the file of the length of the first record that is refused (0 for 1 and 2, the
  * file's length for 7), and `made` is the count of macroblocks that the records before it made. These, at the addresses
- * 0 to `made` - 1, are in the output, and every other byte of the output is as it was before the call. */
+ * 0 to `made` - 1, are in the output, made by the same rules, and every other byte of the output is as it was before
+ * the call. */
 uint32_t format3_reconstruct(
     const uint8_t *file, size_t file_length,
     const uint8_t *forward, size_t forward_length,
@@ -91,20 +95,29 @@ uint32_t format3_reconstruct(
     uint8_t *output, size_t output_length,
     size_t *place, size_t *made);
 
-/* The inverse transform of 64 coefficients, row by row, the row being the vertical frequency, to 64 residues of
- * -256..255. The exact sums are within 9/16 of those with the cosines before they are limited.
+/* The inverse transform of 64 coefficients, row by row, the row being the vertical frequency, to 64 residues.
+ * Accepted: a residue is the exact sum over all 64 of horizontal factor x vertical factor x coefficient, the factors
+ * being those of the table of document 01 ("Inverse transform"), plus 2^41, divided by 2^42 downwards, limited to
+ * -256..255. Before it is limited, it is within 9/16 of the cosine sum worked out exactly, for any seven fractions
+ * between the ends around the cosines (docs/COSINES.md).
  * Answers 22 where a coefficient is outside -2048..2047, and then the residues are zeros. */
 uint32_t format3_transform(const int16_t coefficients[64], int16_t residues[64]);
 
 /* The coefficient of a level: intra AC, and of a macroblock that is not intra.
+ * Accepted: it is 2 x level x scale x weight / 16, and where not intra (2 x level + sign) x scale x weight / 16, with
+ * the sign of the level as -1, 0 or 1. The division is towards zero; then an even result moves one towards zero, 0
+ * staying 0; then it is limited to -2048..2047. A level of 0 gives 0.
  * Answers 22 where the level is outside -255..255, the scale outside 1..31 or the weight outside 1..255, and then the
- * coefficient is 0. A level of 0 gives 0. */
+ * coefficient is 0. */
 uint32_t format3_intra_coefficient(int32_t level, int32_t scale, int32_t weight, int16_t *coefficient);
 uint32_t format3_non_intra_coefficient(int32_t level, int32_t scale, int32_t weight, int16_t *coefficient);
 
 /* A component of a motion vector, in the unit of its picture's full-pel flag: what the past keeps, not doubled.
- * With f = 2^(f_code - 1), answers 22 where the f_code is outside 1..7, the past outside -16f..16f-1, the code outside
- * -16..16, or the residual is f or more, or not 0 with a code of 0; and then the vector is 0. */
+ * With f = 2^(f_code - 1), accepted: the difference is 0 for a code of 0, else (|code| - 1) x f + residual + 1 with the
+ * code's sign. It is added to the past, and a sum outside -16f..16f-1 moves by 32f back inside (document 01, "Vectors
+ * and prediction").
+ * Answers 22 where the f_code is outside 1..7, the past outside -16f..16f-1, the code outside -16..16, or the residual
+ * is f or more, or not 0 with a code of 0; and then the vector is 0. */
 uint32_t format3_vector(uint32_t f_code, int32_t past, int32_t code, uint32_t residual, int32_t *vector);
 
 /* The record at an offset of a file: its kind, and where in the file its body starts and how long that is. The next
