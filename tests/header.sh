@@ -1,7 +1,7 @@
 #!/usr/bin/env bash
 # tests/header.sh FOLDER: include/format3.h, as ./build-library laid it into FOLDER, against what it speaks of. It compiles by
-# itself as C and as C++; it declares the functions that the archive exports, with the types of their source; and its answers
-# are the refusals of the crate `refusals` with their numbers.
+# itself as C and as C++; it declares the functions that the archive exports, with the types and names of their source; and its
+# answers, limits and kinds are those of the crates, with their numbers.
 set -euo pipefail
 folder=$(realpath "$1")
 cd "$(dirname "$0")/.."
@@ -9,36 +9,80 @@ scratch=$(mktemp -d)
 trap 'rm -rf "$scratch"' EXIT
 header=$folder/include/format3.h
 
-# The exports as C declares them: a slice is a pointer and a length.
-declarations() {
+# ---- by the source
+
+# The exports as C declares them, a line each: a slice is a pointer and a length.
+source_functions() {
     awk '/^pub extern "C" fn/ { on = 1 } on { printf "%s ", $0 } / -> / { on = 0 }' crates/format3_c/src/lib.rt | sed -E '
-        s/pub extern "C" fn (\w+)\(([^)]*)\) -> (\w+) /\3 \1(\2);\n/g
+        s/pub extern "C" fn (\w+)\(\s*([^)]*)\) -> (\w+) /\3 \1(\2);\n/g
         s/(\w+): &mut \[u8\]/u8 *\1, usize \1_length/g
         s/(\w+): &\[u8\]/const u8 *\1, usize \1_length/g
         s/(\w+): &mut \[(\w+); (\w+)\]/\2 \1[\3]/g
         s/(\w+): &\[(\w+); (\w+)\]/const \2 \1[\3]/g
         s/(\w+): &mut (\w+)/\2 *\1/g
         s/(\w+): (\w+)/\2 \1/g
-        s/\busize\b/size_t/g; s/\b([iu])(8|16|32)\b/\1nt\2_t/g; s/\bunt/uint/g; s/,\s*\)/)/g'
+        s/\busize\b/size_t/g; s/\b([iu])(8|16|32)\b/\1nt\2_t/g; s/\bunt/uint/g; s/,\s*\)/)/g; s/ +/ /g'
 }
 
-# The refusals' names and numbers, by the crate and by the header.
-crate_refusals() {
+# The constants of a type in a file, name and number.
+constants() {
+    sed -nE "s/^ *pub const (\w+): $1 = ([0-9]+);/\1 \2/p" "$2"
+}
+
+source_answers() {
+    constants u32 crates/refusals/src/lib.rt
     sed -nE 's/^ *Refusal::(\w+) => ([0-9]+),/\1 \2/p' crates/refusals/src/lib.rt |
         sed -E 's/([a-z])([A-Z])/\1_\2/g; s/^(\w+)/\U\1/'
 }
-header_refusals() {
-    sed -n '/^enum format3_answer/,/^};/p' "$header" | sed -nE 's/^ *FORMAT3_(\w+) = ([0-9]+).*/\1 \2/p' | grep -v '^ACCEPTED 0$'
+
+source_limits() {
+    constants usize crates/picture_header/src/size.rt | sed 's/^MOST /MOST_MACROBLOCKS /'
+    sed -nE 's/^ *([0-9]+) \* macroblocks$/MACROBLOCK_BYTES \1/p' crates/picture_header/src/size.rt
 }
 
-{ echo '#include "format3.h"'; declarations; } > "$scratch/declarations.c"
-gcc -std=c99 -Wall -Wextra -Werror -pedantic -I "$folder/include" -c "$scratch/declarations.c" -o "$scratch/declarations.o"
-g++ -std=c++11 -Wall -Wextra -Werror -pedantic -fsyntax-only -x c++ "$header"
+source_kinds() {
+    constants u8 crates/format3/src/record.rt | sed 's/^/KIND_/'
+}
 
-grep -oE '\bformat3_\w+\(' "$header" | tr -d '(' | sort > "$scratch/declared"
-grep -oE '\bformat3_\w+\(' "$scratch/declarations.c" | tr -d '(' | sort > "$scratch/written"
+# ---- by the header
+
+# What is declared, without comments, a declaration a line.
+declarations() {
+    gcc -E -P "$header" | tr -s '[:space:]' ' ' | sed 's/; */;\n/g'
+}
+
+header_functions() {
+    declarations | sed -nE '/\bformat3_\w+ ?\(/ { s/\( /(/; p }'
+}
+
+# The names and numbers of an enumeration.
+enumeration() {
+    declarations | sed -nE "s/^enum $1 \{ (.*) \};$/\1/p" | sed 's/, */\n/g' | sed 's/^FORMAT3_//; s/ = / /'
+}
+
+header_answers() { enumeration format3_answer; }
+header_limits() { enumeration format3_limit; }
+header_kinds() { enumeration format3_kind; }
+
+# ---- comparing
+
+# What the source and the header have under a name is the same, in any order, and not nothing. Prints how many there are.
+require_same() {
+    "source_$1" | sort > "$scratch/source"
+    "header_$1" | sort > "$scratch/header"
+    if [[ ! -s $scratch/source ]]; then
+        echo "format3.h: no $1 found in the source" >&2
+        exit 1
+    fi
+    diff "$scratch/source" "$scratch/header" >&2
+    echo "format3.h: $(wc -l < "$scratch/source") $1"
+}
+
+gcc -std=c99 -Wall -Wextra -Werror -pedantic -fsyntax-only -x c "$header"
+g++ -std=c++11 -Wall -Wextra -Werror -pedantic -fsyntax-only -x c++ "$header"
+require_same functions
+require_same answers
+require_same limits
+require_same kinds
 nm --defined-only --extern-only "$folder/lib/libformat3_c.a" | sed -nE 's/.* T (\w+)$/\1/p' | sort > "$scratch/exported"
-diff "$scratch/declared" "$scratch/exported"
-diff "$scratch/written" "$scratch/exported"
-diff <(crate_refusals) <(header_refusals)
-echo "format3.h: $(wc -l < "$scratch/exported") functions, $(crate_refusals | wc -l) refusals"
+diff <(header_functions | sed -E 's/.*\b(format3_\w+).*/\1/' | sort) "$scratch/exported" >&2
