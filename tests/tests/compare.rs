@@ -98,4 +98,13 @@ fn wrong_entries_are_found() {
         ..ENTRIES
     };
     require_found("the first record for any offset", first_record);
+    let starts_where_refused = Entries {
+        show_record: |file, offset| {
+            let (number, mut shown) = (ENTRIES.show_record)(file, offset);
+            shown.start = if number == 0 { shown.start } else { offset };
+            (number, shown)
+        },
+        ..ENTRIES
+    };
+    require_found("a start where a record is refused", starts_where_refused);
 }
