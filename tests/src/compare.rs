@@ -2,15 +2,13 @@
 //! that differs: its seed and number make it again.
 
 use std::fmt::Debug;
-use std::io::{ErrorKind, Write};
-use std::path::Path;
-use std::process::{Command, Stdio};
 
 use crate::decoder::panel::{play, text, PANEL_LIMITS};
 use crate::decoder::refusals::Refusal;
 use crate::decoder::vectors::f_of;
 use crate::decoder::{reconstruct, Entries, ENTRIES};
 use crate::generator::{case, reel, small_cases, Case};
+use crate::program::Program;
 use crate::random::Random;
 
 /// How often each answer from 0 to 21 was given.
@@ -182,41 +180,20 @@ fn random_block(random: &mut Random) -> [i16; 64] {
     block
 }
 
-/// Reels by their seed and number: what the program prints.
-pub fn panel(program: &Path, seed: u64, count: u64) -> Result<usize, String> {
+/// Reels by their seed and number: what the program prints. Every other reel comes to it in pieces.
+pub fn panel(program: Program, seed: u64, count: u64) -> Result<usize, String> {
     let mut lines = 0;
     for number in 0..count {
         let reel = reel(seed, number);
         let expected = text(&play(&reel.bytes, PANEL_LIMITS, reconstruct));
         let what = || format!("reel {number} of seed {seed}");
-        let printed = run_panel(program, &reel.bytes).map_err(|e| format!("{}: {e}", what()))?;
+        let printed = match number % 2 {
+            0 => program.run(&reel.bytes),
+            _ => program.run_in_pieces(&reel.bytes, &mut Random::new(&[seed, number, 2])),
+        };
+        let printed = printed.map_err(|error| format!("{}: {error}", what()))?;
         lines += expected.lines().count();
         require_same(what, expected, printed)?;
     }
     Ok(lines)
-}
-
-/// What the program prints for a reel. It may stop reading before the end of one that is too long.
-pub fn run_panel(program: &Path, reel: &[u8]) -> Result<String, String> {
-    let failed = |error: std::io::Error| format!("{}: {error}", program.display());
-    let mut process = Command::new(program)
-        .stdin(Stdio::piped())
-        .stdout(Stdio::piped())
-        .spawn()
-        .map_err(failed)?;
-    if let Some(mut input) = process.stdin.take() {
-        match input.write_all(reel) {
-            Err(error) if error.kind() != ErrorKind::BrokenPipe => return Err(failed(error)),
-            _ => (),
-        }
-    }
-    let output = process.wait_with_output().map_err(failed)?;
-    if !output.status.success() {
-        return Err(format!(
-            "{} ended with {}",
-            program.display(),
-            output.status
-        ));
-    }
-    String::from_utf8(output.stdout).map_err(|error| error.to_string())
 }

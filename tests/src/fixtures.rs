@@ -10,6 +10,8 @@ use crate::sha256;
 /// A reel within the limits of `panel`, and what it prints.
 pub struct PanelFixture {
     pub name: String,
+    /// Where the reel lies as a file.
+    pub path: PathBuf,
     pub reel: Vec<u8>,
     pub printed: String,
 }
@@ -29,6 +31,7 @@ pub fn panel_fixtures() -> Vec<PanelFixture> {
         name: name_of(&reel),
         printed: read_text(&reel.with_extension("out")),
         reel: read_bytes(&reel),
+        path: reel,
     };
     reels("panel").into_iter().map(read).collect()
 }

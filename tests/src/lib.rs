@@ -4,6 +4,8 @@
 use std::path::Path;
 use std::process::ExitCode;
 
+use program::Program;
+
 pub mod compare;
 pub mod decoder;
 pub mod fixtures;
@@ -11,6 +13,7 @@ pub mod generator;
 #[cfg(feature = "library")]
 pub mod library;
 pub mod p1180;
+pub mod program;
 pub mod random;
 pub mod sha256;
 
@@ -26,9 +29,11 @@ pub fn exit_code(program: &str, result: Result<(), String>) -> ExitCode {
 }
 
 /// The program after a leading `--panel`, if there is one, and the other arguments.
-pub fn panel_argument(arguments: &[String]) -> Result<(Option<&Path>, &[String]), String> {
+pub fn panel_argument(arguments: &[String]) -> Result<(Option<Program<'_>>, &[String]), String> {
     match arguments {
-        [option, program, rest @ ..] if option == "--panel" => Ok((Some(Path::new(program)), rest)),
+        [option, path, rest @ ..] if option == "--panel" => {
+            Ok((Some(Program(Path::new(path))), rest))
+        }
         [option, ..] if option == "--panel" => Err("--panel needs a program".into()),
         _ => Ok((None, arguments)),
     }

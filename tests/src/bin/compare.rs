@@ -1,6 +1,6 @@
 //! `compare [--panel PROGRAM] [COUNT [SEED]]`: the exported library against the other decoder on COUNT single pictures and on
-//! the edges of every other entry, and the program `panel`, if given, on COUNT reels. A small COUNT fails: it brings about
-//! too few answers.
+//! the edges of every other entry, and the program `panel`, if given, on COUNT reels and on one that is far too long. A
+//! small COUNT fails: it brings about too few answers.
 
 use std::process::ExitCode;
 
@@ -13,6 +13,9 @@ use format3_tests::{exit_code, panel_argument};
 /// Enough for every size of a picture that fits: they take turns in every fourth case.
 const COUNT: u64 = 4000;
 const SEED: u64 = 1;
+
+/// Far more bytes than a program reads and a pipe holds.
+const LONG: usize = 1 << 20;
 
 fn main() -> ExitCode {
     let arguments: Vec<String> = std::env::args().skip(1).collect();
@@ -31,6 +34,8 @@ fn run(arguments: &[String]) -> Result<(), String> {
     compare_entries(count, seed)?;
     if let Some(program) = program {
         println!("{} lines of {count} reels", panel(program, seed, count)?);
+        program.require_long(LONG)?;
+        println!("a reel of {LONG} bytes: long, not read whole");
     }
     println!("no difference");
     Ok(())

@@ -1,11 +1,11 @@
 //! `fixtures [--panel PROGRAM]`: the exported library, and the program `panel`, if given, against the fixtures.
 
-use std::path::Path;
 use std::process::ExitCode;
 
-use format3_tests::compare::run_panel;
 use format3_tests::fixtures::{panel_fixtures, stream_fixtures};
 use format3_tests::library::ENTRIES;
+use format3_tests::program::Program;
+use format3_tests::random::Random;
 use format3_tests::{exit_code, panel_argument};
 
 fn main() -> ExitCode {
@@ -25,9 +25,13 @@ fn run(arguments: &[String]) -> Result<(), String> {
     }
 }
 
-fn check_panel(program: &Path) -> Result<(), String> {
+/// Each reel at once, in pieces, and as the file that it is.
+fn check_panel(program: Program) -> Result<(), String> {
+    let random = &mut Random::new(&[1]);
     for fixture in panel_fixtures() {
-        fixture.check(&run_panel(program, &fixture.reel)?)?;
+        fixture.check(&program.run(&fixture.reel)?)?;
+        fixture.check(&program.run_in_pieces(&fixture.reel, random)?)?;
+        fixture.check(&program.run_on_file(&fixture.path)?)?;
         println!("{}: as expected by panel", fixture.name);
     }
     Ok(())
