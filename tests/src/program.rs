@@ -20,11 +20,12 @@ impl Program<'_> {
         self.printed(process)
     }
 
-    /// What it prints for a reel that comes in random pieces: each is a datagram, so that a read gets one and no more.
+    /// What it prints for a reel that comes in random pieces. Each is a datagram, so that a read gets one and no more; they
+    /// are short, as a read loses what its buffer can't hold of one.
     pub fn run_in_pieces(self, reel: &[u8], random: &mut Random) -> Result<String, String> {
         let (ours, theirs) = UnixDatagram::pair().map_err(|error| self.told(error))?;
         let process = self.start(OwnedFd::from(theirs).into())?;
-        let most = random.pick(&[2, 100, 5000]);
+        let most = random.pick(&[2, 100, 500]);
         let mut left = reel;
         while !left.is_empty() {
             let (piece, rest) = left.split_at(left.len().min(1 + random.below(most)));
