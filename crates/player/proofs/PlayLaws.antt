@@ -64,14 +64,13 @@ pub record Inside (reel : List ℕ) (at : ℕ) (p : Part) : Type 0 where
 pub inside : (reel : List ℕ) (at : ℕ) → Inside reel at (partAt reel at)
 unfolding partAt
 inside reel at =
-    only-all (Inside reel at) _ _ _ none λ some.
     only-all (Inside reel at) _ _ _ none λ whole.
     only-all (Inside reel at) _ _ _ none λ fits.
     record {
       fits = λ start n e.
           let a : _≡_ {A = ℕ} (at + 4) start = cc in
           let b : _≡_ {A = ℕ} (lengthAt reel at) n = cc in
-          (sym a, omega (arith, leb-true, some, whole, fits));
+          (sym a, omega (arith, leb-true, whole, fits));
     }
   where
     none : Inside reel at Part.Cut

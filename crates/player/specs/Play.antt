@@ -1,7 +1,7 @@
 -- A reel played (document 01, "The program `panel` reads a reel").
 use mathlib.Core.Bool.{cond}
 use mathlib.Core.List.{List, _++_}
-use Prim.Native.Nat.{ℕ, suc, _+_, _*_}
+use Prim.Native.Nat.{ℕ, _+_, _*_}
 use lib.Dec.{eqb, leb}
 use lib.ListN.{length, take, drop}
 use Rattle.refusals.specs.Refusal.{accepted}
@@ -18,7 +18,6 @@ use Rattle.reel.specs.Planes.{sumsOf}
 use Rattle.player.specs.Line.{lineWith}
 use Rattle.reel.specs.Part.{partAt}
 use Rattle.reel.specs.References.{forwardFor, backwardFor, overwritten}
-use Rattle.player.specs.declared.line.Line.{Line}
 use Rattle.reel.specs.declared.planes.Sums.{Sums}
 use Rattle.reel.specs.declared.planes.Sums.the-variants as Sums
 use Rattle.reel.specs.declared.part.Part.{Part}
@@ -82,16 +81,16 @@ pub record AfterPicture : Type 0 where
 unfoldable pub playedInto : ℕ → PictureStart → List ℕ → Kept → List ℕ → List ℕ → List ℕ → AfterPicture
 playedInto number start file kept older newer output =
     let made = madeFrom file (start .«coding_type») kept older newer output in
-    let f = finished number start (answerOf made) (made .output) kept older newer in
-    record { shows = f .shows; older = f .older; newer = f .newer; output = made .output }
+    let after = finished number start (answerOf made) (made .output) kept older newer in
+    record { shows = after .shows; older = after .older; newer = after .newer; output = made .output }
 
 -- a picture of the reel, made into the part of the output that is lent
 unfoldable pub played : ℕ → List ℕ → Kept → List ℕ → List ℕ → List ℕ → AfterPicture
 played number file kept older newer output =
     let start = startOf (firstHeader file) in
     let lent = lentBytes (start .macroblocks) in
-    let p = playedInto number start file kept older newer (take lent output) in
-    record { shows = p .shows; older = p .older; newer = p .newer; output = p .output ++ drop lent output }
+    let after = playedInto number start file kept older newer (take lent output) in
+    record { shows = after .shows; older = after .older; newer = after .newer; output = after .output ++ drop lent output }
 
 -- what is shown next, and the three buffers after it
 pub record AfterNext : Type 0 where
@@ -112,10 +111,10 @@ nextOf reel position older newer output = go (partAt reel (position .at))
       output = output;
     }
     go (Part.File start n) =
-        let p = played (position .pictures + 1) (take n (drop start reel)) (position .kept) older newer output in
+        let after = played (position .pictures + 1) (take n (drop start reel)) (position .kept) older newer output in
         record {
-          next = record { shown = Shown.Picture (p .shows .line); position = record { at = start + n; pictures = position .pictures + 1; kept = p .shows .kept } };
-          older = p .older;
-          newer = p .newer;
-          output = p .output;
+          next = record { shown = Shown.Picture (after .shows .line); position = record { at = start + n; pictures = position .pictures + 1; kept = after .shows .kept } };
+          older = after .older;
+          newer = after .newer;
+          output = after .output;
         }

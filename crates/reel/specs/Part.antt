@@ -1,7 +1,7 @@
 -- A reel taken apart (document 01, "The program `panel` reads a reel").
 use mathlib.Core.Bool.{Bool}
 use mathlib.Core.List.{List}
-use Prim.Native.Nat.{ℕ, _+_, _*_, _-_}
+use Prim.Native.Nat.{ℕ, _+_, _*_}
 use lib.Dec.{ltb, leb}
 use lib.ListN.{length, getD}
 use Rattle.format3.specs.Chain.{only, _$_}
@@ -19,7 +19,6 @@ lengthAt reel at = ((getD reel at 0 * 256 + getD reel (at + 1) 0) * 256 + getD r
 -- "per picture a 4-byte length and a file"; "a cut length or file"
 unfoldable pub partAt : List ℕ → ℕ → Part
 partAt reel at =
-    only (leb 4 (length reel)) Cut $
-    only (leb at (length reel - 4)) Cut $
-    only (leb (lengthAt reel at) (length reel - (at + 4))) Cut $
+    only (leb (at + 4) (length reel)) Cut $
+    only (leb (at + 4 + lengthAt reel at) (length reel)) Cut $
     File (at + 4) (lengthAt reel at)

@@ -8,10 +8,10 @@ mul-result : tie.Need-mul-result
 mul-result c = search needs
 
 returns : tie.Need-returns
-returns c = rw (le-leb _ _ (c .if1 .taken))
+returns c = rw (le-leb (c .before .args .macroblocks) 40 (c .if1 .taken))
 
 returns-2 : tie.Need-returns-2
-returns-2 c = rw (lt-leb _ _ (c .if1 .left))
+returns-2 c = rw (lt-leb (c .before .args .macroblocks) 40 (c .if1 .left))
 
 pub lent-bytes-spec : {M : Type 1} → statement M
 lent-bytes-spec = tie.close (tie.spec mul-result returns returns-2)

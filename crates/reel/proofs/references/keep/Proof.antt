@@ -1,6 +1,9 @@
 -- `keep` meets its contract: the newer reference moves before the picture takes its place. Assumes nothing.
-use mathlib.Core.Path.{refl}
+use mathlib.Core.List.{List}
+use mathlib.Core.Path.{refl, ap, _∙_}
+use Prim.Native.Nat.{ℕ}
 use borrow.Author.Needs.{needs}
+use Rattle.reel.specs.References.{overwritten}
 use Rattle.reel.proofs.references.keep.Statement.{statement}
 use Rattle.reel.proofs.references.keep.Tie as tie
 
@@ -20,7 +23,7 @@ same-length-2 : tie.Need-same-length-2
 same-length-2 c = search needs
 
 returns : tie.Need-returns
-returns c = (refl, (rw (← c .before .before .before .before .before .before .before .before .first .ensures) (c .before .before .before .before .before .before .overwrite .ensures), c .before .before .overwrite2 .ensures))
+returns c = (refl, (c .before .before .before .before .before .before .overwrite .ensures ∙ ap (λ (l : List ℕ). overwritten l (c .before .before .before .before .before .before .before .before .before .before .before .before .before .args .older .now)) (c .before .before .before .before .before .before .before .before .first .ensures), c .before .before .overwrite2 .ensures))
 
 pub keep-spec : {M : Type 1} → statement M
 keep-spec =
