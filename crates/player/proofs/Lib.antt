@@ -1,1 +1,2 @@
 pub mod PlayLaws
+pub mod ForgetLaws
