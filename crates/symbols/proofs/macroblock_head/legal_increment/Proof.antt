@@ -1,10 +1,21 @@
 -- `legal_increment` meets its contract: its tests are those of `legalIncrement`, in the same order. Assumes nothing.
+use mathlib.Core.Bool.{true}
+use mathlib.Core.Path.{_≡_}
+use Prim.Native.Nat.{_+_}
+use lib.Dec.{leb}
 use borrow.Author.Tests.{le-leb, lt-leb}
 use borrow.Author.Needs.{needs}
 use Rattle.symbols.specs.MacroblockHead.{legalIncrement}
 use Rattle.symbols.proofs.Laws.MacroblockHead.{past-all, past-last, address-fits}
 use Rattle.symbols.proofs.macroblock_head.legal_increment.Statement.{statement}
 use Rattle.symbols.proofs.macroblock_head.legal_increment.Tie as tie
+
+-- the tests that were passed before it is asked whether it must follow
+abbrev some : (c : tie.Else3) → leb 1 (c .before .before .before .args .increment) ≡ true
+some c = le-leb _ _ (c .before .before .if1 .left)
+
+abbrev fits : (c : tie.Else3) → leb (c .before .before .before .args .context .next + c .before .before .before .args .increment) (c .before .before .before .args .context .macroblocks) ≡ true
+fits c = address-fits _ _ _ (c .before .if2 .left) (c .if3 .left)
 
 returns : tie.Need-returns
 unfolding legalIncrement
@@ -23,21 +34,11 @@ must-follow-requires c κs = search needs
 
 returns-4 : tie.Need-returns-4
 unfolding legalIncrement
-returns-4 c =
-    let at-must-follow = c .before in
-    let at-if3 = at-must-follow .before in
-    let at-if2 = at-if3 .before in
-    let at-if1 = at-if2 .before in
-    rw (le-leb _ _ (at-if1 .if1 .left), address-fits _ _ _ (at-if2 .if2 .left) (at-if3 .if3 .left), ← at-must-follow .must-follow .ensures, c .if4 .taken)
+returns-4 c = rw (some (c .before .before), fits (c .before .before), ← c .before .must-follow .ensures, c .if4 .taken)
 
 returns-5 : tie.Need-returns-5
 unfolding legalIncrement
-returns-5 c =
-    let at-must-follow = c .before in
-    let at-if3 = at-must-follow .before in
-    let at-if2 = at-if3 .before in
-    let at-if1 = at-if2 .before in
-    rw (le-leb _ _ (at-if1 .if1 .left), address-fits _ _ _ (at-if2 .if2 .left) (at-if3 .if3 .left), ← at-must-follow .must-follow .ensures, c .if4 .left)
+returns-5 c = rw (some (c .before .before), fits (c .before .before), ← c .before .must-follow .ensures, c .if4 .left)
 
 pub legal-increment-spec : {M : Type 1} → statement M
 legal-increment-spec =

@@ -1,10 +1,17 @@
 -- `read_head` meets its contract: its tests are those of `headOf`, in the same order. Assumes nothing.
+use mathlib.Core.Path.{_≡_}
 use borrow.Author.Tests.{not-true, not-false}
 use borrow.Author.Needs.{needs}
+use Rattle.format3.specs.declared.field.ByteField.the-variants.{Value}
 use Rattle.format3.specs.Chain.{only}
+use Rattle.format3.specs.Field.{byteOf}
 use Rattle.symbols.specs.MacroblockHead.{headOf}
 use Rattle.symbols.proofs.macroblock_head.read_head.Statement.{statement}
 use Rattle.symbols.proofs.macroblock_head.read_head.Tie as tie
+
+-- the type that was read
+abbrev typed : (c : tie.After-legal-type) → byteOf (c .before .before .before .before .before .before .args .body .now) ≡ Value (c .before .before .flags .given .0 .0) (c .before .before .flags .given .0 .1 .0)
+typed c = cc
 
 read-u8-requires : tie.Need-read-u8-requires
 read-u8-requires c κs = search needs
@@ -24,11 +31,7 @@ legal-type-requires c κs = search needs
 
 returns-2 : tie.Need-returns-2
 unfolding headOf only
-returns-2 c =
-    let at-legal-type = c .before in
-    let at-flags = at-legal-type .before .before in
-    let at-read-u8 = at-flags .before .before in
-    rw (← at-read-u8 .read-u8 .ensures, at-flags .flags .given .1, ← at-legal-type .legal-type .ensures, not-true (at-legal-type .legal-type .result) (c .if1 .taken))
+returns-2 c = rw (typed (c .before), ← c .before .legal-type .ensures, not-true (c .before .legal-type .result) (c .if1 .taken))
 
 after-requires : tie.Need-after-requires
 after-requires c κs = search needs
@@ -39,18 +42,8 @@ read-increment-requires c κs = search needs
 returns-3 : tie.Need-returns-3
 unfolding headOf only
 returns-3 c =
-    let at-after = c .before in
-    let at-if1 = at-after .before in
-    let at-legal-type = at-if1 .before in
-    let at-flags = at-legal-type .before .before in
-    let at-read-u8 = at-flags .before .before in
-    rw (
-      ← at-read-u8 .read-u8 .ensures,
-      at-flags .flags .given .1,
-      ← at-legal-type .legal-type .ensures,
-      not-false (at-legal-type .legal-type .result) (at-if1 .if1 .left),
-      ← at-after .after .ensures,
-    ) (c .read-increment .ensures)
+    let t = c .before .before .before in
+    rw (typed t, ← t .legal-type .ensures, not-false (t .legal-type .result) (c .before .before .if1 .left), ← c .before .after .ensures) (c .read-increment .ensures)
 
 pub read-head-spec : {M : Type 1} → statement M
 read-head-spec =

@@ -1,10 +1,17 @@
 -- `read_increment` meets its contract: its tests are those of `incrementOf`, in the same order. Assumes nothing.
+use mathlib.Core.Path.{_≡_}
 use borrow.Author.Tests.{not-true, not-false}
 use borrow.Author.Needs.{needs}
+use Rattle.format3.specs.declared.field.WordField.the-variants.{Value}
 use Rattle.format3.specs.Chain.{only}
+use Rattle.format3.specs.Field.{wordOf}
 use Rattle.symbols.specs.MacroblockHead.{incrementOf}
 use Rattle.symbols.proofs.macroblock_head.read_increment.Statement.{statement}
 use Rattle.symbols.proofs.macroblock_head.read_increment.Tie as tie
+
+-- the increment that was read
+abbrev stepped : (c : tie.After-legal-increment) → wordOf (c .before .before .before .before .before .before .args .rest .now) ≡ Value (c .before .before .increment .given .0 .0) (c .before .before .increment .given .0 .1 .0)
+stepped c = cc
 
 read-u16-requires : tie.Need-read-u16-requires
 read-u16-requires c κs = search needs
@@ -24,11 +31,7 @@ legal-increment-requires c κs = search needs
 
 returns-2 : tie.Need-returns-2
 unfolding incrementOf only
-returns-2 c =
-    let at-legal-increment = c .before in
-    let at-increment = at-legal-increment .before .before in
-    let at-read-u16 = at-increment .before .before in
-    rw (← at-read-u16 .read-u16 .ensures, at-increment .increment .given .1, ← at-legal-increment .legal-increment .ensures, not-true (at-legal-increment .legal-increment .result) (c .if1 .taken))
+returns-2 c = rw (stepped (c .before), ← c .before .legal-increment .ensures, not-true (c .before .legal-increment .result) (c .if1 .taken))
 
 after-requires : tie.Need-after-requires
 after-requires c κs = search needs
@@ -39,18 +42,8 @@ read-scale-requires c κs = search needs
 returns-3 : tie.Need-returns-3
 unfolding incrementOf only
 returns-3 c =
-    let at-after = c .before in
-    let at-if1 = at-after .before in
-    let at-legal-increment = at-if1 .before in
-    let at-increment = at-legal-increment .before .before in
-    let at-read-u16 = at-increment .before .before in
-    rw (
-      ← at-read-u16 .read-u16 .ensures,
-      at-increment .increment .given .1,
-      ← at-legal-increment .legal-increment .ensures,
-      not-false (at-legal-increment .legal-increment .result) (at-if1 .if1 .left),
-      ← at-after .after .ensures,
-    ) (c .read-scale .ensures)
+    let t = c .before .before .before in
+    rw (stepped t, ← t .legal-increment .ensures, not-false (t .legal-increment .result) (c .before .before .if1 .left), ← c .before .after .ensures) (c .read-scale .ensures)
 
 pub read-increment-spec : {M : Type 1} → statement M
 read-increment-spec =

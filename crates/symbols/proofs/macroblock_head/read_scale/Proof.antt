@@ -1,10 +1,21 @@
 -- `read_scale` meets its contract: its tests are those of `scaleOf`, in the same order. Assumes nothing.
+use mathlib.Core.Bool.{true}
+use mathlib.Core.Path.{_≡_, sym, _∙_}
 use borrow.Author.Tests.{not-true, not-false}
 use borrow.Author.Needs.{needs}
+use Rattle.format3.specs.declared.field.ByteField.the-variants.{Value}
 use Rattle.format3.specs.Chain.{only}
-use Rattle.symbols.specs.MacroblockHead.{scaleOf}
+use Rattle.format3.specs.Field.{byteOf}
+use Rattle.symbols.specs.MacroblockHead.{givesScale, scaleOf}
 use Rattle.symbols.proofs.macroblock_head.read_scale.Statement.{statement}
 use Rattle.symbols.proofs.macroblock_head.read_scale.Tie as tie
+
+-- what the returns know of the test and the read before them
+abbrev given : (c : tie.Else1) → givesScale (c .before .before .before .args .head .flags) ≡ true
+given c = sym (c .before .gives-scale .ensures) ∙ not-false (c .before .gives-scale .result) (c .if1 .left)
+
+abbrev scaled : (c : tie.After-legal-scale) → byteOf (c .before .before .before .before .before .before .before .before .args .rest .now) ≡ Value (c .before .before .scale .given .0 .0) (c .before .before .scale .given .0 .1 .0)
+scaled c = cc
 
 gives-scale-requires : tie.Need-gives-scale-requires
 gives-scale-requires c κs = search needs
@@ -24,48 +35,18 @@ enum-told c = search needs
 
 returns-2 : tie.Need-returns-2
 unfolding scaleOf only
-returns-2 c =
-    let at-read-u8 = c .before .before in
-    let at-if1 = at-read-u8 .before in
-    let at-gives-scale = at-if1 .before in
-    rw (← at-gives-scale .gives-scale .ensures, not-false (at-gives-scale .gives-scale .result) (at-if1 .if1 .left), ← at-read-u8 .read-u8 .ensures, c .enum-told .given .1)
+returns-2 c = rw (given (c .before .before .before), ← c .before .before .read-u8 .ensures, c .enum-told .given .1)
 
 legal-scale-requires : tie.Need-legal-scale-requires
 legal-scale-requires c κs = search needs
 
 returns-3 : tie.Need-returns-3
 unfolding scaleOf only
-returns-3 c =
-    let at-legal-scale = c .before in
-    let at-scale = at-legal-scale .before .before in
-    let at-read-u8 = at-scale .before .before in
-    let at-if1 = at-read-u8 .before in
-    let at-gives-scale = at-if1 .before in
-    rw (
-      ← at-gives-scale .gives-scale .ensures,
-      not-false (at-gives-scale .gives-scale .result) (at-if1 .if1 .left),
-      ← at-read-u8 .read-u8 .ensures,
-      at-scale .scale .given .1,
-      ← at-legal-scale .legal-scale .ensures,
-      not-true (at-legal-scale .legal-scale .result) (c .if2 .taken),
-    )
+returns-3 c = rw (given (c .before .before .before .before .before .before), scaled (c .before), ← c .before .legal-scale .ensures, not-true (c .before .legal-scale .result) (c .if2 .taken))
 
 returns-4 : tie.Need-returns-4
 unfolding scaleOf only
-returns-4 c =
-    let at-legal-scale = c .before in
-    let at-scale = at-legal-scale .before .before in
-    let at-read-u8 = at-scale .before .before in
-    let at-if1 = at-read-u8 .before in
-    let at-gives-scale = at-if1 .before in
-    rw (
-      ← at-gives-scale .gives-scale .ensures,
-      not-false (at-gives-scale .gives-scale .result) (at-if1 .if1 .left),
-      ← at-read-u8 .read-u8 .ensures,
-      at-scale .scale .given .1,
-      ← at-legal-scale .legal-scale .ensures,
-      not-false (at-legal-scale .legal-scale .result) (c .if2 .left),
-    )
+returns-4 c = rw (given (c .before .before .before .before .before .before), scaled (c .before), ← c .before .legal-scale .ensures, not-false (c .before .legal-scale .result) (c .if2 .left))
 
 pub read-scale-spec : {M : Type 1} → statement M
 read-scale-spec =

@@ -1,10 +1,35 @@
 -- `read_slice` meets its contract: its tests are those of `sliceOf`, in the same order. Assumes nothing.
+use mathlib.Core.Bool.{true}
+use mathlib.Core.List.{List}
+use mathlib.Core.Path.{_≡_, sym, _∙_}
+use Prim.Native.Nat.{ℕ}
 use borrow.Author.Tests.{eq-eqb, ne-eqb, not-true, not-false}
 use borrow.Author.Needs.{needs}
+use lib.Dec.{eqb}
+use lib.ListN.{length, drop}
+use Rattle.format3.specs.declared.field.ByteField.the-variants as Byte
+use Rattle.format3.specs.declared.field.WordField.the-variants as Word
 use Rattle.format3.specs.Chain.{only}
-use Rattle.symbols.specs.Slice.{sliceOf}
+use Rattle.format3.specs.Field.{byteOf, wordOf}
+use Rattle.symbols.specs.Slice.{legalScale, sliceOf}
 use Rattle.symbols.proofs.slice.read_slice.Statement.{statement}
 use Rattle.symbols.proofs.slice.read_slice.Tie as tie
+
+abbrev body : tie.After-legal-scale → List ℕ
+body c = c .before .before .before .before .before .before .before .args .body .now
+
+-- what each return knows of the tests before it
+abbrev long : (c : tie.After-legal-scale) → eqb (length (body c)) 3 ≡ true
+long c = eq-eqb _ _ (c .before .before .before .before .before .if1 .left)
+
+abbrev scaled : (c : tie.After-legal-scale) → byteOf (body c) ≡ Byte.Value (c .before .before .scale .given .0 .0) (c .before .before .scale .given .0 .1 .0)
+scaled c = cc
+
+abbrev legal : (c : tie.Else2) → legalScale (c .before .before .before .scale .given .0 .0) ≡ true
+legal c = sym (c .before .legal-scale .ensures) ∙ not-false (c .before .legal-scale .result) (c .if2 .left)
+
+abbrev started : (c : tie.After-start) → wordOf (drop (c .before .before .before .before .before .before .before .scale .given .0 .1 .0 .at) (body (c .before .before .before .before .before))) ≡ Word.Value (c .start .given .0 .0) (c .start .given .0 .1 .0)
+started c = cc
 
 returns : tie.Need-returns
 unfolding sliceOf only
@@ -28,18 +53,7 @@ legal-scale-requires c κs = search needs
 
 returns-3 : tie.Need-returns-3
 unfolding sliceOf only
-returns-3 c =
-    let at-legal-scale = c .before in
-    let at-scale = at-legal-scale .before .before in
-    let at-read-u8 = at-scale .before .before in
-    let at-if1 = at-read-u8 .before in
-    rw (
-      eq-eqb _ _ (at-if1 .if1 .left),
-      ← at-read-u8 .read-u8 .ensures,
-      at-scale .scale .given .1,
-      ← at-legal-scale .legal-scale .ensures,
-      not-true (at-legal-scale .legal-scale .result) (c .if2 .taken),
-    )
+returns-3 c = rw (long (c .before), scaled (c .before), ← c .before .legal-scale .ensures, not-true (c .before .legal-scale .result) (c .if2 .taken))
 
 after-requires : tie.Need-after-requires
 after-requires c κs = search needs
@@ -56,23 +70,8 @@ enum-told-2 c = search needs
 returns-4 : tie.Need-returns-4
 unfolding sliceOf only
 returns-4 c =
-    let at-read-u16 = c .before .before in
-    let at-after = at-read-u16 .before in
-    let at-if2 = at-after .before in
-    let at-legal-scale = at-if2 .before in
-    let at-scale = at-legal-scale .before .before in
-    let at-read-u8 = at-scale .before .before in
-    let at-if1 = at-read-u8 .before in
-    rw (
-      eq-eqb _ _ (at-if1 .if1 .left),
-      ← at-read-u8 .read-u8 .ensures,
-      at-scale .scale .given .1,
-      ← at-legal-scale .legal-scale .ensures,
-      not-false (at-legal-scale .legal-scale .result) (at-if2 .if2 .left),
-      ← at-after .after .ensures,
-      ← at-read-u16 .read-u16 .ensures,
-      c .enum-told2 .given .1,
-    )
+    let t = c .before .before .before .before in
+    rw (long (t .before), scaled (t .before), legal t, ← c .before .before .before .after .ensures, ← c .before .before .read-u16 .ensures, c .enum-told2 .given .1)
 
 cast-if3 : tie.Need-cast-if3
 cast-if3 c = search needs
@@ -80,48 +79,14 @@ cast-if3 c = search needs
 returns-5 : tie.Need-returns-5
 unfolding sliceOf only
 returns-5 c =
-    let at-start = c .before .before in
-    let at-read-u16 = at-start .before .before in
-    let at-after = at-read-u16 .before in
-    let at-if2 = at-after .before in
-    let at-legal-scale = at-if2 .before in
-    let at-scale = at-legal-scale .before .before in
-    let at-read-u8 = at-scale .before .before in
-    let at-if1 = at-read-u8 .before in
-    rw (
-      eq-eqb _ _ (at-if1 .if1 .left),
-      ← at-read-u8 .read-u8 .ensures,
-      at-scale .scale .given .1,
-      ← at-legal-scale .legal-scale .ensures,
-      not-false (at-legal-scale .legal-scale .result) (at-if2 .if2 .left),
-      ← at-after .after .ensures,
-      ← at-read-u16 .read-u16 .ensures,
-      at-start .start .given .1,
-      ne-eqb _ _ (c .if3 .taken),
-    )
+    let t = c .before .before .before .before .before .before in
+    rw (long (t .before), scaled (t .before), legal t, started (c .before .before), ne-eqb _ _ (c .if3 .taken))
 
 returns-6 : tie.Need-returns-6
 unfolding sliceOf only
 returns-6 c =
-    let at-start = c .before .before in
-    let at-read-u16 = at-start .before .before in
-    let at-after = at-read-u16 .before in
-    let at-if2 = at-after .before in
-    let at-legal-scale = at-if2 .before in
-    let at-scale = at-legal-scale .before .before in
-    let at-read-u8 = at-scale .before .before in
-    let at-if1 = at-read-u8 .before in
-    rw (
-      eq-eqb _ _ (at-if1 .if1 .left),
-      ← at-read-u8 .read-u8 .ensures,
-      at-scale .scale .given .1,
-      ← at-legal-scale .legal-scale .ensures,
-      not-false (at-legal-scale .legal-scale .result) (at-if2 .if2 .left),
-      ← at-after .after .ensures,
-      ← at-read-u16 .read-u16 .ensures,
-      at-start .start .given .1,
-      eq-eqb _ _ (c .if3 .left),
-    )
+    let t = c .before .before .before .before .before .before in
+    rw (long (t .before), scaled (t .before), legal t, started (c .before .before), eq-eqb _ _ (c .if3 .left))
 
 pub read-slice-spec : {M : Type 1} → statement M
 read-slice-spec =

@@ -1,11 +1,15 @@
 -- `read_code` meets its contract: its tests are those of `codeOf`, in the same order, on the number that the wider bits stand for. Assumes nothing.
 use borrow.Author.Needs.{needs}
 use borrow.Author.Tests.{not-true, not-false}
-use mathlib.Core.Bool.{Bool}
+use mathlib.Core.Bool.{Bool, true}
 use mathlib.Core.Path.{_≡_, sym, ap, _∙_}
 use lib.IntN.{ℤ}
+use lib.ListN.{drop}
 use mir.Syntax.{w16, w32}
+use Rattle.format3.specs.declared.field.ByteField.the-variants as Byte
+use Rattle.format3.specs.declared.field.SignedField.the-variants as Signed
 use Rattle.format3.specs.Chain.{only}
+use Rattle.format3.specs.Field.{byteOf, signedByteOf}
 use Rattle.integers.proofs.Bound.{within-mag}
 use Rattle.integers.proofs.Machine.{Held, parameter, fits, kept}
 use Rattle.motion.specs.Vector.{codeInRange, residualInRange}
@@ -28,6 +32,16 @@ residual-test : (c : tie.After-residual-in-range) {b : Bool} → c .residual-in-
 residual-test c t =
     sym (c .residual-in-range .ensures ∙ ap (λ (z : ℤ). residualInRange (told c .before .before .before .before .before .args .f) z (c .before .before .residual .given .0 .0)) (kept w32 (code (told c)) tt .is)) ∙ t
 
+-- what the returns know of the reads and the test before them
+abbrev coded : (c : tie.After-code-in-range) → signedByteOf (c .before .before .before .before .before .before .args .rest .now) ≡ Signed.Value (c .before .before .code .given .0 .0) (c .before .before .code .given .0 .1 .0)
+coded c = cc
+
+abbrev legal : (c : tie.Else1) → codeInRange (c .before .before .before .code .given .0 .0) ≡ true
+legal c = code-test (c .before) (not-false (c .before .code-in-range .result) (c .if1 .left))
+
+abbrev left : (c : tie.After-residual) → byteOf (drop (c .before .before .before .before .before .before .before .code .given .0 .1 .0 .at) (c .before .before .before .before .before .before .before .before .before .before .before .args .rest .now)) ≡ Byte.Value (c .residual .given .0 .0) (c .residual .given .0 .1 .0)
+left c = cc
+
 read-i8-requires : tie.Need-read-i8-requires
 read-i8-requires c κs = search needs
 
@@ -49,9 +63,7 @@ code-in-range-requires c κs = search needs
 
 returns-2 : tie.Need-returns-2
 unfolding codeOf only
-returns-2 c =
-    let at-code = c .before .before .before in
-    rw (← at-code .before .before .read-i8 .ensures, at-code .code .given .1, code-test (c .before) (not-true (c .before .code-in-range .result) (c .if1 .taken)))
+returns-2 c = rw (coded (c .before), code-test (c .before) (not-true (c .before .code-in-range .result) (c .if1 .taken)))
 
 after-requires : tie.Need-after-requires
 after-requires c κs = search needs
@@ -68,11 +80,8 @@ enum-told-2 c = search needs
 returns-3 : tie.Need-returns-3
 unfolding codeOf only
 returns-3 c =
-    let at-read-u8 = c .before .before in
-    let at-after = at-read-u8 .before in
-    let at-if1 = at-after .before in
-    let at-code = at-if1 .before .before .before in
-    rw (← at-code .before .before .read-i8 .ensures, at-code .code .given .1, code-test (at-if1 .before) (not-false (at-if1 .before .code-in-range .result) (at-if1 .if1 .left)), ← at-after .after .ensures, ← at-read-u8 .read-u8 .ensures, c .enum-told2 .given .1)
+    let t = c .before .before .before .before in
+    rw (coded (t .before), legal t, ← c .before .before .before .after .ensures, ← c .before .before .read-u8 .ensures, c .enum-told2 .given .1)
 
 cast-residual-in-range : tie.Need-cast-residual-in-range
 cast-residual-in-range c = search needs
@@ -83,22 +92,14 @@ residual-in-range-requires c κs = search needs
 returns-4 : tie.Need-returns-4
 unfolding codeOf only
 returns-4 c =
-    let at-residual = c .before .before .before in
-    let at-read-u8 = at-residual .before .before in
-    let at-after = at-read-u8 .before in
-    let at-if1 = at-after .before in
-    let at-code = at-if1 .before .before .before in
-    rw (← at-code .before .before .read-i8 .ensures, at-code .code .given .1, code-test (at-if1 .before) (not-false (at-if1 .before .code-in-range .result) (at-if1 .if1 .left)), ← at-after .after .ensures, ← at-read-u8 .read-u8 .ensures, at-residual .residual .given .1, residual-test (c .before) (not-true (c .before .residual-in-range .result) (c .if2 .taken)))
+    let t = c .before .before .before .before .before .before .before in
+    rw (coded (t .before), legal t, left (c .before .before .before), residual-test (c .before) (not-true (c .before .residual-in-range .result) (c .if2 .taken)))
 
 returns-5 : tie.Need-returns-5
 unfolding codeOf only
 returns-5 c =
-    let at-residual = c .before .before .before in
-    let at-read-u8 = at-residual .before .before in
-    let at-after = at-read-u8 .before in
-    let at-if1 = at-after .before in
-    let at-code = at-if1 .before .before .before in
-    rw (code (at-if1 .before .before) .is, ← at-code .before .before .read-i8 .ensures, at-code .code .given .1, code-test (at-if1 .before) (not-false (at-if1 .before .code-in-range .result) (at-if1 .if1 .left)), ← at-after .after .ensures, ← at-read-u8 .read-u8 .ensures, at-residual .residual .given .1, residual-test (c .before) (not-false (c .before .residual-in-range .result) (c .if2 .left)))
+    let t = c .before .before .before .before .before .before .before in
+    rw (code (t .before .before) .is, coded (t .before), legal t, left (c .before .before .before), residual-test (c .before) (not-false (c .before .residual-in-range .result) (c .if2 .left)))
 
 pub read-code-spec : {M : Type 1} → statement M
 read-code-spec =

@@ -1,8 +1,14 @@
 -- `read_codes` meets its contract: it reads one code after the other, as `codesOf` does. Assumes nothing.
+use mathlib.Core.Path.{_≡_}
 use borrow.Author.Needs.{needs}
-use Rattle.symbols.specs.VectorCodes.{codesOf}
+use Rattle.symbols.specs.declared.vector_codes.CodeAnswer.the-variants.{Legal}
+use Rattle.symbols.specs.VectorCodes.{codeOf, codesOf}
 use Rattle.symbols.proofs.vector_codes.read_codes.Statement.{statement}
 use Rattle.symbols.proofs.vector_codes.read_codes.Tie as tie
+
+-- the code across that was read
+abbrev across : (c : tie.After-after) → codeOf (c .before .before .before .before .before .before .args .f) (c .before .before .before .before .before .before .args .rest .now) ≡ Legal (c .before .before .horizontal .given .0 .0) (c .before .before .horizontal .given .0 .1 .0)
+across c = cc
 
 read-code-requires : tie.Need-read-code-requires
 read-code-requires c κs = search needs
@@ -31,23 +37,11 @@ returns c = rw (← c .before .before .before .read-code .ensures, c .before .re
 
 returns-2 : tie.Need-returns-2
 unfolding codesOf
-returns-2 c =
-    let at-refusal2 = c .before in
-    let at-read-code2 = at-refusal2 .before .before in
-    let at-after = at-read-code2 .before in
-    let at-horizontal = at-after .before .before in
-    let at-read-code = at-horizontal .before .before in
-    rw (← at-read-code .read-code .ensures, at-horizontal .horizontal .given .1, ← at-after .after .ensures, ← at-read-code2 .read-code2 .ensures, at-refusal2 .refusal2 .given .1)
+returns-2 c = rw (across (c .before .before .before .before), ← c .before .before .before .before .after .ensures, ← c .before .before .before .read-code2 .ensures, c .before .refusal2 .given .1)
 
 returns-3 : tie.Need-returns-3
 unfolding codesOf
-returns-3 c =
-    let at-vertical = c .before in
-    let at-read-code2 = at-vertical .before .before in
-    let at-after = at-read-code2 .before in
-    let at-horizontal = at-after .before .before in
-    let at-read-code = at-horizontal .before .before in
-    rw (← at-read-code .read-code .ensures, at-horizontal .horizontal .given .1, ← at-after .after .ensures, ← at-read-code2 .read-code2 .ensures, at-vertical .vertical .given .1)
+returns-3 c = rw (across (c .before .before .before .before), ← c .before .before .before .before .after .ensures, ← c .before .before .before .read-code2 .ensures, c .before .vertical .given .1)
 
 pub read-codes-spec : {M : Type 1} → statement M
 read-codes-spec =
