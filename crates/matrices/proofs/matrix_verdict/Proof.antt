@@ -1,11 +1,33 @@
 -- `matrix_verdict` meets its contract: its tests are those of `verdictOf`, in the same order. Assumes nothing.
+use mathlib.Core.Bool.{true, false}
+use mathlib.Core.List.{List}
+use mathlib.Core.Path.{_≡_}
+use Prim.Native.Nat.{ℕ}
+use lib.Dec.{leb, eqb}
+use lib.ListN.{length}
 use borrow.Author.Tests.{le-leb, lt-leb, eq-eqb, ne-eqb, not-true, not-false}
 use borrow.Author.Needs.{needs}
 use Rattle.format3.specs.Chain.{only}
-use Rattle.matrices.specs.Matrix.{verdictOf}
+use Rattle.matrices.specs.Matrix.{whichOf, weightsOf, positive, loadedAlready, verdictOf}
 use Rattle.matrices.proofs.Laws.Matrix.{weights-long}
 use Rattle.matrices.proofs.matrix_verdict.Statement.{statement}
 use Rattle.matrices.proofs.matrix_verdict.Tie as tie
+
+abbrev body : tie.Else3 → List ℕ
+body c = c .before .before .before .before .before .before .args .body .now
+
+-- the tests that were passed before the weights are tested, and theirs
+long : (c : tie.Else3) → eqb (length (body c)) 65 ≡ true
+long c = eq-eqb _ _ (c .before .before .before .before .if1 .left)
+
+known : (c : tie.Else3) → leb (whichOf (body c)) 1 ≡ true
+known c = le-leb _ _ (c .before .before .if2 .left)
+
+fresh : (c : tie.Else3) → loadedAlready (whichOf (body c)) (c .before .before .before .before .before .before .args .loaded) ≡ false
+fresh c = cc
+
+weighted : (c : tie.Else4) → positive (weightsOf (body (c .before .before .before))) ≡ true
+weighted c = cc (not-false (c .before .all-positive .result) (c .if4 .left))
 
 returns : tie.Need-returns
 unfolding verdictOf only
@@ -34,21 +56,8 @@ all-positive-requires c κs = rw (c .after .ensures) (weights-long (c .before .b
 returns-4 : tie.Need-returns-4
 unfolding verdictOf only
 returns-4 c =
-    let at-all-positive = c .before in
-    let at-after = at-all-positive .before in
-    let at-if3 = at-after .before in
-    let at-loaded-already = at-if3 .before in
-    let at-if2 = at-loaded-already .before in
-    let at-if1 = at-if2 .before .before in
-    rw (
-      eq-eqb _ _ (at-if1 .if1 .left),
-      le-leb _ _ (at-if2 .if2 .left),
-      ← at-loaded-already .loaded-already .ensures,
-      at-if3 .if3 .left,
-      ← at-after .after .ensures,
-      ← at-all-positive .all-positive .ensures,
-      not-true (at-all-positive .all-positive .result) (c .if4 .taken),
-    )
+    let t = c .before .before .before in
+    rw (long t, known t, fresh t, ← c .before .before .after .ensures, ← c .before .all-positive .ensures, not-true (c .before .all-positive .result) (c .if4 .taken))
 
 shared-slice-read-legal-first : tie.Need-shared-slice-read-legal-first
 shared-slice-read-legal-first c = search needs
@@ -59,48 +68,14 @@ legal-first-requires c κs = search needs
 returns-5 : tie.Need-returns-5
 unfolding verdictOf only
 returns-5 c =
-    let at-legal-first = c .before in
-    let at-if4 = at-legal-first .before .before in
-    let at-all-positive = at-if4 .before in
-    let at-after = at-all-positive .before in
-    let at-if3 = at-after .before in
-    let at-loaded-already = at-if3 .before in
-    let at-if2 = at-loaded-already .before in
-    let at-if1 = at-if2 .before .before in
-    rw (
-      eq-eqb _ _ (at-if1 .if1 .left),
-      le-leb _ _ (at-if2 .if2 .left),
-      ← at-loaded-already .loaded-already .ensures,
-      at-if3 .if3 .left,
-      ← at-after .after .ensures,
-      ← at-all-positive .all-positive .ensures,
-      not-false (at-all-positive .all-positive .result) (at-if4 .if4 .left),
-      ← at-legal-first .legal-first .ensures,
-      not-true (at-legal-first .legal-first .result) (c .if5 .taken),
-    )
+    let t = c .before .before .before .before .before .before in
+    rw (long t, known t, fresh t, weighted (c .before .before .before), ← c .before .legal-first .ensures, not-true (c .before .legal-first .result) (c .if5 .taken))
 
 returns-6 : tie.Need-returns-6
 unfolding verdictOf only
 returns-6 c =
-    let at-legal-first = c .before in
-    let at-if4 = at-legal-first .before .before in
-    let at-all-positive = at-if4 .before in
-    let at-after = at-all-positive .before in
-    let at-if3 = at-after .before in
-    let at-loaded-already = at-if3 .before in
-    let at-if2 = at-loaded-already .before in
-    let at-if1 = at-if2 .before .before in
-    rw (
-      eq-eqb _ _ (at-if1 .if1 .left),
-      le-leb _ _ (at-if2 .if2 .left),
-      ← at-loaded-already .loaded-already .ensures,
-      at-if3 .if3 .left,
-      ← at-after .after .ensures,
-      ← at-all-positive .all-positive .ensures,
-      not-false (at-all-positive .all-positive .result) (at-if4 .if4 .left),
-      ← at-legal-first .legal-first .ensures,
-      not-false (at-legal-first .legal-first .result) (c .if5 .left),
-    )
+    let t = c .before .before .before .before .before .before in
+    rw (long t, known t, fresh t, weighted (c .before .before .before), ← c .before .legal-first .ensures, not-false (c .before .legal-first .result) (c .if5 .left))
 
 pub matrix-verdict-spec : {M : Type 1} → statement M
 matrix-verdict-spec =

@@ -1,12 +1,24 @@
 -- `read_matrix` meets its contract: a refused record changes nothing, and a legal one loads the matrix that it names. Assumes nothing.
-use mathlib.Core.Path.{sym, _∙_}
+use mathlib.Core.Path.{_≡_}
 use native.Mathlib.Omega.{arith}
+use lib.ListN.{length}
 use borrow.Author.Tests.{eq-eqb, ne-eqb}
 use borrow.Author.Needs.{needs}
-use Rattle.matrices.specs.Matrix.{matrixOf}
+use Rattle.format3.specs.declared.verdict.Verdict.the-variants.{Passed}
+use Rattle.matrices.specs.Matrix.{weightsOf, verdictOf, placed, matrixOf}
 use Rattle.matrices.proofs.Laws.Matrix.{weights-long, passed-long}
 use Rattle.matrices.proofs.read_matrix.Statement.{statement}
 use Rattle.matrices.proofs.read_matrix.Tie as tie
+
+-- a record that goes on has passed, so it has its length, and its weights are placed
+passed : (c : tie.After-enum-told) → verdictOf (c .before .before .before .before .args .body .now) (c .before .before .before .before .args .loaded) ≡ Passed
+passed c = cc
+
+long : (c : tie.After-enum-told) → length (c .before .before .before .before .args .body .now) ≡ 65
+long c = passed-long (c .before .before .before .before .args .body .now) (c .before .before .before .before .args .loaded) (passed c)
+
+loads : (c : tie.After-place-weights) → placed (weightsOf (c .before .before .before .before .before .before .args .body .now)) ≡ c .place-weights .result
+loads c = cc
 
 matrix-verdict-requires : tie.Need-matrix-verdict-requires
 matrix-verdict-requires c κs = search needs
@@ -25,38 +37,18 @@ after-requires : tie.Need-after-requires
 after-requires c κs = search needs
 
 place-weights-requires : tie.Need-place-weights-requires
-place-weights-requires c κs =
-    let at-enum-told = c .before in
-    let at-matrix-verdict = at-enum-told .before .before in
-    let start = at-matrix-verdict .before .before in
-    rw (c .after .ensures) (weights-long (start .args .body .now) (passed-long (start .args .body .now) (start .args .loaded) (sym (at-matrix-verdict .matrix-verdict .ensures) ∙ at-enum-told .enum-told .given .1)))
+place-weights-requires c κs = rw (c .after .ensures) (weights-long (c .before .before .before .before .before .args .body .now) (long (c .before)))
 
 shared-slice-read-if1 : tie.Need-shared-slice-read-if1
-shared-slice-read-if1 c =
-    let at-enum-told = c .before .before .before in
-    let at-matrix-verdict = at-enum-told .before .before in
-    let start = at-matrix-verdict .before .before in
-    omega (arith, passed-long (start .args .body .now) (start .args .loaded) (sym (at-matrix-verdict .matrix-verdict .ensures) ∙ at-enum-told .enum-told .given .1))
+shared-slice-read-if1 c = omega (arith, long (c .before .before .before))
 
 returns-2 : tie.Need-returns-2
 unfolding matrixOf
-returns-2 c =
-    let at-if1 = c .before in
-    let at-place-weights = at-if1 .before .before in
-    let at-after = at-place-weights .before in
-    let at-enum-told = at-after .before in
-    let at-matrix-verdict = at-enum-told .before .before in
-    rw (← at-matrix-verdict .matrix-verdict .ensures, at-enum-told .enum-told .given .1, ← at-after .after .ensures, ← at-place-weights .place-weights .ensures, eq-eqb _ _ (at-if1 .if1 .taken))
+returns-2 c = rw (passed (c .before .before .before .before .before), loads (c .before .before .before), eq-eqb _ _ (c .before .if1 .taken))
 
 returns-3 : tie.Need-returns-3
 unfolding matrixOf
-returns-3 c =
-    let at-if1 = c .before in
-    let at-place-weights = at-if1 .before .before in
-    let at-after = at-place-weights .before in
-    let at-enum-told = at-after .before in
-    let at-matrix-verdict = at-enum-told .before .before in
-    rw (← at-matrix-verdict .matrix-verdict .ensures, at-enum-told .enum-told .given .1, ← at-after .after .ensures, ← at-place-weights .place-weights .ensures, ne-eqb _ _ (at-if1 .if1 .left))
+returns-3 c = rw (passed (c .before .before .before .before .before), loads (c .before .before .before), ne-eqb _ _ (c .before .if1 .left))
 
 pub read-matrix-spec : {M : Type 1} → statement M
 read-matrix-spec =
