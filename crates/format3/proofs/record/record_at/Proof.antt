@@ -1,6 +1,11 @@
 -- `record_at` meets its contract: its tests are those of `recordOf`, in the same order. Assumes nothing.
-use Prim.Native.Nat.{_+_}
+use mathlib.Core.Bool.{true}
+use mathlib.Core.List.{List}
+use mathlib.Core.Path.{_≡_}
+use Prim.Native.Nat.{ℕ, _+_}
 use native.Mathlib.Omega.{arith}
+use lib.Dec.{leb}
+use lib.ListN.{length}
 use borrow.Author.Tests.{le-leb, lt-leb}
 use borrow.Author.Needs.{needs}
 use Rattle.format3.specs.Chain.{only}
@@ -8,6 +13,24 @@ use Rattle.format3.specs.Record.{recordOf, lengthAt, kindAt}
 use Rattle.format3.proofs.Laws.Record.{none-left, few-left, head-left, past-end, before-end}
 use Rattle.format3.proofs.record.record_at.Statement.{statement}
 use Rattle.format3.proofs.record.record_at.Tie as tie
+
+abbrev file : tie.Else4 → List ℕ
+file c = c .before .before .before .before .before .before .args .file .now
+
+abbrev offset : tie.Else4 → ℕ
+offset c = c .before .before .before .before .before .before .args .offset
+
+-- the tests that were passed before the kind is tested
+headed : (c : tie.Else4) → leb (offset c + 3) (length (file c)) ≡ true
+headed c = head-left _ _ (c .before .before .before .before .if2 .left)
+
+some : (c : tie.Else4) → leb 1 (lengthAt (file c) (offset c)) ≡ true
+unfolding lengthAt
+some c = le-leb _ _ (c .before .if3 .left)
+
+whole : (c : tie.Else4) → leb (offset c + 2 + lengthAt (file c) (offset c)) (length (file c)) ≡ true
+unfolding lengthAt
+whole c = before-end _ _ (c .before .before .before .before .if2 .left) _ (c .if4 .left)
 
 returns : tie.Need-returns
 unfolding recordOf lengthAt kindAt only
@@ -60,49 +83,18 @@ shared-slice-read-kind c = search needs
 
 returns-5 : tie.Need-returns-5
 unfolding recordOf lengthAt kindAt only
-returns-5 c =
-    let at-if4 = c .before .before in
-    let at-if3 = at-if4 .before in
-    let at-if2 = at-if3 .before .before .before in
-    rw (
-      head-left _ _ (at-if2 .if2 .left),
-      le-leb _ _ (at-if3 .if3 .left),
-      before-end _ _ (at-if2 .if2 .left) _ (at-if4 .if4 .left),
-      lt-leb _ _ (c .if5 .taken),
-    )
+returns-5 c = rw (headed (c .before .before), some (c .before .before), whole (c .before .before), lt-leb _ _ (c .if5 .taken))
 
 returns-6 : tie.Need-returns-6
 unfolding recordOf lengthAt kindAt only
-returns-6 c =
-    let at-if5 = c .before in
-    let at-if4 = at-if5 .before .before in
-    let at-if3 = at-if4 .before in
-    let at-if2 = at-if3 .before .before .before in
-    rw (
-      head-left _ _ (at-if2 .if2 .left),
-      le-leb _ _ (at-if3 .if3 .left),
-      before-end _ _ (at-if2 .if2 .left) _ (at-if4 .if4 .left),
-      le-leb _ _ (at-if5 .if5 .left),
-      lt-leb _ _ (c .if6 .taken),
-    )
+returns-6 c = rw (headed (c .before .before .before), some (c .before .before .before), whole (c .before .before .before), le-leb _ _ (c .before .if5 .left), lt-leb _ _ (c .if6 .taken))
 
 add-t8 : tie.Need-add-t8
 add-t8 c = search needs
 
 returns-7 : tie.Need-returns-7
 unfolding recordOf lengthAt kindAt only
-returns-7 c =
-    let at-if5 = c .before in
-    let at-if4 = at-if5 .before .before in
-    let at-if3 = at-if4 .before in
-    let at-if2 = at-if3 .before .before .before in
-    rw (
-      head-left _ _ (at-if2 .if2 .left),
-      le-leb _ _ (at-if3 .if3 .left),
-      before-end _ _ (at-if2 .if2 .left) _ (at-if4 .if4 .left),
-      le-leb _ _ (at-if5 .if5 .left),
-      le-leb _ _ (c .if6 .left),
-    )
+returns-7 c = rw (headed (c .before .before .before), some (c .before .before .before), whole (c .before .before .before), le-leb _ _ (c .before .if5 .left), le-leb _ _ (c .if6 .left))
 
 pub record-at-spec : {M : Type 1} → statement M
 record-at-spec =
