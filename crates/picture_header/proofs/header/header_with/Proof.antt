@@ -1,12 +1,18 @@
 -- `header_with` meets its contract: the size is legal where one is made, and the codings are tested after it. Assumes nothing.
-use mathlib.Core.Path.{sym, _∙_}
+use mathlib.Core.Path.{_≡_, sym, _∙_}
 use borrow.Author.Tests.{not-true, not-false}
 use borrow.Author.Needs.{needs}
 use Rattle.format3.specs.Chain.{only}
+use Rattle.picture_header.specs.declared.size.NewSize.the-variants.{Fits}
+use Rattle.picture_header.specs.Size.{sizeOf}
 use Rattle.picture_header.specs.Header.{headerWith, legalHeader}
 use Rattle.picture_header.proofs.Laws.Size.{made, not-made}
 use Rattle.picture_header.proofs.header.header_with.Statement.{statement}
 use Rattle.picture_header.proofs.header.header_with.Tie as tie
+
+-- the size that was made
+sized : (c : tie.After-size) → sizeOf (c .before .before .before .before .before .args .fields .width) (c .before .before .before .before .before .args .fields .height) ≡ Fits (c .size .given .0 .0)
+sized c = cc
 
 cast-new : tie.Need-cast-new
 cast-new c = search needs
@@ -32,12 +38,12 @@ legal-codings-requires c κs = search needs
 
 returns-2 : tie.Need-returns-2
 unfolding headerWith legalHeader only
-returns-2 c = rw (made _ _ _ (sym (c .before .before .before .before .before .new .ensures) ∙ c .before .before .before .size .given .1) .0, ← c .before .legal-codings .ensures, not-true (c .before .legal-codings .result) (c .if1 .taken))
+returns-2 c = rw (made _ _ _ (sized (c .before .before .before)) .0, ← c .before .legal-codings .ensures, not-true (c .before .legal-codings .result) (c .if1 .taken))
 
 returns-3 : tie.Need-returns-3
 unfolding headerWith legalHeader only
 returns-3 c =
-    let m = made _ _ _ (sym (c .before .before .before .before .before .before .before .new .ensures) ∙ c .before .before .before .before .before .size .given .1) in
+    let m = made _ _ _ (sized (c .before .before .before .before .before)) in
     rw (m .0, ← c .before .before .before .legal-codings .ensures, not-false (c .before .before .before .legal-codings .result) (c .before .before .if1 .left), m .1)
 
 pub header-with-spec : {M : Type 1} → statement M

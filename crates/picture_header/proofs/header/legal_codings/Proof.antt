@@ -1,9 +1,16 @@
 -- `legal_codings` meets its contract: its tests are those of `legalCodings`, in the same order. Assumes nothing.
+use mathlib.Core.Bool.{true, _&&_}
+use mathlib.Core.Path.{_≡_}
+use lib.Dec.{leb}
 use borrow.Author.Tests.{le-leb, lt-leb, not-true, not-false}
 use borrow.Author.Needs.{needs}
-use Rattle.picture_header.specs.Header.{legalCodings}
+use Rattle.picture_header.specs.Header.{typeI, typeB, legalCodings}
 use Rattle.picture_header.proofs.header.legal_codings.Statement.{statement}
 use Rattle.picture_header.proofs.header.legal_codings.Tie as tie
+
+-- the type is one of the three
+known : (c : tie.Else2) → leb typeI (c .before .before .args .fields .«coding_type») && leb (c .before .before .args .fields .«coding_type») typeB ≡ true
+known c = rw (le-leb _ _ (c .before .if1 .left), le-leb _ _ (c .if2 .left))
 
 returns : tie.Need-returns
 unfolding legalCodings
@@ -21,7 +28,7 @@ legal-coding-requires c κs = search needs
 
 returns-3 : tie.Need-returns-3
 unfolding legalCodings
-returns-3 c = rw (le-leb _ _ (c .before .before .before .before .if1 .left), le-leb _ _ (c .before .before .before .if2 .left), ← c .before .before .uses-forward .ensures, ← c .before .legal-coding .ensures, not-true (c .before .legal-coding .result) (c .if3 .taken))
+returns-3 c = rw (known (c .before .before .before), ← c .before .before .uses-forward .ensures, ← c .before .legal-coding .ensures, not-true (c .before .legal-coding .result) (c .if3 .taken))
 
 uses-backward-requires : tie.Need-uses-backward-requires
 uses-backward-requires c κs = search needs
@@ -31,7 +38,7 @@ legal-coding-requires-2 c κs = search needs
 
 returns-4 : tie.Need-returns-4
 unfolding legalCodings
-returns-4 c = rw (le-leb _ _ (c .before .before .before .before .before .before .if1 .left), le-leb _ _ (c .before .before .before .before .before .if2 .left), ← c .before .before .before .before .uses-forward .ensures, ← c .before .before .before .legal-coding .ensures, not-false (c .before .before .before .legal-coding .result) (c .before .before .if3 .left), ← c .before .uses-backward .ensures) (c .legal-coding2 .ensures)
+returns-4 c = rw (known (c .before .before .before .before .before), ← c .before .before .before .before .uses-forward .ensures, ← c .before .before .before .legal-coding .ensures, not-false (c .before .before .before .legal-coding .result) (c .before .before .if3 .left), ← c .before .uses-backward .ensures) (c .legal-coding2 .ensures)
 
 pub legal-codings-spec : {M : Type 1} → statement M
 legal-codings-spec =

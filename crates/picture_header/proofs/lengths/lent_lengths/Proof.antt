@@ -1,10 +1,22 @@
 -- `lent_lengths` meets its contract: its tests are those of `lengthsOf`, in the same order. Assumes nothing.
+use mathlib.Core.Bool.{true}
+use mathlib.Core.Path.{_≡_}
+use lib.Dec.{eqb}
 use borrow.Author.Tests.{eq-eqb, ne-eqb}
 use borrow.Author.Needs.{needs}
 use Rattle.format3.specs.Chain.{only}
-use Rattle.picture_header.specs.Lengths.{lengthsOf}
+use Rattle.picture_header.specs.Size.{bytes}
+use Rattle.picture_header.specs.Header.{usesForward}
+use Rattle.picture_header.specs.Lengths.{referenceLength, lengthsOf}
 use Rattle.picture_header.proofs.lengths.lent_lengths.Statement.{statement}
 use Rattle.picture_header.proofs.lengths.lent_lengths.Tie as tie
+
+-- the lengths that were passed
+output : (c : tie.Else1) → eqb (c .before .before .before .args .output) (bytes (c .before .before .before .args .header .size)) ≡ true
+output c = rw (← c .before .bytes .ensures) (eq-eqb _ _ (c .if1 .left))
+
+forward : (c : tie.Else2) → eqb (c .before .before .before .before .before .before .args .forward) (referenceLength (usesForward (c .before .before .before .before .before .before .args .header .«coding_type»)) (c .before .before .before .before .before .before .args .header .size)) ≡ true
+forward c = rw (← c .before .before .uses-forward .ensures, ← c .before .reference-length .ensures) (eq-eqb _ _ (c .if2 .left))
 
 bytes-requires : tie.Need-bytes-requires
 bytes-requires c κs = search needs
@@ -21,7 +33,7 @@ reference-length-requires c κs = search needs
 
 returns-2 : tie.Need-returns-2
 unfolding lengthsOf only
-returns-2 c = rw (← c .before .before .before .before .bytes .ensures, eq-eqb _ _ (c .before .before .before .if1 .left), ← c .before .before .uses-forward .ensures, ← c .before .reference-length .ensures, ne-eqb _ _ (c .if2 .taken))
+returns-2 c = rw (output (c .before .before .before), ← c .before .before .uses-forward .ensures, ← c .before .reference-length .ensures, ne-eqb _ _ (c .if2 .taken))
 
 uses-backward-requires : tie.Need-uses-backward-requires
 uses-backward-requires c κs = search needs
@@ -31,11 +43,11 @@ reference-length-requires-2 c κs = search needs
 
 returns-3 : tie.Need-returns-3
 unfolding lengthsOf only
-returns-3 c = rw (← c .before .before .before .before .before .before .before .bytes .ensures, eq-eqb _ _ (c .before .before .before .before .before .before .if1 .left), ← c .before .before .before .before .before .uses-forward .ensures, ← c .before .before .before .before .reference-length .ensures, eq-eqb _ _ (c .before .before .before .if2 .left), ← c .before .before .uses-backward .ensures, ← c .before .reference-length2 .ensures, ne-eqb _ _ (c .if3 .taken))
+returns-3 c = rw (output (c .before .before .before .before .before .before), forward (c .before .before .before), ← c .before .before .uses-backward .ensures, ← c .before .reference-length2 .ensures, ne-eqb _ _ (c .if3 .taken))
 
 returns-4 : tie.Need-returns-4
 unfolding lengthsOf only
-returns-4 c = rw (← c .before .before .before .before .before .before .before .bytes .ensures, eq-eqb _ _ (c .before .before .before .before .before .before .if1 .left), ← c .before .before .before .before .before .uses-forward .ensures, ← c .before .before .before .before .reference-length .ensures, eq-eqb _ _ (c .before .before .before .if2 .left), ← c .before .before .uses-backward .ensures, ← c .before .reference-length2 .ensures, eq-eqb _ _ (c .if3 .left))
+returns-4 c = rw (output (c .before .before .before .before .before .before), forward (c .before .before .before), ← c .before .before .uses-backward .ensures, ← c .before .reference-length2 .ensures, eq-eqb _ _ (c .if3 .left))
 
 pub lent-lengths-spec : {M : Type 1} → statement M
 lent-lengths-spec =

@@ -1,32 +1,43 @@
 -- `picture_header::opening::first_header` meets its contract: each way rewrites with the tests that led there, and a record that is found lies within the file. Assumes nothing.
 use Prim.Native.Nat.{_+_, _≤_}
 use mathlib.Core.Bool.{true}
-use mathlib.Core.Path.{_≡_, sym, _∙_, subst}
+use mathlib.Core.Path.{_≡_}
 use native.Mathlib.Nat.{add-sub-cancel-left}
 use native.Mathlib.Omega.{arith}
 use borrow.Author.Needs.{needs}
 use borrow.Author.Tests.{le-leb, lt-leb, eq-eqb, ne-eqb, not-true, not-false}
 use lib.Dec.{leb, eqb}
 use lib.ListN.{length, getD}
-use Rattle.format3.proofs.Laws.Record.{Inside, inside}
+use Rattle.format3.proofs.Laws.Record.{inside}
+use Rattle.format3.specs.declared.record.Record.the-variants.{Found}
+use Rattle.format3.specs.declared.turn.Turn.the-variants.{Start}
 use Rattle.format3.specs.Chain.{only}
+use Rattle.format3.specs.Record.{recordOf}
+use Rattle.format3.specs.Turn.{inTurn}
 use Rattle.picture_header.specs.Opening.{version, firstHeader}
 use Rattle.picture_header.proofs.opening.first_header.Statement.{statement}
 use Rattle.picture_header.proofs.opening.first_header.Tie as tie
 
 -- the tests that were passed before a record is looked for
-abbrev some : (c : tie.Else3) → leb 1 (length (c .before .before .before .before .before .args .file .now)) ≡ true
+some : (c : tie.Else3) → leb 1 (length (c .before .before .before .before .before .args .file .now)) ≡ true
 some c = le-leb _ _ (c .before .before .before .if1 .left)
 
-abbrev versioned : (c : tie.Else3) → eqb (getD (c .before .before .before .before .before .args .file .now) 0 0) version ≡ true
+versioned : (c : tie.Else3) → eqb (getD (c .before .before .before .before .before .args .file .now) 0 0) version ≡ true
 versioned c = eq-eqb _ _ (c .before .if2 .left)
 
-abbrev more : (c : tie.Else3) → leb 2 (length (c .before .before .before .before .before .args .file .now)) ≡ true
+more : (c : tie.Else3) → leb 2 (length (c .before .before .before .before .before .args .file .now)) ≡ true
 more c = le-leb _ _ (c .if3 .left)
 
--- the header's record lies within the file
-abbrev within : (c : tie.After-kind) → c .kind .given .0 .1 .0 + c .kind .given .0 .1 .1 .0 ≤ length (c .before .before .before .before .before .before .before .before .args .file .now)
-within c = subst (Inside (c .before .before .before .before .before .before .before .before .args .file .now)) (sym (c .before .before .record-at .ensures) ∙ c .kind .given .1) (inside (c .before .before .before .before .before .before .before .before .args .file .now) 1) .fits
+-- the record that was found, which comes in turn
+found : (c : tie.After-kind) → recordOf (c .before .before .before .before .before .before .before .before .args .file .now) 1 ≡ Found (c .kind .given .0 .0) (c .kind .given .0 .1 .0) (c .kind .given .0 .1 .1 .0)
+found c = cc
+
+turned : (c : tie.Else4) → inTurn Start (c .before .before .before .kind .given .0 .0) ≡ true
+turned c = cc (not-false (c .before .in-turn .result) (c .if4 .left))
+
+-- it lies within the file
+within : (c : tie.After-kind) → c .kind .given .0 .1 .0 + c .kind .given .0 .1 .1 .0 ≤ length (c .before .before .before .before .before .before .before .before .args .file .now)
+within c = rw (found c) at (inside (c .before .before .before .before .before .before .before .before .args .file .now) 1 .fits)
 
 returns : tie.Need-returns
 unfolding firstHeader only
@@ -59,7 +70,7 @@ returns-4 : tie.Need-returns-4
 unfolding firstHeader only
 returns-4 c =
     let t = c .before .before .before .before .before .before in
-    rw (some t, versioned t, more t, ← c .before .before .before .before .before .record-at .ensures, c .before .before .before .kind .given .1, ← c .before .in-turn .ensures, not-true (c .before .in-turn .result) (c .if4 .taken))
+    rw (some t, versioned t, more t, found (c .before .before .before), ← c .before .in-turn .ensures, not-true (c .before .in-turn .result) (c .if4 .taken))
 
 add-end : tie.Need-add-end
 add-end c = let w = within (c .before .before .before) in omega arith
@@ -92,13 +103,13 @@ returns-6 : tie.Need-returns-6
 unfolding firstHeader only
 returns-6 c =
     let t = c .before .before .before .before .before .before .before .before .before .before .before in
-    rw (some t, versioned t, more t, ← c .before .before .before .before .before .before .before .before .before .before .record-at .ensures, c .before .before .before .before .before .before .before .before .kind .given .1, ← c .before .before .before .before .before .before .in-turn .ensures, not-false (c .before .before .before .before .before .before .in-turn .result) (c .before .before .before .before .before .if4 .left), ← rw add-sub-cancel-left at (c .before .before .before .read-header .ensures), c .before .refusal2 .given .1)
+    rw (some t, versioned t, more t, found (c .before .before .before .before .before .before .before .before), turned (c .before .before .before .before .before), ← rw add-sub-cancel-left at (c .before .before .before .read-header .ensures), c .before .refusal2 .given .1)
 
 returns-7 : tie.Need-returns-7
 unfolding firstHeader only
 returns-7 c =
     let t = c .before .before .before .before .before .before .before .before .before .before .before in
-    rw (some t, versioned t, more t, ← c .before .before .before .before .before .before .before .before .before .before .record-at .ensures, c .before .before .before .before .before .before .before .before .kind .given .1, ← c .before .before .before .before .before .before .in-turn .ensures, not-false (c .before .before .before .before .before .before .in-turn .result) (c .before .before .before .before .before .if4 .left), ← rw add-sub-cancel-left at (c .before .before .before .read-header .ensures), c .before .header .given .1)
+    rw (some t, versioned t, more t, found (c .before .before .before .before .before .before .before .before), turned (c .before .before .before .before .before), ← rw add-sub-cancel-left at (c .before .before .before .read-header .ensures), c .before .header .given .1)
 
 pub first-header-spec : {M : Type 1} → statement M
 first-header-spec =

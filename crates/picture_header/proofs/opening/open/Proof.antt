@@ -1,10 +1,15 @@
 -- `picture_header::opening::open` meets its contract: each way rewrites with the answers that led there. Assumes nothing.
-use mathlib.Core.Path.{sym, _∙_}
+use mathlib.Core.Path.{_≡_}
 use borrow.Author.Needs.{needs}
 use Rattle.picture_header.proofs.Laws.Opening.{begun}
-use Rattle.picture_header.specs.Opening.{openedOf}
+use Rattle.picture_header.specs.declared.opening.Opened.the-variants.{Opened}
+use Rattle.picture_header.specs.Opening.{firstHeader, openedOf}
 use Rattle.picture_header.proofs.opening.open.Statement.{statement}
 use Rattle.picture_header.proofs.opening.open.Tie as tie
+
+-- the file starts with a legal header
+opened : (c : tie.After-known-told2) → firstHeader (c .before .before .before .before .before .args .file .now) ≡ Opened (c .before .header .given .0 .0) (c .before .header .given .0 .1 .0)
+opened c = cc
 
 first-header-requires : tie.Need-first-header-requires
 first-header-requires c κs = search needs
@@ -16,7 +21,7 @@ enum-known-header : tie.Need-enum-known-header
 enum-known-header c = search needs
 
 lent-lengths-requires : tie.Need-lent-lengths-requires
-lent-lengths-requires c κs = begun _ (sym (c .before .before .before .first-header .ensures) ∙ c .before .header .given .1) .header .size
+lent-lengths-requires c κs = begun _ (opened c) .header .size
 
 enum-known-lengths : tie.Need-enum-known-lengths
 enum-known-lengths c = search needs
@@ -30,11 +35,11 @@ returns c = rw (← c .before .before .before .first-header .ensures, c .before 
 
 returns-2 : tie.Need-returns-2
 unfolding openedOf
-returns-2 c = rw (← c .before .before .before .before .before .before .before .first-header .ensures, c .before .before .before .before .before .header .given .1, ← c .before .before .before .lent-lengths .ensures, c .before .lengths .given .1)
+returns-2 c = rw (opened (c .before .before .before .before), ← c .before .before .before .lent-lengths .ensures, c .before .lengths .given .1)
 
 returns-3 : tie.Need-returns-3
 unfolding openedOf
-returns-3 c = rw (← c .before .before .before .before .before .before .first-header .ensures, c .before .before .before .before .header .given .1, ← c .before .before .lent-lengths .ensures, c .enum-told .given .1)
+returns-3 c = rw (opened (c .before .before .before), ← c .before .before .lent-lengths .ensures, c .enum-told .given .1)
 
 pub open-spec : {M : Type 1} → statement M
 open-spec =

@@ -1,11 +1,21 @@
 -- `PictureSize::new` meets its contract: its tests are those of `legalSize`, in the same order. Assumes nothing.
+use mathlib.Core.Bool.{true, _&&_}
+use mathlib.Core.Path.{_≡_}
 use native.Mathlib.Omega.{arith}
 use native.Mathlib.Nat.{mul-le-mul}
+use lib.Dec.{leb}
 use borrow.Author.Tests.{le-leb, lt-leb}
 use Rattle.format3.specs.Chain.{only}
 use Rattle.picture_header.specs.Size.{legalSize, sizeOf}
 use Rattle.picture_header.proofs.size.PictureSize.new.Statement.{statement}
 use Rattle.picture_header.proofs.size.PictureSize.new.Tie as tie
+
+-- the tests of each side that were passed
+wide : (c : tie.Else2) → leb 1 (c .before .before .args .width) && leb (c .before .before .args .width) 48 ≡ true
+wide c = rw (le-leb _ _ (c .before .if1 .left), le-leb _ _ (c .if2 .left))
+
+high : (c : tie.Else4) → leb 1 (c .before .before .before .before .args .width) && leb (c .before .before .before .before .args .width) 48 && leb 1 (c .before .before .before .before .args .height) && leb (c .before .before .before .before .args .height) 36 ≡ true
+high c = rw (wide (c .before .before), le-leb _ _ (c .before .if3 .left), le-leb _ _ (c .if4 .left))
 
 returns : tie.Need-returns
 unfolding sizeOf legalSize only
@@ -17,27 +27,22 @@ returns-2 c = rw (le-leb _ _ (c .before .if1 .left), lt-leb _ _ (c .if2 .taken))
 
 returns-3 : tie.Need-returns-3
 unfolding sizeOf legalSize only
-returns-3 c = rw (le-leb _ _ (c .before .before .if1 .left), le-leb _ _ (c .before .if2 .left), lt-leb _ _ (c .if3 .taken))
+returns-3 c = rw (wide (c .before), lt-leb _ _ (c .if3 .taken))
 
 returns-4 : tie.Need-returns-4
 unfolding sizeOf legalSize only
-returns-4 c =
-    rw (le-leb _ _ (c .before .before .before .if1 .left), le-leb _ _ (c .before .before .if2 .left), le-leb _ _ (c .before .if3 .left), lt-leb _ _ (c .if4 .taken))
+returns-4 c = rw (wide (c .before .before), le-leb _ _ (c .before .if3 .left), lt-leb _ _ (c .if4 .taken))
 
 mul-if5 : tie.Need-mul-if5
 mul-if5 c = omega (arith, mul-le-mul (c .before .before .if2 .left) (c .if4 .left))
 
 returns-5 : tie.Need-returns-5
 unfolding sizeOf legalSize only
-returns-5 c =
-    let d = c .before in
-    rw (le-leb _ _ (d .before .before .before .if1 .left), le-leb _ _ (d .before .before .if2 .left), le-leb _ _ (d .before .if3 .left), le-leb _ _ (d .if4 .left), lt-leb _ _ (c .if5 .taken))
+returns-5 c = rw (high (c .before), lt-leb _ _ (c .if5 .taken))
 
 returns-6 : tie.Need-returns-6
 unfolding sizeOf legalSize only
-returns-6 c =
-    let d = c .before in
-    rw (le-leb _ _ (d .before .before .before .if1 .left), le-leb _ _ (d .before .before .if2 .left), le-leb _ _ (d .before .if3 .left), le-leb _ _ (d .if4 .left), le-leb _ _ (c .if5 .left))
+returns-6 c = rw (high (c .before), le-leb _ _ (c .if5 .left))
 
 pub new-spec : {M : Type 1} → statement M
 new-spec = tie.close (tie.spec returns returns-2 returns-3 returns-4 mul-if5 returns-5 returns-6)
