@@ -11,10 +11,10 @@ use Rattle.symbols.proofs.macroblock_head.legal_increment.Statement.{st
 use Rattle.symbols.proofs.macroblock_head.legal_increment.Tie as tie
 
 -- the tests that were passed before it is asked whether it must follow
-abbrev some : (c : tie.Else3) → leb 1 (c .before .before .before .args .increment) ≡ true
+some : (c : tie.Else3) → leb 1 (c .before .before .before .args .increment) ≡ true
 some c = le-leb _ _ (c .before .before .if1 .left)
 
-abbrev fits : (c : tie.Else3) → leb (c .before .before .before .args .context .next + c .before .before .before .args .increment) (c .before .before .before .args .context .macroblocks) ≡ true
+fits : (c : tie.Else3) → leb (c .before .before .before .args .context .next + c .before .before .before .args .increment) (c .before .before .before .args .context .macroblocks) ≡ true
 fits c = address-fits _ _ _ (c .before .if2 .left) (c .if3 .left)
 
 returns : tie.Need-returns

@@ -10,7 +10,7 @@ use Rattle.symbols.proofs.macroblock_head.read_head.Statement.{statemen
 use Rattle.symbols.proofs.macroblock_head.read_head.Tie as tie
 
 -- the type that was read
-abbrev typed : (c : tie.After-legal-type) → byteOf (c .before .before .before .before .before .before .args .body .now) ≡ Value (c .before .before .flags .given .0 .0) (c .before .before .flags .given .0 .1 .0)
+typed : (c : tie.After-legal-type) → byteOf (c .before .before .before .before .before .before .args .body .now) ≡ Value (c .before .before .flags .given .0 .0) (c .before .before .flags .given .0 .1 .0)
 typed c = cc
 
 read-u8-requires : tie.Need-read-u8-requires

@@ -10,7 +10,7 @@ use Rattle.symbols.proofs.macroblock_head.read_increment.Statement.{sta
 use Rattle.symbols.proofs.macroblock_head.read_increment.Tie as tie
 
 -- the increment that was read
-abbrev stepped : (c : tie.After-legal-increment) → wordOf (c .before .before .before .before .before .before .args .rest .now) ≡ Value (c .before .before .increment .given .0 .0) (c .before .before .increment .given .0 .1 .0)
+stepped : (c : tie.After-legal-increment) → wordOf (c .before .before .before .before .before .before .args .rest .now) ≡ Value (c .before .before .increment .given .0 .0) (c .before .before .increment .given .0 .1 .0)
 stepped c = cc
 
 read-u16-requires : tie.Need-read-u16-requires

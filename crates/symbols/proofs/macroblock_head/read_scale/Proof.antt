@@ -11,10 +11,10 @@ use Rattle.symbols.proofs.macroblock_head.read_scale.Statement.{stateme
 use Rattle.symbols.proofs.macroblock_head.read_scale.Tie as tie
 
 -- what the returns know of the test and the read before them
-abbrev given : (c : tie.Else1) → givesScale (c .before .before .before .args .head .flags) ≡ true
+given : (c : tie.Else1) → givesScale (c .before .before .before .args .head .flags) ≡ true
 given c = sym (c .before .gives-scale .ensures) ∙ not-false (c .before .gives-scale .result) (c .if1 .left)
 
-abbrev scaled : (c : tie.After-legal-scale) → byteOf (c .before .before .before .before .before .before .before .before .args .rest .now) ≡ Value (c .before .before .scale .given .0 .0) (c .before .before .scale .given .0 .1 .0)
+scaled : (c : tie.After-legal-scale) → byteOf (c .before .before .before .before .before .before .before .before .args .rest .now) ≡ Value (c .before .before .scale .given .0 .0) (c .before .before .scale .given .0 .1 .0)
 scaled c = cc
 
 gives-scale-requires : tie.Need-gives-scale-requires

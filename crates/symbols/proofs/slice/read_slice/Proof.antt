@@ -19,16 +19,16 @@ abbrev body : tie.After-legal-scale → List ℕ
 body c = c .before .before .before .before .before .before .before .args .body .now
 
 -- what each return knows of the tests before it
-abbrev long : (c : tie.After-legal-scale) → eqb (length (body c)) 3 ≡ true
+long : (c : tie.After-legal-scale) → eqb (length (body c)) 3 ≡ true
 long c = eq-eqb _ _ (c .before .before .before .before .before .if1 .left)
 
-abbrev scaled : (c : tie.After-legal-scale) → byteOf (body c) ≡ Byte.Value (c .before .before .scale .given .0 .0) (c .before .before .scale .given .0 .1 .0)
+scaled : (c : tie.After-legal-scale) → byteOf (body c) ≡ Byte.Value (c .before .before .scale .given .0 .0) (c .before .before .scale .given .0 .1 .0)
 scaled c = cc
 
-abbrev legal : (c : tie.Else2) → legalScale (c .before .before .before .scale .given .0 .0) ≡ true
+legal : (c : tie.Else2) → legalScale (c .before .before .before .scale .given .0 .0) ≡ true
 legal c = sym (c .before .legal-scale .ensures) ∙ not-false (c .before .legal-scale .result) (c .if2 .left)
 
-abbrev started : (c : tie.After-start) → wordOf (drop (c .before .before .before .before .before .before .before .scale .given .0 .1 .0 .at) (body (c .before .before .before .before .before))) ≡ Word.Value (c .start .given .0 .0) (c .start .given .0 .1 .0)
+started : (c : tie.After-start) → wordOf (drop (c .before .before .before .before .before .before .before .scale .given .0 .1 .0 .at) (body (c .before .before .before .before .before))) ≡ Word.Value (c .start .given .0 .0) (c .start .given .0 .1 .0)
 started c = cc
 
 returns : tie.Need-returns

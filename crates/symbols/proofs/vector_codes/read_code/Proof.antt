@@ -33,13 +33,13 @@ residual-test c t =
     sym (c .residual-in-range .ensures ∙ ap (λ (z : ℤ). residualInRange (told c .before .before .before .before .before .args .f) z (c .before .before .residual .given .0 .0)) (kept w32 (code (told c)) tt .is)) ∙ t
 
 -- what the returns know of the reads and the test before them
-abbrev coded : (c : tie.After-code-in-range) → signedByteOf (c .before .before .before .before .before .before .args .rest .now) ≡ Signed.Value (c .before .before .code .given .0 .0) (c .before .before .code .given .0 .1 .0)
+coded : (c : tie.After-code-in-range) → signedByteOf (c .before .before .before .before .before .before .args .rest .now) ≡ Signed.Value (c .before .before .code .given .0 .0) (c .before .before .code .given .0 .1 .0)
 coded c = cc
 
-abbrev legal : (c : tie.Else1) → codeInRange (c .before .before .before .code .given .0 .0) ≡ true
+legal : (c : tie.Else1) → codeInRange (c .before .before .before .code .given .0 .0) ≡ true
 legal c = code-test (c .before) (not-false (c .before .code-in-range .result) (c .if1 .left))
 
-abbrev left : (c : tie.After-residual) → byteOf (drop (c .before .before .before .before .before .before .before .code .given .0 .1 .0 .at) (c .before .before .before .before .before .before .before .before .before .before .before .args .rest .now)) ≡ Byte.Value (c .residual .given .0 .0) (c .residual .given .0 .1 .0)
+left : (c : tie.After-residual) → byteOf (drop (c .before .before .before .before .before .before .before .code .given .0 .1 .0 .at) (c .before .before .before .before .before .before .before .before .before .before .before .args .rest .now)) ≡ Byte.Value (c .residual .given .0 .0) (c .residual .given .0 .1 .0)
 left c = cc
 
 read-i8-requires : tie.Need-read-i8-requires
