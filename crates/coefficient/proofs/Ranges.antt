@@ -5,13 +5,19 @@ use mathlib.Core.Path.{_≡_, refl, sym, ap, _∙_, subst}
 use lib.Dec.{T, ltb, lit≤}
 use lib.IntN.{ℤ, pos, negsuc, _*ℤ_, zero-*ℤ}
 use lib.Signed.{quotZ}
+use mir.Syntax.{w32}
+use mir.Val.{SFits}
 use Rattle.coefficient.specs.Answer.{legal}
 use Rattle.coefficient.specs.Scaling.{quotientOver, movedToOdd, limitedCoefficient, scaled, doubledLevel, coefficientOf}
 use Rattle.integers.proofs.Bound.{within-add, within-mul, within-literal, within-self, within-more}
 use Rattle.integers.proofs.Limit.{range-between, sign-within, limited-within, between-within}
-use Rattle.integers.proofs.Machine.{number, _⊠_, over}
+use Rattle.integers.proofs.Machine.{Held, number, parameter, _⊠_, over}
 use Rattle.integers.specs.Bound.{Within}
 use Rattle.integers.specs.Limit.{inRange}
+
+-- a number of any size that the machine holds
+abbrev pub held : {z : ℤ} → SFits w32 z → Held z
+held {z} f = parameter f (within-self z)
 
 -- a coefficient is in the transform's range, whatever the level, scale and weight
 pub scaled-within : (doubled scale weight : ℤ) → Within 2048 (scaled doubled scale weight)

@@ -2,19 +2,13 @@
 use mathlib.Core.Bool.{Bool}
 use mathlib.Core.Path.{_≡_, sym, _∙_}
 use borrow.Author.Needs.{needs}
-use lib.IntN.{ℤ}
-use mir.Syntax.{w16, w32}
-use mir.Val.{SFits}
-use Rattle.coefficient.proofs.Ranges.{Ranges, legal-ranges}
+use mir.Syntax.{w16}
+use Rattle.coefficient.proofs.Ranges.{held, Ranges, legal-ranges}
 use Rattle.coefficient.specs.Answer.{legal}
 use Rattle.coefficient.specs.Scaling.{coefficientOf}
-use Rattle.integers.proofs.Bound.{within-self}
-use Rattle.integers.proofs.Machine.{Held, parameter, bound, returned}
+use Rattle.integers.proofs.Machine.{parameter, bound, returned}
 use Rattle.coefficient.proofs.coefficient.Statement.{statement}
 use Rattle.coefficient.proofs.coefficient.Tie as tie
-
-abbrev held : {z : ℤ} → SFits w32 z → Held z
-held {z} f = parameter f (within-self z)
 
 test : (c : tie.After-in-ranges) {b : Bool} → c .in-ranges .result ≡ b → legal (c .before .args .level) (c .before .args .scale) (c .before .args .weight) ≡ b
 test c t =

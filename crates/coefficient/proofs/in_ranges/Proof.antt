@@ -2,18 +2,12 @@
 use mathlib.Core.Bool.{Bool}
 use mathlib.Core.Path.{_≡_, sym, ap, _∙_}
 use borrow.Author.Needs.{needs}
-use lib.IntN.{ℤ, pos, negsuc}
-use mir.Syntax.{w32}
-use mir.Val.{SFits}
+use lib.IntN.{pos, negsuc}
+use Rattle.coefficient.proofs.Ranges.{held}
 use Rattle.coefficient.specs.Answer.{legal}
-use Rattle.integers.proofs.Bound.{within-self}
-use Rattle.integers.proofs.Machine.{Held, parameter}
 use Rattle.integers.specs.Limit.{inRange}
 use Rattle.coefficient.proofs.in_ranges.Statement.{statement}
 use Rattle.coefficient.proofs.in_ranges.Tie as tie
-
-abbrev held : {z : ℤ} → SFits w32 z → Held z
-held {z} f = parameter f (within-self z)
 
 level-test : (c : tie.After-in-range) {b : Bool} → c .in-range .result ≡ b → inRange (negsuc 254) (pos 255) (c .before .args .level) ≡ b
 level-test c t = sym (c .in-range .ensures ∙ ap (inRange (negsuc 254) (pos 255)) (held (c .before .fits .level) .is)) ∙ t
