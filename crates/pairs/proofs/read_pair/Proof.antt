@@ -1,12 +1,18 @@
 -- `read_pair` meets its contract: its tests are those of `pairOf`, in the same order. Assumes nothing.
 use borrow.Author.Needs.{needs}
 use borrow.Author.Tests.{le-leb, lt-leb, not-true, not-false}
-use mathlib.Core.Bool.{Bool}
+use mathlib.Core.Bool.{Bool, true}
 use mathlib.Core.Path.{_≡_, sym, ap, _∙_}
+use Prim.Native.Nat.{_+_}
+use lib.Dec.{leb}
+use lib.ListN.{drop}
 use mir.Syntax.{w16}
 use mir.Val.{toZ, ofZ}
 use mir.ValLaws.{toZ-ofZ}
+use Rattle.format3.specs.declared.field.ByteField.the-variants as Byte
+use Rattle.format3.specs.declared.field.SignedField.the-variants as Signed
 use Rattle.format3.specs.Chain.{only}
+use Rattle.format3.specs.Field.{byteOf, signedWordOf}
 use Rattle.pairs.specs.Pairs.{legalLevel, pairOf}
 use Rattle.pairs.proofs.read_pair.Statement.{statement}
 use Rattle.pairs.proofs.read_pair.Tie as tie
@@ -16,6 +22,16 @@ same c = toZ-ofZ w16 (c .before .level .given .0 .0) (record { sfits = c .known-
 
 level-test : (c : tie.After-legal-level) {b : Bool} → c .legal-level .result ≡ b → legalLevel (c .before .before .level .given .0 .0) ≡ b
 level-test c t = sym (c .legal-level .ensures ∙ ap legalLevel (same (c .before))) ∙ t
+
+-- what the returns know of the reads and the test before them
+ran : (c : tie.After-run) → byteOf (c .before .before .before .before .args .rest .now) ≡ Byte.Value (c .run .given .0 .0) (c .run .given .0 .1 .0)
+ran c = cc
+
+near : (c : tie.Else1) → leb (c .before .before .before .before .before .before .args .next + c .before .before .run .given .0 .0) 63 ≡ true
+near c = le-leb _ _ (c .if1 .left)
+
+left : (c : tie.After-level) → signedWordOf (drop (c .before .before .before .before .before .before .run .given .0 .1 .0 .at) (c .before .before .before .before .before .before .before .before .before .before .args .rest .now)) ≡ Signed.Value (c .level .given .0 .0) (c .level .given .0 .1 .0)
+left c = cc
 
 read-u8-requires : tie.Need-read-u8-requires
 read-u8-requires c κs = search needs
@@ -38,9 +54,7 @@ add-position c = search needs
 
 returns-2 : tie.Need-returns-2
 unfolding pairOf only
-returns-2 c =
-    let at-run = c .before .before in
-    rw (← at-run .before .before .read-u8 .ensures, at-run .run .given .1, lt-leb _ _ (c .if1 .taken))
+returns-2 c = rw (ran (c .before .before), lt-leb _ _ (c .if1 .taken))
 
 after-requires : tie.Need-after-requires
 after-requires c κs = search needs
@@ -57,11 +71,8 @@ enum-told-2 c = search needs
 returns-3 : tie.Need-returns-3
 unfolding pairOf only
 returns-3 c =
-    let at-read-i16 = c .before .before in
-    let at-after = at-read-i16 .before in
-    let at-if1 = at-after .before in
-    let at-run = at-if1 .before .before in
-    rw (← at-run .before .before .read-u8 .ensures, at-run .run .given .1, le-leb _ _ (at-if1 .if1 .left), ← at-after .after .ensures, ← at-read-i16 .read-i16 .ensures, c .enum-told2 .given .1)
+    let t = c .before .before .before .before in
+    rw (ran (t .before .before), near t, ← c .before .before .before .after .ensures, ← c .before .before .read-i16 .ensures, c .enum-told2 .given .1)
 
 legal-level-requires : tie.Need-legal-level-requires
 legal-level-requires c κs = search needs
@@ -69,22 +80,14 @@ legal-level-requires c κs = search needs
 returns-4 : tie.Need-returns-4
 unfolding pairOf only
 returns-4 c =
-    let at-level = c .before .before .before in
-    let at-read-i16 = at-level .before .before in
-    let at-after = at-read-i16 .before in
-    let at-if1 = at-after .before in
-    let at-run = at-if1 .before .before in
-    rw (← at-run .before .before .read-u8 .ensures, at-run .run .given .1, le-leb _ _ (at-if1 .if1 .left), ← at-after .after .ensures, ← at-read-i16 .read-i16 .ensures, at-level .level .given .1, level-test (c .before) (not-true (c .before .legal-level .result) (c .if2 .taken)))
+    let t = c .before .before .before .before .before .before .before in
+    rw (ran (t .before .before), near t, left (c .before .before .before), level-test (c .before) (not-true (c .before .legal-level .result) (c .if2 .taken)))
 
 returns-5 : tie.Need-returns-5
 unfolding pairOf only
 returns-5 c =
-    let at-level = c .before .before .before in
-    let at-read-i16 = at-level .before .before in
-    let at-after = at-read-i16 .before in
-    let at-if1 = at-after .before in
-    let at-run = at-if1 .before .before in
-    rw (same (c .before .before), ← at-run .before .before .read-u8 .ensures, at-run .run .given .1, le-leb _ _ (at-if1 .if1 .left), ← at-after .after .ensures, ← at-read-i16 .read-i16 .ensures, at-level .level .given .1, level-test (c .before) (not-false (c .before .legal-level .result) (c .if2 .left)))
+    let t = c .before .before .before .before .before .before .before in
+    rw (same (c .before .before), ran (t .before .before), near t, left (c .before .before .before), level-test (c .before) (not-false (c .before .legal-level .result) (c .if2 .left)))
 
 pub read-pair-spec : {M : Type 1} → statement M
 read-pair-spec =
