@@ -1,11 +1,16 @@
 -- `read_block` meets its contract: its tests are those of `blockOf`, in the same order. Assumes nothing.
 use borrow.Author.Tests.{not-true, not-false}
-use mathlib.Core.Path.{refl}
+use mathlib.Core.Bool.{true}
+use mathlib.Core.Path.{_≡_, refl}
 use Rattle.format3.specs.Chain.{only}
-use Rattle.blocks.specs.Blocks.{blockOf}
+use Rattle.blocks.specs.Blocks.{isCoded, blockOf}
 use borrow.Author.Needs.{needs}
 use Rattle.blocks.proofs.read_block.Statement.{statement}
 use Rattle.blocks.proofs.read_block.Tie as tie
+
+-- a block that is read is coded
+coded : (c : tie.Else1) → isCoded (c .before .before .before .args .coding .pattern) (c .before .before .before .args .block) ≡ true
+coded c = cc (not-false (c .before .is-coded .result) (c .if1 .left))
 
 is-coded-requires : tie.Need-is-coded-requires
 is-coded-requires c κs = search needs
@@ -20,10 +25,8 @@ read-intra-block-requires c κs = search needs
 returns-2 : tie.Need-returns-2
 unfolding blockOf only
 returns-2 c =
-    let at-if2 = c .before .before in
-    let at-if1 = at-if2 .before in
-    rw (← at-if1 .before .is-coded .ensures, not-false (at-if1 .before .is-coded .result) (at-if1 .if1 .left), at-if2 .if2 .taken)
-    (rw (at-if2 .if2 .taken) at (c .read-intra-block .ensures .0), rw (at-if2 .if2 .taken) at (c .read-intra-block .ensures .1))
+    let e = c .before .before .if2 .taken in
+    rw (coded (c .before .before .before), e) (rw e at (c .read-intra-block .ensures .0), rw e at (c .read-intra-block .ensures .1))
 
 read-inter-block-requires : tie.Need-read-inter-block-requires
 read-inter-block-requires c κs = search needs
@@ -31,10 +34,8 @@ read-inter-block-requires c κs = search needs
 returns-3 : tie.Need-returns-3
 unfolding blockOf only
 returns-3 c =
-    let at-if2 = c .before .before in
-    let at-if1 = at-if2 .before in
-    rw (← at-if1 .before .is-coded .ensures, not-false (at-if1 .before .is-coded .result) (at-if1 .if1 .left), at-if2 .if2 .left)
-    (rw (at-if2 .if2 .left) at (c .read-inter-block .ensures .0), rw (at-if2 .if2 .left) at (c .read-inter-block .ensures .1))
+    let e = c .before .before .if2 .left in
+    rw (coded (c .before .before .before), e) (rw e at (c .read-inter-block .ensures .0), rw e at (c .read-inter-block .ensures .1))
 
 pub read-block-spec : {M : Type 1} → statement M
 read-block-spec =

@@ -1,12 +1,14 @@
 -- `read_dc` meets its contract: its tests are those of `dcOf`, in the same order. Assumes nothing.
 use borrow.Author.Tests.{not-true, not-false}
-use mathlib.Core.Bool.{Bool}
+use mathlib.Core.Bool.{Bool, true}
 use mathlib.Core.Path.{_≡_, refl, sym, ap, _∙_}
 use mir.Syntax.{w16}
 use mir.Val.{toZ, ofZ}
 use mir.ValLaws.{toZ-ofZ}
 use Rattle.integers.proofs.Machine.{returned}
+use Rattle.format3.specs.declared.field.SignedField.the-variants.{Value}
 use Rattle.format3.specs.Chain.{only}
+use Rattle.format3.specs.Field.{signedWordOf}
 use Rattle.integers.proofs.Bound.{within-eq}
 use Rattle.coefficient.specs.Scaling.{intraDc}
 use Rattle.blocks.specs.declared.DcAnswer.the-variants as Dc
@@ -36,6 +38,13 @@ same-dc c =
 dc-test : (c : tie.After-legal-dc) {b : Bool} → c .legal-dc .result ≡ b → let told = c .before .before .before .before in legalDc (intraDc (start told .args .past) (told .before .difference .given .0 .0)) ≡ b
 dc-test c t = sym (c .legal-dc .ensures ∙ ap legalDc (same-dc (c .before))) ∙ t
 
+-- what the returns know of the difference
+differs : (c : tie.After-legal-difference) → signedWordOf (c .before .before .before .before .before .before .args .rest .now) ≡ Value (c .before .before .difference .given .0 .0) (c .before .before .difference .given .0 .1 .0)
+differs c = cc
+
+legal : (c : tie.Else1) → legalDifference (c .before .before .before .difference .given .0 .0) ≡ true
+legal c = difference-test (c .before) (not-false (c .before .legal-difference .result) (c .if1 .left))
+
 read-i16-requires : tie.Need-read-i16-requires
 read-i16-requires c κs = search needs
 
@@ -54,31 +63,23 @@ legal-difference-requires c κs = search needs
 
 returns-2 : tie.Need-returns-2
 unfolding dcOf only
-returns-2 c =
-    let at-difference = c .before .before .before in
-    rw (← at-difference .before .before .read-i16 .ensures, at-difference .difference .given .1, difference-test (c .before) (not-true (c .before .legal-difference .result) (c .if1 .taken)))
+returns-2 c = rw (differs (c .before), difference-test (c .before) (not-true (c .before .legal-difference .result) (c .if1 .taken)))
 
 intra-dc-requires : tie.Need-intra-dc-requires
 intra-dc-requires c κs =
-    let legal = difference-test (c .before) (not-false (c .before .legal-difference .result) (c .if1 .left)) in
-    (within-eq (same-past (start (c .before .before))) (dc-within _ (start (c .before .before) .pre)), within-eq (same-difference (c .before .before)) (difference-within _ legal))
+    let start = start (c .before .before) in
+    (within-eq (same-past start) (dc-within _ (start .pre)), within-eq (same-difference (c .before .before)) (difference-within _ (legal c)))
 
 legal-dc-requires : tie.Need-legal-dc-requires
 legal-dc-requires c κs = search needs
 
 returns-3 : tie.Need-returns-3
 unfolding dcOf only
-returns-3 c =
-    let at-if1 = c .before .before .before in
-    let at-difference = at-if1 .before .before .before in
-    rw (← at-difference .before .before .read-i16 .ensures, at-difference .difference .given .1, difference-test (at-if1 .before) (not-false (at-if1 .before .legal-difference .result) (at-if1 .if1 .left)), dc-test (c .before) (not-true (c .before .legal-dc .result) (c .if2 .taken)))
+returns-3 c = rw (differs (c .before .before .before .before), legal (c .before .before .before), dc-test (c .before) (not-true (c .before .legal-dc .result) (c .if2 .taken)))
 
 returns-4 : tie.Need-returns-4
 unfolding dcOf only
-returns-4 c =
-    let at-if1 = c .before .before .before in
-    let at-difference = at-if1 .before .before .before in
-    rw (← at-difference .before .before .read-i16 .ensures, at-difference .difference .given .1, difference-test (at-if1 .before) (not-false (at-if1 .before .legal-difference .result) (at-if1 .if1 .left)), dc-test (c .before) (not-false (c .before .legal-dc .result) (c .if2 .left))) (ap Dc.Legal (same-dc (c .before .before)))
+returns-4 c = rw (differs (c .before .before .before .before), legal (c .before .before .before), dc-test (c .before) (not-false (c .before .legal-dc .result) (c .if2 .left))) (ap Dc.Legal (same-dc (c .before .before)))
 
 pub read-dc-spec : {M : Type 1} → statement M
 read-dc-spec =

@@ -1,12 +1,22 @@
 -- `read_levels` meets its contract: its tests are those of `levelsOf`, in the same order. Assumes nothing.
 use borrow.Author.Tests.{not-true, not-false}
-use mathlib.Core.Path.{refl}
+use mathlib.Core.Bool.{true}
+use mathlib.Core.Path.{_≡_, refl}
+use Rattle.format3.specs.declared.field.ByteField.the-variants.{Value}
 use Rattle.format3.specs.Chain.{only}
-use Rattle.blocks.specs.Blocks.{levelsOf}
+use Rattle.format3.specs.Field.{byteOf}
+use Rattle.blocks.specs.Blocks.{legalCount, levelsOf}
 use Rattle.blocks.proofs.Laws.Blocks.{first-near}
 use borrow.Author.Needs.{needs}
 use Rattle.blocks.proofs.read_levels.Statement.{statement}
 use Rattle.blocks.proofs.read_levels.Tie as tie
+
+-- what the returns know of the count
+counted : (c : tie.After-legal-count) → byteOf (c .before .before .before .before .before .before .args .rest .now) ≡ Value (c .before .before .count .given .0 .0) (c .before .before .count .given .0 .1 .0)
+counted c = cc
+
+legal : (c : tie.Else1) → legalCount (c .before .before .before .before .before .before .before .args .coding .intra) (c .before .before .before .count .given .0 .0) ≡ true
+legal c = cc (not-false (c .before .legal-count .result) (c .if1 .left))
 
 read-u8-requires : tie.Need-read-u8-requires
 read-u8-requires c κs = search needs
@@ -26,9 +36,7 @@ legal-count-requires c κs = search needs
 
 returns-2 : tie.Need-returns-2
 unfolding levelsOf only
-returns-2 c =
-    let at-count = c .before .before .before in
-    rw (← at-count .before .before .read-u8 .ensures, at-count .count .given .1, ← c .before .legal-count .ensures, not-true (c .before .legal-count .result) (c .if1 .taken)) (refl, refl)
+returns-2 c = rw (counted (c .before), ← c .before .legal-count .ensures, not-true (c .before .legal-count .result) (c .if1 .taken)) (refl, refl)
 
 after-requires : tie.Need-after-requires
 after-requires c κs = search needs
@@ -51,26 +59,14 @@ enum-told-2 c = search needs
 returns-3 : tie.Need-returns-3
 unfolding levelsOf only
 returns-3 c =
-    let at-pairs = c .before .before .before in
-    let at-first = at-pairs .before .before in
-    let at-after = at-first .before in
-    let at-if1 = at-after .before in
-    let at-test = at-if1 .before in
-    let at-count = at-test .before .before in
-    rw (← at-count .before .before .read-u8 .ensures, at-count .count .given .1, ← at-test .legal-count .ensures, not-false (at-test .legal-count .result) (at-if1 .if1 .left), ← at-after .after .ensures, ← at-first .first-position .ensures)
-    (rw (← at-pairs .read-pairs .ensures .0, c .before .refusal .given .1), at-pairs .read-pairs .ensures .1)
+    let t = c .before .before .before .before .before in
+    rw (counted (t .before .before .before), legal (t .before .before), ← t .before .after .ensures, ← t .first-position .ensures) (rw (← c .before .before .before .read-pairs .ensures .0, c .before .refusal .given .1), c .before .before .before .read-pairs .ensures .1)
 
 returns-4 : tie.Need-returns-4
 unfolding levelsOf only
 returns-4 c =
-    let at-pairs = c .before .before in
-    let at-first = at-pairs .before .before in
-    let at-after = at-first .before in
-    let at-if1 = at-after .before in
-    let at-test = at-if1 .before in
-    let at-count = at-test .before .before in
-    rw (← at-count .before .before .read-u8 .ensures, at-count .count .given .1, ← at-test .legal-count .ensures, not-false (at-test .legal-count .result) (at-if1 .if1 .left), ← at-after .after .ensures, ← at-first .first-position .ensures)
-    (rw (← at-pairs .read-pairs .ensures .0, c .enum-told2 .given .1), at-pairs .read-pairs .ensures .1)
+    let t = c .before .before .before .before in
+    rw (counted (t .before .before .before), legal (t .before .before), ← t .before .after .ensures, ← t .first-position .ensures) (rw (← c .before .before .read-pairs .ensures .0, c .enum-told2 .given .1), c .before .before .read-pairs .ensures .1)
 
 pub read-levels-spec : {M : Type 1} → statement M
 read-levels-spec =
