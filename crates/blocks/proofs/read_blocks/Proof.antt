@@ -4,6 +4,7 @@ use native.Mathlib.Omega.{arith}
 use borrow.Author.Needs.{needs}
 use Prim.Native.Nat.{_-_}
 use lib.ListN.{drop}
+use Rattle.blocks.specs.declared.BlockAnswer.the-variants.{Legal}
 use Rattle.blocks.specs.Blocks.{blockOf}
 use Rattle.blocks.proofs.Laws.Blocks.{Left, next-sound, all-answered, all-stored, refused-answered, refused-stored, one-more}
 use Rattle.blocks.proofs.read_blocks.Statement.{statement}
@@ -23,6 +24,12 @@ found : (c : tie.After-read-block Inv-loop μ-loop)
     let start = at-loop .before .before .before in
     blockOf (start .args .coding) (start .args .matrix .now) (at-loop .loop .block) (at-loop .loop .running) (drop (at-loop .loop .at) (start .args .rest .now)) .answer ≡ c .read-block .result
 found c = rw (← c .before .before .before .after .ensures) (sym (c .read-block .ensures .0))
+
+legal : (c : tie.After-answer2 Inv-loop μ-loop)
+    → let at-loop = c .before .before .before .before .before .before .before in
+    let start = at-loop .before .before .before in
+    blockOf (start .args .coding) (start .args .matrix .now) (at-loop .loop .block) (at-loop .loop .running) (drop (at-loop .loop .at) (start .args .rest .now)) .answer ≡ Legal (c .answer2 .given .0 .0) (c .answer2 .given .0 .1 .0)
+legal c = found (c .before .before) ∙ c .answer2 .given .1
 
 zigzag-table-requires : tie.Need-zigzag-table-requires Inv-loop μ-loop
 zigzag-table-requires c κs = search needs
@@ -54,9 +61,8 @@ enum-known-answer-2 c = search needs
 
 add-at : tie.Need-add-at Inv-loop μ-loop
 add-at c =
-    let at-read = c .before .before .before .before in
-    let p = at-read .before .before .before .before .before .loop .inv in
-    omega (arith, p .near, p .below, next-sound _ _ _ _ _ (p .legal) (found at-read ∙ c .before .before .answer2 .given .1) .short)
+    let p = c .before .before .before .before .before .before .before .before .before .loop .inv in
+    omega (arith, p .near, p .below, next-sound _ _ _ _ _ (p .legal) (legal (c .before .before)) .short)
 
 add-block : tie.Need-add-block Inv-loop μ-loop
 add-block c = search needs
@@ -68,8 +74,7 @@ loop-again : tie.Need-loop-again Inv-loop μ-loop
 loop-again c =
     let at-read = c .before .before .before .before in
     let in-loop = at-read .before .before .before .before in
-    rw (at-read .read-block .ensures .1, at-read .before .before .before .after .ensures)
-    (one-more _ _ _ (in-loop .before .loop .inv) (in-loop .loop-test .taken) (found at-read ∙ c .before .before .answer2 .given .1))
+    rw (at-read .read-block .ensures .1, at-read .before .before .before .after .ensures) (one-more _ _ _ (in-loop .before .loop .inv) (in-loop .loop-test .taken) (legal (c .before .before)))
 
 returns-2 : tie.Need-returns-2 Inv-loop μ-loop
 returns-2 c = (all-answered _ _ _ (c .before .loop .inv) (omega arith), all-stored _ _ _ (c .before .loop .inv) (omega arith))

@@ -54,7 +54,7 @@ add-position c = search needs
 
 returns-2 : tie.Need-returns-2
 unfolding pairOf only
-returns-2 c = rw (ran (c .before .before), lt-leb _ _ (c .if1 .taken))
+returns-2 c = rw (ran (c .before .before), lt-leb _ 63 (c .if1 .taken))
 
 after-requires : tie.Need-after-requires
 after-requires c κs = search needs

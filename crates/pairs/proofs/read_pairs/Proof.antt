@@ -3,6 +3,7 @@ use borrow.Author.Needs.{needs}
 use native.Mathlib.Omega.{arith}
 use mathlib.Core.Path.{_≡_, refl, sym, _∙_}
 use lib.ListN.{drop}
+use Rattle.pairs.specs.declared.PairAnswer.the-variants.{Legal}
 use Rattle.pairs.specs.Pairs.{pairOf}
 use Rattle.pairs.proofs.Laws.Pairs.{Left, placed, all-answered, all-stored, refused-answered, refused-stored, one-more}
 use Rattle.pairs.proofs.read_pairs.Statement.{statement}
@@ -19,6 +20,9 @@ abbrev μ-loop : tie.MeasureT-loop
 -- what the reader found, in the words of the definition
 found : (c : tie.After-read-pair Inv-loop μ-loop) → let at-loop = c .before .before .before in pairOf (at-loop .loop .next) (drop (at-loop .loop .at) (at-loop .before .before .args .rest .now)) ≡ c .read-pair .result
 found c = rw (← c .before .after .ensures) (sym (c .read-pair .ensures))
+
+legal : (c : tie.After-answer2 Inv-loop μ-loop) → let at-loop = c .before .before .before .before .before in pairOf (at-loop .loop .next) (drop (at-loop .loop .at) (at-loop .before .before .args .rest .now)) ≡ Legal (c .answer2 .given .0 .0)
+legal c = found (c .before .before) ∙ c .answer2 .given .1
 
 loop-holds : tie.Need-loop-holds Inv-loop μ-loop
 loop-holds c = record { near = c .before .pre .0; passed = omega arith; answered = refl; stored = refl }
@@ -44,14 +48,11 @@ enum-known-answer-2 c = search needs
 
 store-pair-requires : tie.Need-store-pair-requires Inv-loop μ-loop
 store-pair-requires c κs =
-    let at-read = c .before .before .before .before in
-    let start = at-read .before .before .before .before .before in
-    (placed _ _ (found at-read ∙ c .before .before .answer2 .given .1), start .pre .1, start .pre .2)
+    let start = c .before .before .before .before .before .before .before .before .before in
+    (placed _ _ (legal (c .before .before)), start .pre .1, start .pre .2)
 
 add-next : tie.Need-add-next Inv-loop μ-loop
-add-next c =
-    let at-read = c .before .before .before .before .before .before in
-    omega (arith, placed _ _ (found at-read ∙ c .before .before .before .before .answer2 .given .1) .low)
+add-next c = omega (arith, placed _ _ (legal (c .before .before .before .before)) .low)
 
 add-at : tie.Need-add-at Inv-loop μ-loop
 add-at c = omega (arith, c .before .before .before .before .before .before .before .before .before .loop .inv .passed)
@@ -64,9 +65,8 @@ loop-less c = search needs
 
 loop-again : tie.Need-loop-again Inv-loop μ-loop
 loop-again c =
-    let at-read = c .before .before .before .before .before .before in
-    let at-loop = at-read .before .before .before in
-    rw (c .before .store-pair .ensures) (one-more _ _ (at-loop .loop .inv) (at-read .before .before .loop-test .taken) (found at-read ∙ c .before .before .before .before .answer2 .given .1))
+    let in-loop = c .before .before .before .before .before .before .before .before in
+    rw (c .before .store-pair .ensures) (one-more _ _ (in-loop .before .loop .inv) (in-loop .loop-test .taken) (legal (c .before .before .before .before)))
 
 returns-2 : tie.Need-returns-2 Inv-loop μ-loop
 returns-2 c = (all-answered _ _ (c .before .loop .inv) (omega arith), all-stored _ _ (c .before .loop .inv) (omega arith))
