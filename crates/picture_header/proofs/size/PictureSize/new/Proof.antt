@@ -38,11 +38,11 @@ mul-if5 c = omega (arith, mul-le-mul (c .before .before .if2 .left) (c .if4 .lef
 
 returns-5 : tie.Need-returns-5
 unfolding sizeOf legalSize only
-returns-5 c = rw (high (c .before), lt-leb _ _ (c .if5 .taken))
+returns-5 c = rw (high (c .before), lt-leb _ 396 (c .if5 .taken))
 
 returns-6 : tie.Need-returns-6
 unfolding sizeOf legalSize only
-returns-6 c = rw (high (c .before), le-leb _ _ (c .if5 .left))
+returns-6 c = rw (high (c .before), le-leb _ 396 (c .if5 .left))
 
 pub new-spec : {M : Type 1} → statement M
 new-spec = tie.close (tie.spec returns returns-2 returns-3 returns-4 mul-if5 returns-5 returns-6)
