@@ -44,7 +44,7 @@ sum-requires-3 c κs = rw (c .first3 .ensures) (simp length-take (omega (arith, 
 
 returns : tie.Need-returns
 unfolding sumsOf
-returns c = rw (c .before .before .before .before .before .before .sum .ensures, c .before .before .before .before .before .before .before .first .ensures, c .before .before .before .sum2 .ensures, c .before .before .before .before .first2 .ensures, c .before .before .before .before .before .after .ensures, c .sum3 .ensures, c .before .first3 .ensures, c .before .before .after2 .ensures)
+returns c = cc
 
 pub sums-of-spec : {M : Type 1} → statement M
 sums-of-spec =
