@@ -21,25 +21,22 @@ use Rattle.player.specs.declared.play.Position.{Position}
 
 -- ---- the part of a buffer that is lent, where the buffer may be shorter
 module _ (n : ℕ) (l : List ℕ) where
-  pub take-least : take (min n (length l)) l ≡ take n l
-  take-least = go (leb n (length l)) refl
+  -- what holds of n, and of the buffer's length where that is less, holds of the lesser of the two
+  least : (P : ℕ → Type 0) → P n → (length l ≤ n → P (length l)) → P (min n (length l))
+  least P p q = go (leb n (length l)) refl
     where
-      go : (b : Bool) → leb n (length l) ≡ b → take (min n (length l)) l ≡ take n l
-      go true e = let m : min n (length l) ≡ n = omega (arith, leb-true n (length l) e) in rw m refl
+      go : (b : Bool) → leb n (length l) ≡ b → P (min n (length l))
+      go true e = let m : min n (length l) ≡ n = omega (arith, leb-true n (length l) e) in rw m p
       go false e =
           let more = leb-false n (length l) e in
           let m : min n (length l) ≡ length l = omega arith in
-          rw m (take-all (length l) l (omega arith) ∙ sym (take-all n l (omega arith)))
+          rw m (q (omega arith))
+
+  pub take-least : take (min n (length l)) l ≡ take n l
+  take-least = least (λ k. take k l ≡ take n l) refl (λ h. take-all (length l) l (omega arith) ∙ sym (take-all n l h))
 
   pub drop-least : drop (min n (length l)) l ≡ drop n l
-  drop-least = go (leb n (length l)) refl
-    where
-      go : (b : Bool) → leb n (length l) ≡ b → drop (min n (length l)) l ≡ drop n l
-      go true e = let m : min n (length l) ≡ n = omega (arith, leb-true n (length l) e) in rw m refl
-      go false e =
-          let more = leb-false n (length l) e in
-          let m : min n (length l) ≡ length l = omega arith in
-          rw m (drop-of-length-le l {i = length l} (omega arith) ∙ sym (drop-of-length-le l {i = n} (omega arith)))
+  drop-least = least (λ k. drop k l ≡ drop n l) refl (λ h. drop-of-length-le l {i = length l} (omega arith) ∙ sym (drop-of-length-le l {i = n} h))
 
 -- ---- the count of macroblocks of a header that was found
 pub start-within : (file : List ℕ) → startOf (firstHeader file) .macroblocks ≤ 396

@@ -32,7 +32,11 @@ same-length-2 c = search needs
 
 returns-3 : tie.Need-returns-3
 unfolding finished only
-returns-3 c = rw (c .before .before .before .before .before .before .before .before .before .before .before .before .letter-of .ensures, c .before .before .before .before .before .before .before .before .before .sums-of .ensures, c .before .before .before .before .keep .ensures .0, eq-eqb _ _ (c .before .before .before .before .before .before .before .before .before .before .if1 .left), ne-eqb _ _ (c .before .before .before .before .before .before .before .if2 .left)) (refl, c .before .before .before .before .keep .ensures .1)
+returns-3 c =
+    let at-keep = c .before .before .before .before in
+    let at-if2 = at-keep .before .before .before in
+    let at-if1 = at-if2 .before .before .before in
+    rw (at-if1 .before .before .letter-of .ensures, at-if2 .before .before .sums-of .ensures, at-keep .keep .ensures .0, eq-eqb _ _ (at-if1 .if1 .left), ne-eqb _ _ (at-if2 .if2 .left)) (refl, at-keep .keep .ensures .1)
 
 pub finish-spec : {M : Type 1} → statement M
 finish-spec =

@@ -1,12 +1,23 @@
 -- `play_next` meets its contract: a file that is found lies within the reel. Assumes nothing.
-use mathlib.Core.Path.{refl, sym, _∙_}
+use mathlib.Core.Path.{_≡_, refl}
+use Prim.Native.Nat.{_+_, _≤_}
 use native.Mathlib.Nat.{add-sub-cancel-left}
 use native.Mathlib.Omega.{arith}
+use lib.ListN.{length}
+use Rattle.reel.specs.Part.{partAt}
+use Rattle.reel.specs.declared.part.Part.the-variants.{File}
 use Rattle.player.specs.Play.{nextOf}
 use Rattle.player.proofs.PlayLaws.{inside}
 use borrow.Author.Needs.{needs}
 use Rattle.player.proofs.play.play_next.Statement.{statement}
 use Rattle.player.proofs.play.play_next.Tie as tie
+
+-- the file that was found, which lies within the reel
+found : (c : tie.After-start) → partAt (c .before .before .before .before .before .before .before .before .args .reel .now) (c .before .before .before .before .before .before .before .before .args .position .at) ≡ File (c .start .given .0 .0) (c .start .given .0 .1 .0)
+found c = cc
+
+within : (c : tie.After-start) → let start = c .start .given .0 .0 in (start ≡ c .before .before .before .before .before .before .before .before .args .position .at + 4) × (start + c .start .given .0 .1 .0 ≤ length (c .before .before .before .before .before .before .before .before .args .reel .now))
+within c = inside _ _ .fits _ _ (found c)
 
 part-at-requires : tie.Need-part-at-requires
 part-at-requires c κs = search needs
@@ -18,10 +29,10 @@ enum-known-start : tie.Need-enum-known-start
 enum-known-start c = search needs
 
 add-number : tie.Need-add-number
-add-number c = let within = inside _ _ .fits _ _ (sym (c .before .before .before .before .part-at .ensures) ∙ c .before .before .start .given .1) in omega (arith, within .0, within .1, c .before .before .before .before .before .before .before .before .before .before .pre)
+add-number c = omega (arith, within (c .before .before) .0, within (c .before .before) .1, c .before .before .before .before .before .before .before .before .before .before .pre)
 
 add-end : tie.Need-add-end
-add-end c = let within = inside _ _ .fits _ _ (sym (c .before .before .before .before .part-at .ensures) ∙ c .before .before .start .given .1) in omega (arith, within .1)
+add-end c = omega (arith, within (c .before .before) .1)
 
 sub-play-picture : tie.Need-sub-play-picture
 sub-play-picture c = search needs
@@ -30,7 +41,7 @@ part-play-picture-start : tie.Need-part-play-picture-start
 part-play-picture-start c = search needs
 
 part-play-picture-end : tie.Need-part-play-picture-end
-part-play-picture-end c = inside _ _ .fits _ _ (sym (c .before .before .before .before .part-at .ensures) ∙ c .before .before .start .given .1) .1
+part-play-picture-end c = within (c .before .before) .1
 
 play-picture-requires : tie.Need-play-picture-requires
 play-picture-requires c κs = search needs
@@ -52,7 +63,7 @@ returns-2 : tie.Need-returns-2
 unfolding nextOf
 returns-2 c =
     let given = rw add-sub-cancel-left at (c .before .before .before .before .before .before .before .before .play-picture .ensures) in
-    rw (← c .before .before .before .before .before .before .before .before .before .before .before .before .before .before .before .before .before .part-at .ensures, c .before .before .before .before .before .before .before .before .before .before .before .before .before .before .before .start .given .1) (rw (given .0) refl, given .1)
+    rw (found (c .before .before .before .before .before .before .before .before .before .before .before .before .before .before .before)) (rw (given .0) refl, given .1)
 
 pub play-next-spec : {M : Type 1} → statement M
 play-next-spec =

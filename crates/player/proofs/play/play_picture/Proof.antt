@@ -40,10 +40,13 @@ same-length-3 c = search needs
 returns : tie.Need-returns
 unfolding played
 returns c =
-    let output = c .before .before .before .before .before .before .before .before .before .before .before .before .before .before .before .before .before .args .output .now in
+    let at-least = c .before .before .before .before .before .before .before .before .before .before in
+    let at-lent = at-least .before in
+    let at-start = at-lent .before in
+    let output = at-start .before .before .before .before .before .args .output .now in
     let given = c .before .before .before .before .before .before .play-into .ensures in
-    rw (← c .before .before .before .before .before .before .before .before .before .before .before .before .start-of .ensures, ← c .before .before .before .before .before .before .before .before .before .before .before .lent-bytes .ensures, ← take-least (c .before .before .before .before .before .before .before .before .before .before .before .lent-bytes .result) output, ← drop-least (c .before .before .before .before .before .before .before .before .before .before .before .lent-bytes .result) output, ← c .before .before .before .before .before .before .before .before .before .before .least .ensures)
-    (given .0, (given .1 .0, (given .1 .1 .0, ap (λ (l : List ℕ). l ++ drop (c .before .before .before .before .before .before .before .before .before .before .least .result) output) (given .1 .1 .1))))
+    rw (← at-start .start-of .ensures, ← at-lent .lent-bytes .ensures, ← take-least (at-lent .lent-bytes .result) output, ← drop-least (at-lent .lent-bytes .result) output, ← at-least .least .ensures)
+    (given .0, (given .1 .0, (given .1 .1 .0, ap (λ (l : List ℕ). l ++ drop (at-least .least .result) output) (given .1 .1 .1))))
 
 pub play-picture-spec : {M : Type 1} → statement M
 play-picture-spec =
