@@ -9,7 +9,7 @@ use Rattle.blocks.proofs.read_block.Statement.{statement}
 use Rattle.blocks.proofs.read_block.Tie as tie
 
 -- a block that is read is coded
-coded : (c : tie.Else1) → isCoded (c .before .before .before .args .coding .pattern) (c .before .before .before .args .block) ≡ true
+coded : (c : tie.Else1) → let a = c .before .before .before .args in isCoded (a .coding .pattern) (a .block) ≡ true
 coded c = cc (not-false (c .before .is-coded .result) (c .if1 .left))
 
 is-coded-requires : tie.Need-is-coded-requires

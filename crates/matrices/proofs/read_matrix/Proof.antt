@@ -11,11 +11,11 @@ use Rattle.matrices.proofs.read_matrix.Statement.{statement}
 use Rattle.matrices.proofs.read_matrix.Tie as tie
 
 -- a record that goes on has passed, so it has its length, and its weights are placed
-passed : (c : tie.After-enum-told) → verdictOf (c .before .before .before .before .args .body .now) (c .before .before .before .before .args .loaded) ≡ Passed
+passed : (c : tie.After-enum-told) → let a = c .before .before .before .before .args in verdictOf (a .body .now) (a .loaded) ≡ Passed
 passed c = cc
 
 long : (c : tie.After-enum-told) → length (c .before .before .before .before .args .body .now) ≡ 65
-long c = passed-long (c .before .before .before .before .args .body .now) (c .before .before .before .before .args .loaded) (passed c)
+long c = passed-long _ _ (passed c)
 
 loads : (c : tie.After-place-weights) → placed (weightsOf (c .before .before .before .before .before .before .args .body .now)) ≡ c .place-weights .result
 loads c = cc

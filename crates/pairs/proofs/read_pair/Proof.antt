@@ -30,7 +30,7 @@ ran c = cc
 near : (c : tie.Else1) → leb (c .before .before .before .before .before .before .args .next + c .before .before .run .given .0 .0) 63 ≡ true
 near c = le-leb _ _ (c .if1 .left)
 
-left : (c : tie.After-level) → signedWordOf (drop (c .before .before .before .before .before .before .run .given .0 .1 .0 .at) (c .before .before .before .before .before .before .before .before .before .before .args .rest .now)) ≡ Signed.Value (c .level .given .0 .0) (c .level .given .0 .1 .0)
+left : (c : tie.After-level) → let at-run = c .before .before .before .before .before .before in signedWordOf (drop (at-run .run .given .0 .1 .0 .at) (at-run .before .before .before .before .args .rest .now)) ≡ Signed.Value (c .level .given .0 .0) (c .level .given .0 .1 .0)
 left c = cc
 
 read-u8-requires : tie.Need-read-u8-requires

@@ -11,7 +11,7 @@ use Rattle.picture_header.proofs.header.header_with.Statement.{statemen
 use Rattle.picture_header.proofs.header.header_with.Tie as tie
 
 -- the size that was made
-sized : (c : tie.After-size) → sizeOf (c .before .before .before .before .before .args .fields .width) (c .before .before .before .before .before .args .fields .height) ≡ Fits (c .size .given .0 .0)
+sized : (c : tie.After-size) → let f = c .before .before .before .before .before .args .fields in sizeOf (f .width) (f .height) ≡ Fits (c .size .given .0 .0)
 sized c = cc
 
 cast-new : tie.Need-cast-new

@@ -9,7 +9,7 @@ use Rattle.picture_header.proofs.header.legal_codings.Statement.{statem
 use Rattle.picture_header.proofs.header.legal_codings.Tie as tie
 
 -- the type is one of the three
-known : (c : tie.Else2) → leb typeI (c .before .before .args .fields .«coding_type») && leb (c .before .before .args .fields .«coding_type») typeB ≡ true
+known : (c : tie.Else2) → let type = c .before .before .args .fields .«coding_type» in leb typeI type && leb type typeB ≡ true
 known c = rw (le-leb _ _ (c .before .if1 .left), le-leb _ _ (c .if2 .left))
 
 returns : tie.Need-returns

@@ -12,10 +12,10 @@ use Rattle.picture_header.proofs.lengths.lent_lengths.Statement.{statem
 use Rattle.picture_header.proofs.lengths.lent_lengths.Tie as tie
 
 -- the lengths that were passed
-output : (c : tie.Else1) → eqb (c .before .before .before .args .output) (bytes (c .before .before .before .args .header .size)) ≡ true
+output : (c : tie.Else1) → let a = c .before .before .before .args in eqb (a .output) (bytes (a .header .size)) ≡ true
 output c = rw (← c .before .bytes .ensures) (eq-eqb _ _ (c .if1 .left))
 
-forward : (c : tie.Else2) → eqb (c .before .before .before .before .before .before .args .forward) (referenceLength (usesForward (c .before .before .before .before .before .before .args .header .«coding_type»)) (c .before .before .before .before .before .before .args .header .size)) ≡ true
+forward : (c : tie.Else2) → let a = c .before .before .before .before .before .before .args in eqb (a .forward) (referenceLength (usesForward (a .header .«coding_type»)) (a .header .size)) ≡ true
 forward c = rw (← c .before .before .uses-forward .ensures, ← c .before .reference-length .ensures) (eq-eqb _ _ (c .if2 .left))
 
 bytes-requires : tie.Need-bytes-requires

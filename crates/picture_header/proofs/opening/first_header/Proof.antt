@@ -1,6 +1,7 @@
 -- `picture_header::opening::first_header` meets its contract: each way rewrites with the tests that led there, and a record that is found lies within the file. Assumes nothing.
-use Prim.Native.Nat.{_+_, _≤_}
+use Prim.Native.Nat.{ℕ, _+_, _≤_}
 use mathlib.Core.Bool.{true}
+use mathlib.Core.List.{List}
 use mathlib.Core.Path.{_≡_}
 use native.Mathlib.Nat.{add-sub-cancel-left}
 use native.Mathlib.Omega.{arith}
@@ -18,26 +19,29 @@ use Rattle.picture_header.specs.Opening.{version, firstHeader}
 use Rattle.picture_header.proofs.opening.first_header.Statement.{statement}
 use Rattle.picture_header.proofs.opening.first_header.Tie as tie
 
+abbrev file : tie.Else3 → List ℕ
+file c = c .before .before .before .before .before .args .file .now
+
 -- the tests that were passed before a record is looked for
-some : (c : tie.Else3) → leb 1 (length (c .before .before .before .before .before .args .file .now)) ≡ true
+some : (c : tie.Else3) → leb 1 (length (file c)) ≡ true
 some c = le-leb _ _ (c .before .before .before .if1 .left)
 
-versioned : (c : tie.Else3) → eqb (getD (c .before .before .before .before .before .args .file .now) 0 0) version ≡ true
+versioned : (c : tie.Else3) → eqb (getD (file c) 0 0) version ≡ true
 versioned c = eq-eqb _ _ (c .before .if2 .left)
 
-more : (c : tie.Else3) → leb 2 (length (c .before .before .before .before .before .args .file .now)) ≡ true
+more : (c : tie.Else3) → leb 2 (length (file c)) ≡ true
 more c = le-leb _ _ (c .if3 .left)
 
 -- the record that was found, which comes in turn
-found : (c : tie.After-kind) → recordOf (c .before .before .before .before .before .before .before .before .args .file .now) 1 ≡ Found (c .kind .given .0 .0) (c .kind .given .0 .1 .0) (c .kind .given .0 .1 .1 .0)
+found : (c : tie.After-kind) → recordOf (file (c .before .before .before)) 1 ≡ Found (c .kind .given .0 .0) (c .kind .given .0 .1 .0) (c .kind .given .0 .1 .1 .0)
 found c = cc
 
 turned : (c : tie.Else4) → inTurn Start (c .before .before .before .kind .given .0 .0) ≡ true
 turned c = cc (not-false (c .before .in-turn .result) (c .if4 .left))
 
 -- it lies within the file
-within : (c : tie.After-kind) → c .kind .given .0 .1 .0 + c .kind .given .0 .1 .1 .0 ≤ length (c .before .before .before .before .before .before .before .before .args .file .now)
-within c = rw (found c) at (inside (c .before .before .before .before .before .before .before .before .args .file .now) 1 .fits)
+within : (c : tie.After-kind) → c .kind .given .0 .1 .0 + c .kind .given .0 .1 .1 .0 ≤ length (file (c .before .before .before))
+within c = rw (found c) at (inside (file (c .before .before .before)) 1 .fits)
 
 returns : tie.Need-returns
 unfolding firstHeader only

@@ -14,7 +14,7 @@ use Rattle.symbols.proofs.macroblock_head.legal_increment.Tie as tie
 some : (c : tie.Else3) → leb 1 (c .before .before .before .args .increment) ≡ true
 some c = le-leb _ _ (c .before .before .if1 .left)
 
-fits : (c : tie.Else3) → leb (c .before .before .before .args .context .next + c .before .before .before .args .increment) (c .before .before .before .args .context .macroblocks) ≡ true
+fits : (c : tie.Else3) → let a = c .before .before .before .args in leb (a .context .next + a .increment) (a .context .macroblocks) ≡ true
 fits c = address-fits _ _ _ (c .before .if2 .left) (c .if3 .left)
 
 returns : tie.Need-returns

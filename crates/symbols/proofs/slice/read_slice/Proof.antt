@@ -28,7 +28,7 @@ scaled c = cc
 legal : (c : tie.Else2) → legalScale (c .before .before .before .scale .given .0 .0) ≡ true
 legal c = sym (c .before .legal-scale .ensures) ∙ not-false (c .before .legal-scale .result) (c .if2 .left)
 
-started : (c : tie.After-start) → wordOf (drop (c .before .before .before .before .before .before .before .scale .given .0 .1 .0 .at) (body (c .before .before .before .before .before))) ≡ Word.Value (c .start .given .0 .0) (c .start .given .0 .1 .0)
+started : (c : tie.After-start) → let at-scale = c .before .before .before .before .before .before .before in wordOf (drop (at-scale .scale .given .0 .1 .0 .at) (at-scale .before .before .before .before .before .args .body .now)) ≡ Word.Value (c .start .given .0 .0) (c .start .given .0 .1 .0)
 started c = cc
 
 returns : tie.Need-returns

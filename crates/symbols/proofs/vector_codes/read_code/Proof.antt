@@ -39,7 +39,7 @@ coded c = cc
 legal : (c : tie.Else1) → codeInRange (c .before .before .before .code .given .0 .0) ≡ true
 legal c = code-test (c .before) (not-false (c .before .code-in-range .result) (c .if1 .left))
 
-left : (c : tie.After-residual) → byteOf (drop (c .before .before .before .before .before .before .before .code .given .0 .1 .0 .at) (c .before .before .before .before .before .before .before .before .before .before .before .args .rest .now)) ≡ Byte.Value (c .residual .given .0 .0) (c .residual .given .0 .1 .0)
+left : (c : tie.After-residual) → let at-code = c .before .before .before .before .before .before .before in byteOf (drop (at-code .code .given .0 .1 .0 .at) (at-code .before .before .before .before .args .rest .now)) ≡ Byte.Value (c .residual .given .0 .0) (c .residual .given .0 .1 .0)
 left c = cc
 
 read-i8-requires : tie.Need-read-i8-requires

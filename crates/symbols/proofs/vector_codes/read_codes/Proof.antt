@@ -7,7 +7,7 @@ use Rattle.symbols.proofs.vector_codes.read_codes.Statement.{statement}
 use Rattle.symbols.proofs.vector_codes.read_codes.Tie as tie
 
 -- the code across that was read
-across : (c : tie.After-after) → codeOf (c .before .before .before .before .before .before .args .f) (c .before .before .before .before .before .before .args .rest .now) ≡ Legal (c .before .before .horizontal .given .0 .0) (c .before .before .horizontal .given .0 .1 .0)
+across : (c : tie.After-after) → let a = c .before .before .before .before .before .before .args in codeOf (a .f) (a .rest .now) ≡ Legal (c .before .before .horizontal .given .0 .0) (c .before .before .horizontal .given .0 .1 .0)
 across c = cc
 
 read-code-requires : tie.Need-read-code-requires

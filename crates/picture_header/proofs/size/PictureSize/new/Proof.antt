@@ -11,10 +11,10 @@ use Rattle.picture_header.proofs.size.PictureSize.new.Statement.{statem
 use Rattle.picture_header.proofs.size.PictureSize.new.Tie as tie
 
 -- the tests of each side that were passed
-wide : (c : tie.Else2) → leb 1 (c .before .before .args .width) && leb (c .before .before .args .width) 48 ≡ true
+wide : (c : tie.Else2) → let a = c .before .before .args in leb 1 (a .width) && leb (a .width) 48 ≡ true
 wide c = rw (le-leb _ _ (c .before .if1 .left), le-leb _ _ (c .if2 .left))
 
-high : (c : tie.Else4) → leb 1 (c .before .before .before .before .args .width) && leb (c .before .before .before .before .args .width) 48 && leb 1 (c .before .before .before .before .args .height) && leb (c .before .before .before .before .args .height) 36 ≡ true
+high : (c : tie.Else4) → let a = c .before .before .before .before .args in leb 1 (a .width) && leb (a .width) 48 && leb 1 (a .height) && leb (a .height) 36 ≡ true
 high c = rw (wide (c .before .before), le-leb _ _ (c .before .if3 .left), le-leb _ _ (c .if4 .left))
 
 returns : tie.Need-returns
