@@ -1,9 +1,17 @@
 -- `length_at` meets its contract: the four bytes lie in the reel, and what they make fits a `usize`. Assumes nothing.
-use Prim.Native.Nat.{_+_}
+use Prim.Native.Nat.{_+_, _<_}
 use native.Mathlib.Omega.{arith}
 use borrow.Author.Needs.{needs}
+use Rattle.reel.specs.Part.{lengthAt}
 use Rattle.reel.proofs.part.length_at.Statement.{statement}
 use Rattle.reel.proofs.part.length_at.Tie as tie
+
+-- what the four bytes make is below 2^32, and so is each part of it
+small : (c : tie.After-shared-slice-known4) → let a = c .before .before .before .before .args in lengthAt (a .reel .now) (a .at) < 4294967296
+small c =
+    let at = c .before .before .before .before .args .at in
+    let byte = c .shared-slice-known4 .given in
+    omega (arith, byte at, byte (at + 1), byte (at + 2), byte (at + 3))
 
 shared-slice-read-first : tie.Need-shared-slice-read-first
 shared-slice-read-first c = search needs
@@ -39,22 +47,22 @@ cast-fourth : tie.Need-cast-fourth
 cast-fourth c = omega (arith, c .shared-slice-known4 .given (c .before .before .before .before .args .at + 3))
 
 mul-result : tie.Need-mul-result
-mul-result c = omega (arith, c .before .before .before .shared-slice-known .given (c .before .before .before .before .args .at))
+mul-result c = omega (arith, small c)
 
 add-result : tie.Need-add-result
-add-result c = omega (arith, c .before .before .before .shared-slice-known .given (c .before .before .before .before .args .at), c .before .before .shared-slice-known2 .given (c .before .before .before .before .args .at + 1))
+add-result c = omega (arith, small c)
 
 mul-result-2 : tie.Need-mul-result-2
-mul-result-2 c = omega (arith, c .before .before .before .shared-slice-known .given (c .before .before .before .before .args .at), c .before .before .shared-slice-known2 .given (c .before .before .before .before .args .at + 1))
+mul-result-2 c = omega (arith, small c)
 
 add-result-2 : tie.Need-add-result-2
-add-result-2 c = omega (arith, c .before .before .before .shared-slice-known .given (c .before .before .before .before .args .at), c .before .before .shared-slice-known2 .given (c .before .before .before .before .args .at + 1), c .before .shared-slice-known3 .given (c .before .before .before .before .args .at + 2))
+add-result-2 c = omega (arith, small c)
 
 mul-result-3 : tie.Need-mul-result-3
-mul-result-3 c = omega (arith, c .before .before .before .shared-slice-known .given (c .before .before .before .before .args .at), c .before .before .shared-slice-known2 .given (c .before .before .before .before .args .at + 1), c .before .shared-slice-known3 .given (c .before .before .before .before .args .at + 2))
+mul-result-3 c = omega (arith, small c)
 
 add-result-3 : tie.Need-add-result-3
-add-result-3 c = omega (arith, c .before .before .before .shared-slice-known .given (c .before .before .before .before .args .at), c .before .before .shared-slice-known2 .given (c .before .before .before .before .args .at + 1), c .before .shared-slice-known3 .given (c .before .before .before .before .args .at + 2), c .shared-slice-known4 .given (c .before .before .before .before .args .at + 3))
+add-result-3 c = omega (arith, small c)
 
 returns : tie.Need-returns
 returns c = search needs
