@@ -22,7 +22,10 @@ same-length-3 c = search needs
 
 returns : tie.Need-returns
 unfolding playedInto
-returns c = let finished = c .before .before .before .before .finish .ensures in rw (← c .before .before .before .before .before .before .before .before .before .before .make .ensures .0, ← c .before .before .before .before .before .before .before .before .before .before .make .ensures .1) (finished .0, (finished .1 .0, (finished .1 .1, refl)))
+returns c =
+    let made = c .before .before .before .before .before .before .before .before .before .before .make .ensures in
+    let finished = c .before .before .before .before .finish .ensures in
+    rw (← made .0, ← made .1) (finished .0, (finished .1 .0, (finished .1 .1, refl)))
 
 pub play-into-spec : {M : Type 1} → statement M
 play-into-spec =

@@ -13,10 +13,10 @@ use Rattle.player.proofs.play.play_next.Statement.{statement}
 use Rattle.player.proofs.play.play_next.Tie as tie
 
 -- the file that was found, which lies within the reel
-found : (c : tie.After-start) → partAt (c .before .before .before .before .before .before .before .before .args .reel .now) (c .before .before .before .before .before .before .before .before .args .position .at) ≡ File (c .start .given .0 .0) (c .start .given .0 .1 .0)
+found : (c : tie.After-start) → let a = c .before .before .before .before .before .before .before .before .args in partAt (a .reel .now) (a .position .at) ≡ File (c .start .given .0 .0) (c .start .given .0 .1 .0)
 found c = cc
 
-within : (c : tie.After-start) → let start = c .start .given .0 .0 in (start ≡ c .before .before .before .before .before .before .before .before .args .position .at + 4) × (start + c .start .given .0 .1 .0 ≤ length (c .before .before .before .before .before .before .before .before .args .reel .now))
+within : (c : tie.After-start) → let a = c .before .before .before .before .before .before .before .before .args in let file = c .start .given .0 in (file .0 ≡ a .position .at + 4) × (file .0 + file .1 .0 ≤ length (a .reel .now))
 within c = inside _ _ .fits _ _ (found c)
 
 part-at-requires : tie.Need-part-at-requires
