@@ -1,6 +1,8 @@
 // The inverse transform, exact: rows, then columns, nothing rounded between.
 ghost use mathlib.Core.Path.{_≡_};
+ghost use lib.IntN.{pos, negsuc};
 ghost use Rattle.integers.specs.Bound.{AllWithin};
+ghost use Rattle.integers.specs.Limit.{inRange};
 ghost use Rattle.transform.specs.Transform.{inverseTransform, residuesBy};
 ghost use Rattle.transform.specs.Answer.{coefficientsInRange, transformNumber, transformResidues};
 use refusals::Refusal;
@@ -23,20 +25,28 @@ pub fn inverse_transform(coefficients: [i16; 64]) -> [i16; 64]
     pass::column_pass(rows)
 }
 
-// Whether every coefficient is in -2048..2047.
+// Whether a coefficient is in -2048..2047.
+fn is_in_range(c: i16) -> bool
+    ensures { λ r. ⌜ r ≡ inRange (negsuc 2047) (pos 2047) c ⌝ }
+{
+    if c < -2048 {
+        return false;
+    }
+    if 2047 < c {
+        return false;
+    }
+    true
+}
+
+// Whether every coefficient is. The loop tests all of them, whatever the first ones say: it becomes vector code.
 fn in_range(coefficients: &[i16; 64]) -> bool
     ensures { λ r. ⌜ r ≡ coefficientsInRange (now (coefficients .entry)) ⌝ }
 {
+    let mut legal = true;
     for k in 0..64 {
-        let c = coefficients[k];
-        if c < -2048 {
-            return false;
-        }
-        if 2047 < c {
-            return false;
-        }
+        legal = is_in_range(coefficients[k]) & legal;
     }
-    true
+    legal
 }
 
 // The transform entry: any sixty-four numbers.

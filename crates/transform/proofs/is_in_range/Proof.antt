@@ -1,0 +1,17 @@
+-- `transform::is_in_range` meets its contract: its tests are those of `inRange`, on the number that the bits stand for. Assumes nothing.
+use mir.Syntax.{w16}
+use mir.ValLaws.{toZ-ofZ}
+use Rattle.transform.proofs.is_in_range.Statement.{statement}
+use Rattle.transform.proofs.is_in_range.Tie as tie
+
+returns : tie.Need-returns
+returns c = let e = toZ-ofZ w16 _ (c .before .fits .c) in simp (simp e at (c .if1 .taken))
+
+returns-2 : tie.Need-returns-2
+returns-2 c = let e = toZ-ofZ w16 _ (c .before .before .fits .c) in simp (simp e at (c .before .if1 .left), simp e at (c .if2 .taken))
+
+returns-3 : tie.Need-returns-3
+returns-3 c = let e = toZ-ofZ w16 _ (c .before .before .fits .c) in simp (simp e at (c .before .if1 .left), simp e at (c .if2 .left))
+
+pub is-in-range-spec : {M : Type 1} → statement M
+is-in-range-spec = tie.close (tie.spec returns returns-2 returns-3)
