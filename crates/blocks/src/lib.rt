@@ -1,6 +1,7 @@
 // A block: where it is intra its DC, then its count of pairs, then the pairs. The six blocks of a macroblock.
 ghost use mathlib.Core.Path.{_≡_};
 ghost use Prim.Native.Nat.{_<_};
+ghost use lib.ListN.{drop};
 ghost use mathlib.Core.Bool.{true};
 ghost use Rattle.tables.specs.Tables.{zigzag};
 ghost use Rattle.pairs.specs.Pairs.{Coded};
@@ -238,9 +239,10 @@ pub fn is_coded(pattern: u8, block: usize) -> bool
     from_block % 2 == 1
 }
 
-// A block, if it is coded.
+// A block, if it is coded, from an offset on.
 fn read_block(
     rest: &[u8],
+    at: usize,
     block: usize,
     pasts: DcPasts,
     coding: BlocksCoding,
@@ -249,12 +251,13 @@ fn read_block(
     coefficients: &mut [i16; 384],
 ) -> BlockAnswer
     requires { ⌜ (block < 6) × LegalPasts pasts × BlocksCoded coding × (now order ≡ zigzag) ⌝ }
-    ensures { λ r. ⌜ r ≡ blockOf coding (now (matrix .entry)) block pasts (now (rest .entry)) .answer ⌝ }
-    ensures { λ r. ⌜ now (coefficients .exit) ≡ blockOf coding (now (matrix .entry)) block pasts (now (rest .entry)) .store (now (coefficients .entry)) ⌝ }
+    ensures { λ r. ⌜ r ≡ blockOf coding (now (matrix .entry)) block pasts (drop at (now (rest .entry))) .answer ⌝ }
+    ensures { λ r. ⌜ now (coefficients .exit) ≡ blockOf coding (now (matrix .entry)) block pasts (drop at (now (rest .entry))) .store (now (coefficients .entry)) ⌝ }
 {
     if !is_coded(coding.pattern, block) {
         return BlockAnswer::Legal(pasts, Cursor { at: 0 });
     }
+    let own = format3::field::after(rest, at);
     let intra = coding.intra;
     let one = BlockCoding {
         block,
@@ -262,9 +265,9 @@ fn read_block(
         scale: coding.scale,
     };
     if intra {
-        return read_intra_block(rest, pasts, one, order, matrix, coefficients);
+        return read_intra_block(own, pasts, one, order, matrix, coefficients);
     }
-    read_inter_block(rest, pasts, one, order, matrix, coefficients)
+    read_inter_block(own, pasts, one, order, matrix, coefficients)
 }
 
 // The six blocks.
@@ -283,8 +286,16 @@ pub fn read_blocks(
     let mut running = pasts;
     let mut at: usize = 0;
     for block in 0..6 {
-        let part = format3::field::after(rest, at);
-        let answer = read_block(part, block, running, coding, &order, matrix, coefficients);
+        let answer = read_block(
+            rest,
+            at,
+            block,
+            running,
+            coding,
+            &order,
+            matrix,
+            coefficients,
+        );
         match answer {
             BlockAnswer::Refused(refusal) => {
                 return BlockAnswer::Refused(refusal);

@@ -4,7 +4,6 @@ use native.Mathlib.Omega.{arith}
 use borrow.Author.Needs.{needs}
 use Prim.Native.Nat.{_-_}
 use lib.ListN.{drop}
-use Rattle.blocks.specs.declared.BlockAnswer.the-variants.{Legal}
 use Rattle.blocks.specs.Blocks.{blockOf}
 use Rattle.blocks.proofs.Laws.Blocks.{Left, next-sound, all-answered, all-stored, refused-answered, refused-stored, one-more}
 use Rattle.blocks.proofs.read_blocks.Statement.{statement}
@@ -20,16 +19,10 @@ abbrev μ-loop : tie.MeasureT-loop
 
 -- what the reader found and stored, in the words of the definition
 found : (c : tie.After-read-block Inv-loop μ-loop)
-    → let at-loop = c .before .before .before .before .before in
+    → let at-loop = c .before .before .before .before in
     let start = at-loop .before .before .before in
     blockOf (start .args .coding) (start .args .matrix .now) (at-loop .loop .block) (at-loop .loop .running) (drop (at-loop .loop .at) (start .args .rest .now)) .answer ≡ c .read-block .result
-found c = rw (← c .before .before .before .after .ensures) (sym (c .read-block .ensures .0))
-
-legal : (c : tie.After-answer2 Inv-loop μ-loop)
-    → let at-loop = c .before .before .before .before .before .before .before in
-    let start = at-loop .before .before .before in
-    blockOf (start .args .coding) (start .args .matrix .now) (at-loop .loop .block) (at-loop .loop .running) (drop (at-loop .loop .at) (start .args .rest .now)) .answer ≡ Legal (c .answer2 .given .0 .0) (c .answer2 .given .0 .1 .0)
-legal c = found (c .before .before) ∙ c .answer2 .given .1
+found c = sym (c .read-block .ensures .0)
 
 zigzag-table-requires : tie.Need-zigzag-table-requires Inv-loop μ-loop
 zigzag-table-requires c κs = search needs
@@ -37,12 +30,9 @@ zigzag-table-requires c κs = search needs
 loop-holds : tie.Need-loop-holds Inv-loop μ-loop
 loop-holds c = record { below = omega arith; near = omega arith; legal = c .before .before .pre .0; answered = refl; stored = refl }
 
-after-requires : tie.Need-after-requires Inv-loop μ-loop
-after-requires c κs = search needs
-
 read-block-requires : tie.Need-read-block-requires Inv-loop μ-loop
 read-block-requires c κs =
-    let at-loop = c .before .before .before in
+    let at-loop = c .before .before in
     (at-loop .loop-test .taken, at-loop .before .loop .inv .legal, at-loop .before .before .before .before .pre .1, at-loop .before .before .zigzag-table .ensures)
 
 enum-known-answer : tie.Need-enum-known-answer Inv-loop μ-loop
@@ -51,18 +41,19 @@ enum-known-answer c = search needs
 returns : tie.Need-returns Inv-loop μ-loop
 returns c =
     let at-read = c .before .before .before in
-    let in-loop = at-read .before .before .before .before in
+    let in-loop = at-read .before .before .before in
     let p = in-loop .before .loop .inv in
     let e = found at-read ∙ c .before .answer .given .1 in
-    (refused-answered _ _ _ p (in-loop .loop-test .taken) e, (rw (at-read .before .before .before .after .ensures) at (at-read .read-block .ensures .1)) ∙ refused-stored _ _ _ p (in-loop .loop-test .taken) e)
+    (refused-answered _ _ _ p (in-loop .loop-test .taken) e, rw (at-read .read-block .ensures .1) (refused-stored _ _ _ p (in-loop .loop-test .taken) e))
 
 enum-known-answer-2 : tie.Need-enum-known-answer-2 Inv-loop μ-loop
 enum-known-answer-2 c = search needs
 
 add-at : tie.Need-add-at Inv-loop μ-loop
 add-at c =
-    let p = c .before .before .before .before .before .before .before .before .before .loop .inv in
-    omega (arith, p .near, p .below, next-sound _ _ _ _ _ (p .legal) (legal (c .before .before)) .short)
+    let at-read = c .before .before .before .before in
+    let p = at-read .before .before .before .before .loop .inv in
+    omega (arith, p .near, p .below, next-sound _ _ _ _ _ (p .legal) (found at-read ∙ c .before .before .answer2 .given .1) .short)
 
 add-block : tie.Need-add-block Inv-loop μ-loop
 add-block c = search needs
@@ -73,8 +64,9 @@ loop-less c = search needs
 loop-again : tie.Need-loop-again Inv-loop μ-loop
 loop-again c =
     let at-read = c .before .before .before .before in
-    let in-loop = at-read .before .before .before .before in
-    rw (at-read .read-block .ensures .1, at-read .before .before .before .after .ensures) (one-more _ _ _ (in-loop .before .loop .inv) (in-loop .loop-test .taken) (legal (c .before .before)))
+    let in-loop = at-read .before .before .before in
+    rw (at-read .read-block .ensures .1)
+    (one-more _ _ _ (in-loop .before .loop .inv) (in-loop .loop-test .taken) (found at-read ∙ c .before .before .answer2 .given .1))
 
 returns-2 : tie.Need-returns-2 Inv-loop μ-loop
 returns-2 c = (all-answered _ _ _ (c .before .loop .inv) (omega arith), all-stored _ _ _ (c .before .loop .inv) (omega arith))
@@ -87,7 +79,6 @@ read-blocks-spec =
     μ-loop
     zigzag-table-requires
     loop-holds
-    after-requires
     read-block-requires
     enum-known-answer
     returns
