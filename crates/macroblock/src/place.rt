@@ -3,7 +3,7 @@ ghost use mathlib.Core.Path.{_≡_};
 ghost use Prim.Native.Nat.{_+_, _*_, _≤_, _<_};
 ghost use lib.ListN.{length};
 ghost use Rattle.picture_header.specs.Size.{SizeWithin, count};
-ghost use Rattle.macroblock.specs.Place.{positionOf, chromaPlace, placeOf, putAt, Inside, Holds};
+ghost use Rattle.macroblock.specs.Place.{positionOf, lumaPlace, chromaPlace, placeOf, putAt, Inside, Holds};
 use picture_header::size::PictureSize;
 
 // A macroblock's column and row in a picture of this size.
@@ -33,6 +33,29 @@ pub fn position_of(size: PictureSize, address: usize) -> Position
     Position { size, column, row }
 }
 
+// The place of one of the four blocks of Y, left to right, top to bottom.
+fn luma_place(position: Position, block: usize) -> Place
+    requires { ⌜ Inside position × (block < 4) ⌝ }
+    ensures { λ r. ⌜ r ≡ lumaPlace position block ⌝ }
+{
+    let width = position.size.width;
+    let height = position.size.height;
+    let macroblocks = width * height;
+    let to = 256 * macroblocks;
+    let stride = 16 * width;
+    let lines = 16 * height;
+    let x = 16 * position.column + 8 * (block % 2);
+    let y = 16 * position.row + 8 * (block / 2);
+    Place {
+        from: 0,
+        to,
+        stride,
+        lines,
+        x,
+        y,
+    }
+}
+
 // The place of the chroma block in the plane that starts at `from`.
 fn chroma_place(position: Position, from: usize) -> Place
     requires { ⌜ Inside position × (from ≤ 320 * count (position .size)) ⌝ }
@@ -56,7 +79,7 @@ fn chroma_place(position: Position, from: usize) -> Place
     }
 }
 
-// The place of a block: 0 to 3 are Y, left to right, top to bottom, 4 is Cb and 5 is Cr.
+// The place of a block: 0 to 3 are Y, 4 is Cb and 5 is Cr. Most blocks are Y, which is why they are asked for first.
 pub fn place_of(position: Position, block: usize) -> Place
     requires { ⌜ Inside position × (block < 6) ⌝ }
     ensures { λ r. ⌜ r ≡ placeOf position block ⌝ }
@@ -64,25 +87,13 @@ pub fn place_of(position: Position, block: usize) -> Place
     let width = position.size.width;
     let height = position.size.height;
     let macroblocks = width * height;
+    if block < 4 {
+        return luma_place(position, block);
+    }
     if block == 4 {
         return chroma_place(position, 256 * macroblocks);
     }
-    if block == 5 {
-        return chroma_place(position, 320 * macroblocks);
-    }
-    let to = 256 * macroblocks;
-    let stride = 16 * width;
-    let lines = 16 * height;
-    let x = 16 * position.column + 8 * (block % 2);
-    let y = 16 * position.row + 8 * (block / 2);
-    Place {
-        from: 0,
-        to,
-        stride,
-        lines,
-        x,
-        y,
-    }
+    chroma_place(position, 320 * macroblocks)
 }
 
 // A block put at its place: the part of the output that is its plane is lent on.

@@ -63,7 +63,7 @@ pub fn write_macroblock(
     }
 }
 
-// The macroblock at an address, with no block coded.
+// The macroblock at an address, with no block coded: the coefficients are not read, and any that are at hand will do.
 pub fn write_prediction(
     output: &mut [u8],
     forward: &[u8],
@@ -71,15 +71,24 @@ pub fn write_prediction(
     size: PictureSize,
     address: usize,
     motion: Motion,
+    coefficients: &[i16; 384],
 )
-    requires { ⌜ Drawable size address motion (now forward) (now backward) (now output) ⌝ }
+    requires { ⌜ Drawable size address motion (now forward) (now backward) (now output) × AllWithin 2048 (now coefficients) ⌝ }
     ensures { λ _. ⌜ now (output .exit) ≡ withMacroblock inverseTransform (now (forward .entry)) (now (backward .entry)) size address motion 0 [] (now (output .entry)) ⌝ }
 {
-    let none = [0i16; 384];
-    write_macroblock(output, forward, backward, size, address, motion, 0, &none);
+    write_macroblock(
+        output,
+        forward,
+        backward,
+        size,
+        address,
+        motion,
+        0,
+        coefficients,
+    );
 }
 
-// Skipped macroblocks: `skipped` of them from address `first` on, each with no block coded.
+// Skipped macroblocks: `skipped` of them from address `first` on, each with no block coded, whatever the coefficients.
 pub fn write_predictions(
     output: &mut [u8],
     forward: &[u8],
@@ -88,11 +97,20 @@ pub fn write_predictions(
     first: usize,
     skipped: usize,
     motion: Motion,
+    coefficients: &[i16; 384],
 )
-    requires { ⌜ RunDrawable size first skipped motion (now forward) (now backward) (now output) ⌝ }
+    requires { ⌜ RunDrawable size first skipped motion (now forward) (now backward) (now output) × AllWithin 2048 (now coefficients) ⌝ }
     ensures { λ _. ⌜ now (output .exit) ≡ withPredictions inverseTransform (now (forward .entry)) (now (backward .entry)) size first skipped motion (now (output .entry)) ⌝ }
 {
     for k in 0..skipped {
-        write_prediction(output, forward, backward, size, first + k, motion);
+        write_prediction(
+            output,
+            forward,
+            backward,
+            size,
+            first + k,
+            motion,
+            coefficients,
+        );
     }
 }

@@ -109,6 +109,7 @@ fn write_all(
         picture.next,
         plan.skipped,
         skip_motion,
+        coefficients,
     );
     macroblock::write::write_macroblock(
         output,

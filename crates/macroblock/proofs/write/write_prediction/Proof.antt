@@ -2,25 +2,22 @@
 use mathlib.Core.Path.{_∙_}
 use mathlib.Core.List.{[]}
 use borrow.Author.Needs.{needs}
-use lib.IntN.{pos}
-use lib.ListN.{replicate}
-use Rattle.integers.proofs.Bound.{table-within}
 use Rattle.transform.specs.Transform.{inverseTransform}
 use Rattle.macroblock.proofs.BlocksLaws.{macroblock-uncoded}
 use Rattle.macroblock.proofs.write.write_prediction.Statement.{statement}
 use Rattle.macroblock.proofs.write.write_prediction.Tie as tie
 
 write-macroblock-requires : tie.Need-write-macroblock-requires
-write-macroblock-requires c κs = (c .before .before .before .before .before .pre, table-within 2048 (replicate 384 (pos 0)) tt)
+write-macroblock-requires c κs = search needs
 
 same-length : tie.Need-same-length
 same-length c = search needs
 
 returns : tie.Need-returns
 returns c =
-    let a = c .before .before .before .before .before .before .before .before .args in
+    let a = c .before .before .before .before .before .before .before .args in
     c .before .before .write-macroblock .ensures
-    ∙ macroblock-uncoded inverseTransform (a .forward .now) (a .backward .now) (a .size) (a .address) (a .motion) (replicate 384 (pos 0)) [] (a .output .now)
+    ∙ macroblock-uncoded inverseTransform (a .forward .now) (a .backward .now) (a .size) (a .address) (a .motion) (a .coefficients .now) [] (a .output .now)
 
 pub write-prediction-spec : {M : Type 1} → statement M
 write-prediction-spec = tie.close (tie.spec write-macroblock-requires same-length returns)

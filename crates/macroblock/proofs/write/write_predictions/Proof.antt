@@ -12,20 +12,22 @@ use Rattle.macroblock.proofs.write.write_predictions.Statement.{stateme
 use Rattle.macroblock.proofs.write.write_predictions.Tie as tie
 
 abbrev Inv-loop : tie.InvT-loop
-Inv-loop output₀ forward backward size first skipped motion k₀ output k =
+Inv-loop output₀ forward backward size first skipped motion coefficients k₀ output k =
     (k ≤ skipped) × (output ≡ withPredictions inverseTransform forward backward size first k motion output₀) × (length output ≡ length output₀)
 
 abbrev μ-loop : tie.MeasureT-loop
-μ-loop output₀ forward backward size first skipped motion k₀ output k = skipped - k
+μ-loop output₀ forward backward size first skipped motion coefficients k₀ output k = skipped - k
 
 loop-holds : tie.Need-loop-holds Inv-loop μ-loop
 loop-holds c = (omega arith, predictions-none _ _ _ _ _ _ _, refl)
 
 add-write-prediction : tie.Need-add-write-prediction Inv-loop μ-loop
-add-write-prediction c = let s = c .before .before .before .before .before .before in omega (arith, s .pre .inside, s .pre .size)
+add-write-prediction c = let s = c .before .before .before .before .before .before in omega (arith, s .pre .0 .inside, s .pre .0 .size)
 
 write-prediction-requires : tie.Need-write-prediction-requires Inv-loop μ-loop
-write-prediction-requires c κs = run-drawable _ (c .before .before .before .before .before .before .pre) (c .before .loop-test .taken) (c .before .before .loop .inv .2)
+write-prediction-requires c κs =
+    let s = c .before .before .before .before .before .before in
+    (run-drawable _ (s .pre .0) (c .before .loop-test .taken) (c .before .before .loop .inv .2), s .pre .1)
 
 add-k : tie.Need-add-k Inv-loop μ-loop
 add-k c = omega arith

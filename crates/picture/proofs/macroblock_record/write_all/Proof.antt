@@ -1,5 +1,6 @@
 -- `picture::macroblock_record::write_all` meets its contract: the skipped macroblocks are written, then its own, and the state moves on. Assumes nothing.
 use mathlib.Core.Path.{_∙_}
+use native.Mathlib.Omega.{arith}
 use borrow.Author.Needs.{needs}
 use Rattle.format3.proofs.Laws.Record.{inside}
 use Rattle.integers.proofs.Machine.{fits}
@@ -8,7 +9,17 @@ use Rattle.picture.proofs.macroblock_record.write_all.Statement.{statem
 use Rattle.picture.proofs.macroblock_record.write_all.Tie as tie
 
 write-predictions-requires : tie.Need-write-predictions-requires
-write-predictions-requires c κs = search needs
+write-predictions-requires c κs =
+    let p = c .before .before .before .before .before .before .before .before .pre in (
+      record {
+        size = p .0 .advancing .size;
+        inside = omega (arith, p .0 .advancing .place, p .0 .advancing .inside);
+        small = p .0 .skip-within;
+        fits = p .2 .skips .fit;
+        lent = p .0 .skip-lent;
+      },
+      p .1,
+    )
 
 write-macroblock-requires : tie.Need-write-macroblock-requires
 write-macroblock-requires c κs =
