@@ -2,7 +2,7 @@
 ghost use mathlib.Core.Path.{_≡_};
 ghost use Prim.Native.Nat.{_+_, _*_, _≤_, _<_};
 ghost use lib.ListN.{length};
-ghost use Rattle.motion.specs.Prediction.{meanOf, pelAt, predictedPel, prediction, meanOfBoth};
+ghost use Rattle.motion.specs.Prediction.{meanOf, predictedPel, prediction, meanOfBoth};
 
 // The mean of four pels, halves up. With two of them equal to the other two it is the mean of two, and of four equal ones the pel.
 fn mean_of_four(a: u8, b: u8, c: u8, d: u8) -> u8
@@ -18,14 +18,6 @@ fn mean_of_two(a: u8, b: u8) -> u8
     ((a as u32 + b as u32 + 1) / 2) as u8
 }
 
-// The pel at column x of line y.
-fn pel_at(plane: &[u8], stride: usize, lines: usize, x: usize, y: usize) -> u8
-    requires { ⌜ (x < stride) × (y < lines) × (lines * stride ≤ length (now plane)) ⌝ }
-    ensures { λ r. ⌜ r ≡ pelAt (now (plane .entry)) stride x y ⌝ }
-{
-    plane[y * stride + x]
-}
-
 // Pel k of the block at (px, py). Where either is odd it is a mean of four, in which an even one makes two of them the same pel: one vector
 // loop then serves all three cases with a half pel.
 fn predict_pel(plane: &[u8], stride: usize, lines: usize, px: usize, py: usize, k: usize) -> u8
@@ -34,17 +26,20 @@ fn predict_pel(plane: &[u8], stride: usize, lines: usize, px: usize, py: usize, 
 {
     let x = px / 2 + k % 8;
     let y = py / 2 + k / 8;
-    let pel = pel_at(plane, stride, lines, x, y);
+    let at = y * stride + x;
+    let pel = plane[at];
     let odd = px % 2 + py % 2;
     if odd == 0 {
         return pel;
     }
-    let x2 = x + px % 2;
-    let y2 = y + py % 2;
-    let right = pel_at(plane, stride, lines, x2, y);
-    let below = pel_at(plane, stride, lines, x, y2);
-    let diagonal = pel_at(plane, stride, lines, x2, y2);
-    mean_of_four(pel, right, below, diagonal)
+    let right = px % 2;
+    let below = py % 2 * stride;
+    mean_of_four(
+        pel,
+        plane[at + right],
+        plane[at + below],
+        plane[at + below + right],
+    )
 }
 
 // The prediction of the block at (px, py), in half pels, from a plane of `lines` lines of `stride` pels.

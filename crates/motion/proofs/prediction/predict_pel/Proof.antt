@@ -1,9 +1,31 @@
 -- `prediction::predict_pel` meets its contract: at whole pels it is the pel, and elsewhere the mean of four is the definition's by `predicted-mean`. Assumes nothing.
+use mathlib.Core.Path.{_≡_}
+use Prim.Native.Nat.{ℕ, _+_, _*_, _/_, _%_, _<_}
 use native.Mathlib.Nat.{add-zero}
+use native.Mathlib.Omega.{arith}
 use borrow.Author.Needs.{needs}
+use lib.Arith.{digits-lt}
 use Rattle.motion.proofs.MeanLaws.{predicted-whole, predicted-mean}
 use Rattle.motion.proofs.prediction.predict_pel.Statement.{statement}
 use Rattle.motion.proofs.prediction.predict_pel.Tie as tie
+
+-- so many columns to the right of a place, so many lines below it, and both
+across : (stride x y right : ℕ) → y * stride + x + right ≡ y * stride + (x + right)
+across stride x y right = omega arith
+
+below : (stride x y down : ℕ) → y * stride + x + down * stride ≡ (y + down) * stride + x
+below stride x y down = omega arith
+
+farther : (stride x y right down : ℕ) → y * stride + x + down * stride + right ≡ (y + down) * stride + (x + right)
+farther stride x y right down = omega arith
+
+-- the last of the four pels is in the plane
+last : (c : tie.Start)
+    → let a = c .args in
+    (a .py / 2 + a .k / 8) * a .stride + (a .px / 2 + a .k % 8) + a .py % 2 * a .stride + a .px % 2 < a .lines * a .stride
+last c =
+    let a = c .args in
+    rw (farther (a .stride) (a .px / 2 + a .k % 8) (a .py / 2 + a .k / 8) (a .px % 2) (a .py % 2)) (digits-lt (omega arith) (omega arith))
 
 add-x : tie.Need-add-x
 add-x c = search needs
@@ -11,40 +33,54 @@ add-x c = search needs
 add-y : tie.Need-add-y
 add-y c = search needs
 
-pel-at-requires : tie.Need-pel-at-requires
-pel-at-requires c κs = search needs
+mul-at : tie.Need-mul-at
+mul-at c = omega (arith, last (c .before))
+
+add-at : tie.Need-add-at
+add-at c = omega (arith, last (c .before))
+
+shared-slice-read-pel : tie.Need-shared-slice-read-pel
+shared-slice-read-pel c = omega (arith, last (c .before .before))
 
 add-odd : tie.Need-add-odd
 add-odd c = search needs
 
 returns : tie.Need-returns
-returns c = let a = c .before .before .before .args in rw (c .before .pel-at .ensures) (predicted-whole (a .plane .now) (a .stride) (a .px) (a .py) (a .k) (c .if1 .taken))
+returns c = let a = c .before .before .before .args in predicted-whole (a .plane .now) (a .stride) (a .px) (a .py) (a .k) (c .if1 .taken)
 
-add-x2 : tie.Need-add-x2
-add-x2 c = search needs
+mul-below : tie.Need-mul-below
+mul-below c = omega (arith, last (c .before .before .before))
 
-add-y2 : tie.Need-add-y2
-add-y2 c = search needs
+add-mean-of-four : tie.Need-add-mean-of-four
+add-mean-of-four c = omega (arith, last (c .before .before .before))
 
-pel-at-requires-2 : tie.Need-pel-at-requires-2
-pel-at-requires-2 c κs = search needs
+shared-slice-read-mean-of-four : tie.Need-shared-slice-read-mean-of-four
+shared-slice-read-mean-of-four c = omega (arith, last (c .before .before .before .before))
 
-pel-at-requires-3 : tie.Need-pel-at-requires-3
-pel-at-requires-3 c κs = search needs
+add-mean-of-four-2 : tie.Need-add-mean-of-four-2
+add-mean-of-four-2 c = omega (arith, last (c .before .before .before .before))
 
-pel-at-requires-4 : tie.Need-pel-at-requires-4
-pel-at-requires-4 c κs = search needs
+shared-slice-read-mean-of-four-2 : tie.Need-shared-slice-read-mean-of-four-2
+shared-slice-read-mean-of-four-2 c = omega (arith, last (c .before .before .before .before .before))
+
+add-mean-of-four-3 : tie.Need-add-mean-of-four-3
+add-mean-of-four-3 c = omega (arith, last (c .before .before .before .before .before))
+
+add-mean-of-four-4 : tie.Need-add-mean-of-four-4
+add-mean-of-four-4 c = omega (arith, last (c .before .before .before .before .before))
+
+shared-slice-read-mean-of-four-3 : tie.Need-shared-slice-read-mean-of-four-3
+shared-slice-read-mean-of-four-3 c = omega (arith, last (c .before .before .before .before .before .before))
 
 mean-of-four-requires : tie.Need-mean-of-four-requires
 mean-of-four-requires c κs = search needs
 
 returns-2 : tie.Need-returns-2
 returns-2 c =
-    let fourth = c .before in
-    let second = fourth .before .before in
-    let first = second .before .before in
-    let a = first .before .before .args in
-    rw (c .mean-of-four .ensures, first .pel-at .ensures, second .pel-at2 .ensures, fourth .before .pel-at3 .ensures, fourth .pel-at4 .ensures)
+    let a = c .before .before .before .before .before .before .before .args in
+    let x = a .px / 2 + a .k % 8 in
+    let y = a .py / 2 + a .k / 8 in
+    rw (c .mean-of-four .ensures, farther (a .stride) x y (a .px % 2) (a .py % 2), below (a .stride) x y (a .py % 2), across (a .stride) x y (a .px % 2))
     (simp add-zero at (predicted-mean (a .plane .now) (a .stride) (a .px) (a .py) (a .k)))
 
 pub predict-pel-spec : {M : Type 1} → statement M
@@ -53,13 +89,18 @@ predict-pel-spec =
     (tie.spec
     add-x
     add-y
-    pel-at-requires
+    mul-at
+    add-at
+    shared-slice-read-pel
     add-odd
     returns
-    add-x2
-    add-y2
-    pel-at-requires-2
-    pel-at-requires-3
-    pel-at-requires-4
+    mul-below
+    add-mean-of-four
+    shared-slice-read-mean-of-four
+    add-mean-of-four-2
+    shared-slice-read-mean-of-four-2
+    add-mean-of-four-3
+    add-mean-of-four-4
+    shared-slice-read-mean-of-four-3
     mean-of-four-requires
     returns-2)
