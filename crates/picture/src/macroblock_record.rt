@@ -14,7 +14,8 @@ use picture_state::state::PictureState;
 use refusals::Refusal;
 use symbols::macroblock_head::HeadContext;
 
-// What a record comes to: the verdict, and the state after it; a refused record leaves the state as it was.
+// What a record comes to: the verdict, and the state after it; a refused record leaves the state as it was. Below, `PictureState { ..picture }` copies
+// it field by field, as `advance` does: the compiler then sees that either way the matrices stay where they are, and does not move them.
 pub struct Outcome {
     pub verdict: Verdict,
     pub state: PictureState,
@@ -159,7 +160,7 @@ fn draw_own(
     }
     Outcome {
         verdict: Verdict::Refused(Refusal::VectorOutside),
-        state: picture,
+        state: PictureState { ..picture },
     }
 }
 
@@ -194,7 +195,7 @@ fn draw(
     }
     Outcome {
         verdict: Verdict::Refused(Refusal::VectorOutside),
-        state: picture,
+        state: PictureState { ..picture },
     }
 }
 
@@ -224,7 +225,7 @@ pub fn act_macroblock(
     ) {
         SymbolsAnswer::Refused(refusal) => Outcome {
             verdict: Verdict::Refused(refusal),
-            state: picture,
+            state: PictureState { ..picture },
         },
         SymbolsAnswer::Legal(symbols) => {
             let plan = picture_state::plan::make_plan(picture, symbols);

@@ -65,7 +65,7 @@ draw-requires c κs =
 
 returns : tie.Need-returns
 unfolding macroblockActed
-returns c = let e = read (c .before .before .before) (c .before .refusal .given .1) in (rw e, rw e)
+returns c = let e = read (c .before .before .before .before .before .before .before) (c .before .before .before .before .before .refusal .given .1) in (rw e, rw e)
 
 same-length : tie.Need-same-length
 same-length c = search needs

@@ -33,7 +33,7 @@ returns c = let e = tested (c .before .before .before .before .before) (c .befor
 
 returns-2 : tie.Need-returns-2
 unfolding drawn only
-returns-2 c = let e = tested (c .before) (c .if1 .left) in (rw e, rw e)
+returns-2 c = let e = tested (c .before .before .before .before .before) (c .before .before .before .before .if1 .left) in (rw e, rw e)
 
 pub draw-spec : {M : Type 1} → statement M
 draw-spec = tie.close (tie.spec first-misfit-requires fits-requires draw-own-requires same-length returns returns-2)

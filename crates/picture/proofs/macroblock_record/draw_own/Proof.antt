@@ -33,7 +33,7 @@ returns c = let e = tested (c .before .before .before .before .before) (c .befor
 
 returns-2 : tie.Need-returns-2
 unfolding ownDrawn only
-returns-2 c = let e = tested (c .before) (c .if1 .left) in (rw e, rw e)
+returns-2 c = let e = tested (c .before .before .before .before .before) (c .before .before .before .before .if1 .left) in (rw e, rw e)
 
 pub draw-own-spec : {M : Type 1} → statement M
 draw-own-spec = tie.close (tie.spec fit-of-requires fits-requires write-all-requires same-length returns returns-2)
