@@ -1,12 +1,13 @@
 -- What is printed does not depend on what the buffers held before. Assumes nothing.
 use mathlib.Core.Bool.{Bool, true, false}
-use mathlib.Core.List.{List}
+use mathlib.Core.List.{List, _++_}
 use mathlib.Core.Path.{_≡_, refl, sym, ap, _∙_, subst}
-use Prim.Native.Nat.{ℕ, _≤_, _<_}
+use Prim.Native.Nat.{ℕ, _+_, _≤_, _<_}
 use native.Mathlib.Omega.{arith}
 use lib.Dec.{eqb}
+use borrow.Author.Tests.{eqb-true}
 use lib.IntN.{ℤ}
-use lib.ListN.{length, getD, take, length-append, length-drop, length-take}
+use lib.ListN.{length, getD, take, drop, length-append, length-drop, length-take}
 use lib.Seq.{ext-getD, length-take-le}
 use Rattle.refusals.specs.Refusal.{accepted, numberOf}
 use Rattle.refusals.specs.declared.Refusal.{Refusal}
@@ -26,8 +27,16 @@ use Rattle.picture.proofs.StartLaws.{opened}
 use Rattle.reel.proofs.ReferenceLaws.{kept-lent}
 use Rattle.reel.specs.References.{overwritten}
 use Rattle.reel.specs.declared.references.Kept.{Kept}
-use Rattle.player.specs.Play.{Finished, finished}
+use Rattle.player.specs.Play.{Finished, AfterPicture, AfterNext, startOf, lentBytes, madeFrom, finished, playedInto, played, nextOf}
+use Rattle.player.proofs.PlayLaws.{lent-within}
+use Rattle.player.specs.declared.play.Next.{Next}
 use Rattle.player.specs.declared.play.PictureStart.{PictureStart}
+use Rattle.player.specs.declared.play.Played.{Played}
+use Rattle.player.specs.declared.play.Position.{Position}
+use Rattle.player.specs.declared.play.Shown.the-variants as Shown
+use Rattle.reel.specs.Part.{partAt}
+use Rattle.reel.specs.declared.part.Part.{Part}
+use Rattle.reel.specs.declared.part.Part.the-variants as Part
 
 -- the same answer, and where it is an acceptance the same bytes
 pub record Same (p q : Picture) : Type 0 where
@@ -149,8 +158,97 @@ module _ (number : ℕ) (start : PictureStart) (answer : Answer) (picture : List
       go true e true f = rw (e, f) (record { shows = refl; alike = a })
       go true e false f = rw (e, f) (record { shows = refl; alike = kept-alike })
 
--- a refused picture's bytes are not looked at
-refused-alike : (number : ℕ) (start : PictureStart) (answer : Answer) (picture other : List ℕ) (kept : Kept) (older newer : List ℕ) → eqb (answer .number) accepted ≡ false
-    → finished number start answer picture kept older newer ≡ finished number start answer other kept older newer
+-- ---- a picture played over either set of buffers
+record PlayedAlike (p q : AfterPicture) : Type 0 where
+  shows : p .shows ≡ q .shows
+  alike : Alike (p .shows .kept) (p .older) (p .newer) (p .output) (q .older) (q .newer) (q .output)
+
+-- a refused picture's bytes are not looked at, an accepted one's are the same
+same-finish : (number : ℕ) (start : PictureStart) (p q : Picture) (kept : Kept) (older newer : List ℕ) → Same p q
+    → finished number start (answerOf p) (p .output) kept older newer ≡ finished number start (answerOf q) (q .output) kept older newer
 unfolding finished only
-refused-alike number start answer picture other kept older newer e = rw e refl
+same-finish number start p q kept older newer same = go (eqb (p .number) accepted) refl ∙ ap (λ (answer : Answer). finished number start answer (q .output) kept older newer) (same .answer)
+  where
+    go : (b : Bool) → eqb (p .number) accepted ≡ b → finished number start (answerOf p) (p .output) kept older newer ≡ finished number start (answerOf p) (q .output) kept older newer
+    go true e = ap (λ (l : List ℕ). finished number start (answerOf p) l kept older newer) (same .bytes (eqb-true (p .number) accepted e))
+    go false e = rw e refl
+
+module _ (number : ℕ) (file : List ℕ) (kept : Kept) (older newer output older′ newer′ output′ : List ℕ) (a : Alike kept older newer output older′ newer′ output′) where
+  abbrev start : PictureStart
+  start = startOf (firstHeader file)
+
+  abbrev lent : ℕ
+  lent = lentBytes (start .macroblocks)
+
+  abbrev made : List ℕ → List ℕ → List ℕ → Picture
+  made o n l = madeFrom file (start .«coding_type») kept o n (take lent l)
+
+  -- the same references are lent
+  same-references : made older newer output′ ≡ made older′ newer′ output′
+  unfolding madeFrom
+  same-references = rw (a .older-same, a .newer-same) refl
+
+  lent-long : (l : List ℕ) → length l ≡ 15360 → length (take lent l) ≡ lent
+  lent-long l h = length-take-le lent l (omega (arith, lent-within (start .macroblocks)))
+
+  same-made : Same (made older newer output) (made older′ newer′ output′)
+  unfolding madeFrom
+  same-made = subst (Same (made older newer output)) same-references (picture-forgets _ _ _ _ _ _ (lent-long output′ (a .output-long′) ∙ sym (lent-long output (a .output-long))))
+
+  made-long : (o n l : List ℕ) → length l ≡ 15360 → length (made o n l .output) ≡ lent
+  unfolding madeFrom
+  made-long o n l h = output-keeps-length _ _ _ _ _ ∙ lent-long l h
+
+  -- the whole output buffer, with the picture at its start
+  abbrev whole : List ℕ → List ℕ → List ℕ → List ℕ
+  whole o n l = made o n l .output ++ drop lent l
+
+  whole-long : (o n l : List ℕ) → length l ≡ 15360 → length (whole o n l) ≡ 15360
+  whole-long o n l h = simp (length-append, length-drop) (omega (arith, made-long o n l h, lent-within (start .macroblocks)))
+
+  outputs-alike : Alike kept older newer (whole older newer output) older′ newer′ (whole older′ newer′ output′)
+  outputs-alike = record {
+    older-long = a .older-long;
+    newer-long = a .newer-long;
+    output-long = whole-long older newer output (a .output-long);
+    older-long′ = a .older-long′;
+    newer-long′ = a .newer-long′;
+    output-long′ = whole-long older′ newer′ output′ (a .output-long′);
+    older-fits = a .older-fits;
+    newer-fits = a .newer-fits;
+    older-same = a .older-same;
+    newer-same = a .newer-same;
+  }
+
+  played-alike : PlayedAlike (played number file kept older newer output) (played number file kept older′ newer′ output′)
+  unfolding played playedInto
+  played-alike =
+      let here = made older newer output in
+      let there = made older′ newer′ output′ in
+      let fits : length (there .output) ≤ 15360 = omega (arith, made-long older′ newer′ output′ (a .output-long′), lent-within (start .macroblocks)) in
+      let last = finished number start (answerOf there) (there .output) kept older′ newer′ in
+      let after = finished-alike number start (answerOf there) (there .output) kept older newer (whole older newer output) older′ newer′ (whole older′ newer′ output′) outputs-alike fits in
+      let same = same-finish number start here there kept older newer same-made in
+      record {
+        shows = ap (λ (f : Finished). f .shows) same ∙ after .shows;
+        alike = subst (λ (f : Finished). Alike (f .shows .kept) (f .older) (f .newer) (whole older newer output) (last .older) (last .newer) (whole older′ newer′ output′)) (sym same) (after .alike);
+      }
+
+-- ---- what is shown next over either set of buffers
+pub record NextAlike (p q : AfterNext) : Type 0 where
+  pub next : p .next ≡ q .next
+  pub alike : Alike (p .next .position .kept) (p .older) (p .newer) (p .output) (q .older) (q .newer) (q .output)
+
+pub next-alike : (reel : List ℕ) (position : Position) (older newer output older′ newer′ output′ : List ℕ) → Alike (position .kept) older newer output older′ newer′ output′
+    → NextAlike (nextOf reel position older newer output) (nextOf reel position older′ newer′ output′)
+unfolding nextOf
+next-alike reel position older newer output older′ newer′ output′ a = go (partAt reel (position .at)) refl
+  where
+    go : (x : Part) → partAt reel (position .at) ≡ x → NextAlike (nextOf reel position older newer output) (nextOf reel position older′ newer′ output′)
+    go Part.Cut e = rw e (record { next = refl; alike = a })
+    go (Part.File from n) e =
+        let one = played-alike (position .pictures + 1) (take n (drop from reel)) (position .kept) older newer output older′ newer′ output′ a in
+        rw e (record {
+          next = ap {B = Next} (λ (x : Played). record { shown = Shown.Picture (x .line); position = record { at = from + n; pictures = position .pictures + 1; kept = x .kept } }) (one .shows);
+          alike = one .alike;
+        })
