@@ -2,15 +2,16 @@
 mod input;
 
 use libc::STDOUT_FILENO;
+use reel::part;
 
 fn main() {
     // A byte more than the longest reel tells that a reel is longer.
-    let mut reel = [0u8; 16385];
+    let mut reel = [0u8; part::LONGEST + 1];
     let length = input::read_all(&mut reel);
-    let mut older = [0u8; 15360];
-    let mut newer = [0u8; 15360];
-    let mut output = [0u8; 15360];
-    let mut text = [0u8; 610453];
+    let mut older = [0u8; report::PICTURE_BYTES];
+    let mut newer = [0u8; report::PICTURE_BYTES];
+    let mut output = [0u8; report::PICTURE_BYTES];
+    let mut text = [0u8; report::TEXT_BYTES];
     let printed = report::report(
         &reel[..length],
         &mut older,

@@ -11,6 +11,12 @@ ghost use Rattle.report.specs.Report.{linesFrom, reportOf};
 use player::play;
 use reel::part;
 
+// A buffer for a picture of the most macroblocks for which an output is lent: 40, of 384 bytes.
+pub const PICTURE_BYTES: usize = 15360;
+
+// A buffer for the report of the longest reel that is played: 4,097 lines of 149 bytes.
+pub const TEXT_BYTES: usize = 610453;
+
 // The lines of a reel. A line has at most 149 bytes, and a picture at least 4.
 fn put_lines(
     reel: &[u8],
@@ -36,13 +42,13 @@ fn put_lines(
 }
 
 // All that is printed of a reel, at the text's start, and how long it is. The other buffers are room for both references and the
-// output, 40 macroblocks each; what they hold afterwards is left free, as is what lies after the text.
+// output; what they hold afterwards is left free, as is what lies after the text.
 pub fn report(
     reel: &[u8],
-    older: &mut [u8; 15360],
-    newer: &mut [u8; 15360],
-    output: &mut [u8; 15360],
-    text: &mut [u8; 610453],
+    older: &mut [u8; PICTURE_BYTES],
+    newer: &mut [u8; PICTURE_BYTES],
+    output: &mut [u8; PICTURE_BYTES],
+    text: &mut [u8; TEXT_BYTES],
 ) -> usize
     ensures { λ r. ⌜ Counts r (now (text .exit)) ⌝ }
     ensures { λ r. ⌜ take r (now (text .exit)) ≡ reportOf (now (reel .entry)) (now (older .entry)) (now (newer .entry)) (now (output .entry)) ⌝ }
