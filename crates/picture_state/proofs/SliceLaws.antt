@@ -9,7 +9,7 @@ use Rattle.macroblock_symbols.specs.Vectors.{gives}
 use Rattle.macroblock_symbols.specs.declared.MacroblockSymbols.{MacroblockSymbols}
 use Rattle.picture_header.specs.Header.{typeP, typeB}
 use Rattle.picture_header.specs.declared.header.Header.{Header}
-use Rattle.picture_state.specs.State.{resetSlice}
+use Rattle.picture_state.specs.State.{noMotion, resetSlice}
 use Rattle.picture_state.specs.Slice.{sliceAfter}
 use Rattle.picture_state.specs.Vectors.{pastsBefore, forwardAfter, backwardAfter, pastsAfter, nextPasts}
 use Rattle.picture_state.specs.declared.state.SliceState.{SliceState}
@@ -19,16 +19,22 @@ same true x = refl
 same false x = refl
 
 -- ---- a reset keeps the slice record's scale and nothing else: whatever lay there before, the codes of the next macroblock are added to 0 and its DC differences to 1024, in every
--- picture type and after any increment. It rules out a past that is carried from one slice into the next
+-- picture type and after any increment, and no macroblock was before it. It rules out a past, or a motion to repeat, that is carried from one slice into the next
 pub record ResetKeepsNothing (scale : ℕ) : Type 0 where
   pub scale-given : resetSlice scale .scale ≡ scale
   pub vectors-0 : (coding increment : ℕ) → pastsBefore coding increment (resetSlice scale .pasts) ≡ record { forward = record { right = pos 0; down = pos 0 }; backward = record { right = pos 0; down = pos 0 } }
+  pub no-motion : resetSlice scale .motion ≡ noMotion
+  pub not-intra : resetSlice scale .intra ≡ false
+  pub none-before : resetSlice scale .first ≡ true
   pub dc-1024 : (increment : ℕ) → startingPasts (resetSlice scale .dc) increment ≡ record { y = pos 1024; cb = pos 1024; cr = pos 1024 }
 
 pub reset-keeps-nothing : (scale : ℕ) → ResetKeepsNothing scale
 unfolding pastsBefore startingPasts
 reset-keeps-nothing scale = record {
   scale-given = refl;
+  no-motion = refl;
+  not-intra = refl;
+  none-before = refl;
   vectors-0 = λ coding increment. same (eqb coding typeP && ltb 1 increment) _;
   dc-1024 = λ increment. same (ltb 1 increment) _;
 }

@@ -9,6 +9,7 @@ use macroblock::compensation::Motion;
 use macroblock_symbols::MacroblockSymbols;
 use picture_header::header::P_PICTURE;
 
+// What is written and kept, before any of it is.
 pub struct Plan {
     // The skipped macroblocks before it, and their motion.
     pub skipped: usize,
@@ -20,6 +21,7 @@ pub struct Plan {
     pub slice: SliceState,
 }
 
+// A skipped macroblock's motion: P copies with vector 0, B repeats the last macroblock's.
 fn skip_motion(coding: u8, last: Motion) -> Motion
     ensures { λ r. ⌜ r ≡ skipMotion coding last ⌝ }
 {

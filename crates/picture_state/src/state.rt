@@ -28,6 +28,7 @@ pub struct SliceState {
     pub first: bool,
 }
 
+// What a picture keeps.
 pub struct PictureState {
     pub header: Header,
     pub matrices: Matrices,
@@ -39,6 +40,7 @@ pub struct PictureState {
     pub slice: SliceState,
 }
 
+// Both vectors 0: the pasts at a slice's start and after intra.
 pub fn zero_pasts() -> VectorPasts
     ensures { λ r. ⌜ r ≡ zeroPasts ⌝ }
 {

@@ -64,6 +64,7 @@ fn pasts_before(coding: u8, increment: u16, pasts: VectorPasts) -> VectorPasts
     pasts
 }
 
+// The forward past after a macroblock: where no vector is given, 0 in P and kept in B.
 fn forward_after(header: Header, symbols: MacroblockSymbols, past: Vector) -> Vector
     requires { ⌜ SymbolsWithin header symbols × VectorWithin 1024 past ⌝ }
     ensures { λ r. ⌜ r ≡ forwardAfter header symbols past ⌝ }
@@ -80,6 +81,7 @@ fn forward_after(header: Header, symbols: MacroblockSymbols, past: Vector) -> Ve
     past
 }
 
+// The backward past after a macroblock: kept where no vector is given.
 fn backward_after(header: Header, symbols: MacroblockSymbols, past: Vector) -> Vector
     requires { ⌜ SymbolsWithin header symbols × VectorWithin 1024 past ⌝ }
     ensures { λ r. ⌜ r ≡ backwardAfter header symbols past ⌝ }
@@ -93,6 +95,7 @@ fn backward_after(header: Header, symbols: MacroblockSymbols, past: Vector) -> V
     decode(coding, past, codes)
 }
 
+// The pasts after a record's own codes: 0 after intra.
 fn pasts_after(header: Header, symbols: MacroblockSymbols, pasts: VectorPasts) -> VectorPasts
     requires { ⌜ SymbolsWithin header symbols × PastsWithin pasts ⌝ }
     ensures { λ r. ⌜ r ≡ pastsAfter header symbols pasts ⌝ }
@@ -118,6 +121,7 @@ fn use_vector(coding: VectorCoding, vector: Vector) -> Vector
     Vector { right, down }
 }
 
+// Whether a macroblock is predicted forward: in P also without a vector.
 fn predicts_forward(coding: u8, flags: u8) -> bool
     ensures { λ r. ⌜ r ≡ predictsForward coding flags ⌝ }
 {
@@ -132,6 +136,7 @@ fn predicts_forward(coding: u8, flags: u8) -> bool
     coding == P_PICTURE
 }
 
+// Whether a macroblock is predicted backward.
 fn predicts_backward(flags: u8) -> bool
     ensures { λ r. ⌜ r ≡ predictsBackward flags ⌝ }
 {
@@ -142,6 +147,7 @@ fn predicts_backward(flags: u8) -> bool
     macroblock_symbols::vectors::gives_part(flags, BACKWARD)
 }
 
+// A macroblock's own directions and vectors for use.
 pub fn own_motion(header: Header, flags: u8, pasts: VectorPasts) -> Motion
     requires { ⌜ PastsWithin pasts ⌝ }
     ensures { λ r. ⌜ r ≡ ownMotion header flags pasts ⌝ }

@@ -7,6 +7,7 @@ use picture_header::header::I_PICTURE;
 use picture_header::header::P_PICTURE;
 use reel::planes::Sums;
 
+// The fields of a line, in this order.
 pub struct Line {
     // The picture's place in the reel, from 1.
     pub number: usize,

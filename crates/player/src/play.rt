@@ -46,6 +46,7 @@ pub enum Shown {
     Cut(usize),
 }
 
+// What is shown next, and where the reel is read on.
 pub struct Next {
     pub shown: Shown,
     pub position: Position,

@@ -2,6 +2,7 @@
 ghost use mathlib.Core.Path.{_≡_};
 ghost use Rattle.refusals.specs.Refusal.{numberOf};
 
+// Why something is refused, by who can cause it.
 pub enum Refusal {
     // Caused by the writer of the file.
     FileEmpty,
@@ -30,6 +31,7 @@ pub enum Refusal {
     NumberOutOfRange,
 }
 
+// The number of an acceptance.
 pub const ACCEPTED: u32 = 0;
 
 // The number by which an answer names a refusal.

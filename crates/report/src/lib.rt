@@ -11,10 +11,10 @@ ghost use Rattle.report.specs.Report.{linesFrom, reportOf};
 use player::play;
 use reel::part;
 
-// A buffer for a picture of the most macroblocks for which an output is lent: 40, of 384 bytes.
+// The bytes of a buffer for the most macroblocks for which an output is lent: 40, of 384 bytes.
 pub const PICTURE_BYTES: usize = 15360;
 
-// A buffer for the report of the longest reel that is played: 4,097 lines of 149 bytes.
+// The bytes of a buffer for the report of the longest reel that is played: 4,097 lines of 149.
 pub const TEXT_BYTES: usize = 610453;
 
 // The lines of a reel. A line has at most 149 bytes, and a picture at least 4.
