@@ -35,21 +35,21 @@ fn is_complete(turn: Turn) -> bool
 }
 
 // The answer at the file's end.
-fn answer_at_end(length: usize, picture: PictureState) -> Answer
-    ensures { λ r. ⌜ r ≡ endAnswer length picture ⌝ }
+fn answer_at_end(file_length: usize, picture: PictureState) -> Answer
+    ensures { λ r. ⌜ r ≡ endAnswer «file_length» picture ⌝ }
 {
     let turn = picture.turn;
     if is_complete(turn) {
         return Answer {
             number: refusals::ACCEPTED,
-            place: length,
+            place: file_length,
             made: picture.made,
         };
     }
     let number = refusals::number(Refusal::FileEnds);
     Answer {
         number,
-        place: length,
+        place: file_length,
         made: picture.made,
     }
 }

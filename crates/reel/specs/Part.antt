@@ -10,7 +10,7 @@ use Rattle.reel.specs.declared.part.Part.the-variants.{File, Cut}
 
 -- "A whole reel above 16,384 bytes prints only `long`"
 abbrev pub isLong : ℕ → Bool
-isLong length = ltb 16384 length
+isLong bytes = ltb 16384 bytes
 
 -- the 4-byte length at an offset, big-endian
 abbrev pub lengthAt : List ℕ → ℕ → ℕ

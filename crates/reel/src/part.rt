@@ -16,11 +16,11 @@ pub enum Part {
     Cut,
 }
 
-// Whether a reel of this length is too long.
-pub fn is_long(length: usize) -> bool
-    ensures { λ r. ⌜ r ≡ isLong length ⌝ }
+// Whether a reel of so many bytes is too long.
+pub fn is_long(bytes: usize) -> bool
+    ensures { λ r. ⌜ r ≡ isLong bytes ⌝ }
 {
-    LONGEST < length
+    LONGEST < bytes
 }
 
 // The length that stands at an offset, big-endian.
