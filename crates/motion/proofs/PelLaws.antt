@@ -1,6 +1,6 @@
--- Laws of a block's place in a plane. Assumes nothing.
-use mathlib.Core.Path.{_≡_, ap, _∙_, sym}
-use mathlib.Core.Bool.{Bool, _&&_, cond}
+-- Laws of a limited pel, and of a block's place in a plane. Assumes nothing.
+use mathlib.Core.Path.{_≡_, refl, ap, _∙_, sym, subst}
+use mathlib.Core.Bool.{Bool, true, false, _&&_, cond}
 use mathlib.Core.List.{List}
 use Prim.Native.Nat.{ℕ, _+_, _-_, _*_, _/_, _%_, _<_, _≤_}
 use native.Mathlib.Nat.{mul-le-mul-left, div-add-mod'}
@@ -8,13 +8,26 @@ use native.Mathlib.Omega.{arith}
 use native.Mathlib.Decide.{decLt, decLe}
 use borrow.Author.Tests.{lt-ltb, le-ltb, le-leb, lt-leb}
 use lib.Arith.{digits-lt, digits-div, digits-mod}
-use lib.Dec.{ltb, leb}
+use lib.Dec.{T, ltb, leb}
+use lib.IntN.{ℤ, pos, natAbs}
 use lib.ListN.{length, getD}
 use lib.Seq.{ext-getD}
+use lib.Signed.{ltZ, nonNeg}
+use Rattle.integers.specs.Limit.{limited}
+use Rattle.integers.proofs.Compare.{kept-in}
 use Rattle.lists.specs.Tab.{tab}
 use Rattle.lists.proofs.Tab.{tab-length, tab-at}
 use Rattle.lists.proofs.Scatter.{scatter-length, scatter-at, scatter-other}
 use Rattle.motion.specs.Pel.{cell, withBlock}
+
+-- a number limited to 0..255 is its own size, and a byte
+pub pel-in : (z r : ℤ) → r ≡ limited (pos 0) (pos 255) z → (T (nonNeg r)) × (natAbs r ≤ 255)
+pel-in z r e = subst (λ (m : ℤ). (T (nonNeg m)) × (natAbs m ≤ 255)) (sym e) (go (ltZ z (pos 0)) (ltZ (pos 255) z) refl refl)
+  where
+    go : (a b : Bool) → ltZ z (pos 0) ≡ a → ltZ (pos 255) z ≡ b → (T (nonNeg (cond a (pos 0) (cond b (pos 255) z)))) × (natAbs (cond a (pos 0) (cond b (pos 255) z)) ≤ 255)
+    go true b low high = (tt, omega arith)
+    go false true low high = (tt, omega arith)
+    go false false low high = let k = kept-in z low high in (k .0, k .1)
 
 -- a pel of the block is in a plane of n pels, and so is each number on the way to its place
 pub record CellFits (stride x y k n : ℕ) : Type 0 where

@@ -1,23 +1,31 @@
 // A block of pels: prediction plus residue, limited, and the block put into a plane.
 ghost use mathlib.Core.Path.{_≡_};
 ghost use Prim.Native.Nat.{_+_, _*_, _≤_};
+ghost use lib.IntN.{pos};
 ghost use lib.ListN.{length};
 ghost use Rattle.integers.specs.Bound.{Within, AllWithin};
+ghost use Rattle.integers.specs.Limit.{limited};
 ghost use Rattle.motion.specs.Pel.{reconstructedPel, reconstructed, withBlock};
 
-// Prediction plus residue, limited to 0..255.
-fn reconstruct_pel(predicted: u8, residue: i16) -> u8
-    requires { ⌜ Within 256 residue ⌝ }
-    ensures { λ r. ⌜ r ≡ reconstructedPel predicted residue ⌝ }
+// A sum limited to 0..255, still of sixteen bits: so limited, sixteen of them become bytes in one instruction.
+fn limit_pel(sum: i16) -> i16
+    ensures { λ r. ⌜ r ≡ limited (pos 0) (pos 255) sum ⌝ }
 {
-    let sum = predicted as i16 + residue;
     if sum < 0 {
         return 0;
     }
     if 255 < sum {
         return 255;
     }
-    sum as u8
+    sum
+}
+
+// Prediction plus residue, limited to 0..255.
+fn reconstruct_pel(predicted: u8, residue: i16) -> u8
+    requires { ⌜ Within 256 residue ⌝ }
+    ensures { λ r. ⌜ r ≡ reconstructedPel predicted residue ⌝ }
+{
+    limit_pel(predicted as i16 + residue) as u8
 }
 
 // The pels of a block. The prediction of an intra block is 0 at each place.

@@ -1,6 +1,6 @@
 // The prediction of an 8 by 8 block from a plane of a reference picture, at a place that counts half pels.
 ghost use mathlib.Core.Path.{_≡_};
-ghost use Prim.Native.Nat.{_+_, _*_, _≤_, _<_};
+ghost use Prim.Native.Nat.{_+_, _*_, _%_, _≤_, _<_};
 ghost use lib.ListN.{length};
 ghost use Rattle.motion.specs.Prediction.{meanOf, predictedPel, prediction, meanOfBoth};
 
@@ -52,6 +52,31 @@ pub fn predict_block(plane: &[u8], stride: usize, lines: usize, px: usize, py: u
         for i in 0..8 {
             let k = 8 * j + i;
             block[k] = predict_pel(plane, stride, lines, px, py, k);
+        }
+    }
+    block
+}
+
+// Pel k of the block at (px, py), where both are even.
+fn copy_pel(plane: &[u8], stride: usize, lines: usize, px: usize, py: usize, k: usize) -> u8
+    requires { ⌜ (px + 16 ≤ 2 * stride) × (py + 16 ≤ 2 * lines) × (lines * stride ≤ length (now plane)) × (k < 64) × (px % 2 + py % 2 ≡ 0) ⌝ }
+    ensures { λ r. ⌜ r ≡ predictedPel (now (plane .entry)) stride px py k ⌝ }
+{
+    let x = px / 2 + k % 8;
+    let y = py / 2 + k / 8;
+    plane[y * stride + x]
+}
+
+// The prediction of the block at (px, py), where both are even: whoever knows that they are has the pels without the means.
+pub fn copy_block(plane: &[u8], stride: usize, lines: usize, px: usize, py: usize) -> [u8; 64]
+    requires { ⌜ (px + 16 ≤ 2 * stride) × (py + 16 ≤ 2 * lines) × (lines * stride ≤ length (now plane)) × (px % 2 + py % 2 ≡ 0) ⌝ }
+    ensures { λ r. ⌜ r ≡ prediction (now (plane .entry)) stride px py ⌝ }
+{
+    let mut block = [0u8; 64];
+    for j in 0..8 {
+        for i in 0..8 {
+            let k = 8 * j + i;
+            block[k] = copy_pel(plane, stride, lines, px, py, k);
         }
     }
     block

@@ -1,4 +1,4 @@
--- `idct::limit` meets its contract: each way rewrites with the tests that led there. Assumes nothing.
+-- `pass::limit_residue` meets its contract: each way rewrites with the tests that led there. Assumes nothing.
 use mir.Syntax.{w64}
 use mir.ValLaws.{toZ-ofZ}
 use Rattle.integers.specs.Bound.{at}
