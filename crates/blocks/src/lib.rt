@@ -270,7 +270,7 @@ fn read_block(
     read_inter_block(own, pasts, one, order, matrix, coefficients)
 }
 
-// The six blocks.
+// The six blocks. A macroblock of which none is coded is done at once.
 pub fn read_blocks(
     rest: &[u8],
     pasts: DcPasts,
@@ -282,6 +282,9 @@ pub fn read_blocks(
     ensures { λ r. ⌜ r ≡ blocksOf coding (now (matrix .entry)) 6 0 0 pasts (now (rest .entry)) .answer ⌝ }
     ensures { λ r. ⌜ now (coefficients .exit) ≡ blocksOf coding (now (matrix .entry)) 6 0 0 pasts (now (rest .entry)) .store (now (coefficients .entry)) ⌝ }
 {
+    if coding.pattern == 0 {
+        return BlockAnswer::Legal(pasts, Cursor { at: 0 });
+    }
     let order = tables::zigzag_table();
     let mut running = pasts;
     let mut at: usize = 0;

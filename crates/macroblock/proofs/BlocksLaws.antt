@@ -1,12 +1,10 @@
 -- Laws of blocks written one after the other, as a loop writes them, and of macroblocks with no block coded. Assumes nothing.
 use mathlib.Core.Path.{_≡_, refl, _∙_, sym}
 use mathlib.Core.List.{List, []}
-use mathlib.Core.Bool.{false}
-use Prim.Native.Nat.{ℕ, _+_, _-_, _^_}
-use native.Mathlib.Nat.{zero-div}
+use Prim.Native.Nat.{ℕ, _+_}
 use native.Mathlib.Numerals.{add-one}
 use lib.IntN.{ℤ}
-use Rattle.blocks.specs.Blocks.{isCoded}
+use Rattle.blocks.proofs.Laws.Blocks.{none-coded}
 use Rattle.picture_header.specs.declared.size.PictureSize.{PictureSize}
 use Rattle.macroblock.specs.declared.place.Position.{Position}
 use Rattle.macroblock.specs.declared.compensation.Motion.{Motion}
@@ -25,10 +23,6 @@ unfolding withBlocks
 blocks-more p blocks n picture = rw add-one
 
 -- ---- with the pattern 0 each block is its prediction, so the coefficients do not matter
-none-coded : (block : ℕ) → isCoded 0 block ≡ false
-unfolding isCoded
-none-coded block = rw (zero-div (2 ^ (5 - block)))
-
 pub block-uncoded : (transform : List ℤ → ℕ → ℤ) (forward backward : List ℕ) (p : Position) (m : Motion) (c : List ℤ) (block : ℕ)
     → blockOf transform forward backward p m 0 c block ≡ predictedBlock forward backward m (placeOf p block) block
 unfolding blockOf withResidue

@@ -1,28 +1,32 @@
 -- Laws of prediction: what a macroblock whose vectors fit reads is in the planes of the references. Assumes nothing.
-use mathlib.Core.Path.{_≡_, ap}
-use mathlib.Core.Bool.{Bool, true}
+use mathlib.Core.Path.{_≡_, refl, sym, ap, _∙_}
+use mathlib.Core.Bool.{Bool, true, false}
 use mathlib.Core.List.{List}
-use Prim.Native.Nat.{ℕ, _+_, _*_, _/_, _%_, _≤_, _<_}
+use Prim.Native.Nat.{ℕ, zero, suc, _+_, _*_, _/_, _%_, _≤_, _<_}
 use native.Mathlib.Nat.{le-refl}
 use native.Mathlib.Omega.{arith}
-use borrow.Author.Tests.{lt-ltb, le-ltb}
-use lib.IntN.{ℤ, pos}
+use borrow.Author.Tests.{lt-ltb, le-ltb, eq-eqb, ne-eqb, eqb-true}
+use lib.Dec.{eqb, lit<}
+use lib.IntN.{ℤ, pos, negsuc, negℤ, natAbs}
 use lib.ListN.{length}
-use lib.Signed.{_≤ℤ_}
+use lib.Signed.{_≤ℤ_, quotZ, remZ}
 use mir.Syntax.{w32}
+use mir.Val.{SFits, ofZ}
 use Rattle.integers.specs.Bound.{Within}
-use Rattle.integers.proofs.Machine.{Held, number, kept}
+use Rattle.integers.proofs.Compare.{bits-eq}
+use Rattle.integers.proofs.Machine.{Held, number, literal, fits, kept, quotient, remainder}
 use Rattle.integers.proofs.Difference.{up, dn, of-le, le-of, parts-add}
 use Rattle.motion.specs.Fit.{pointed, halfPelPlace, macroblockFits}
-use Rattle.motion.specs.Vector.{chromaVector}
-use Rattle.motion.proofs.FitLaws.{size-up, Fits, MacroblockFits, luma-known, chroma-known}
-use Rattle.motion.proofs.VectorLaws.{chroma-within}
+use Rattle.motion.specs.Vector.{chromaVector, oddBit}
+use Rattle.motion.proofs.FitLaws.{size-up, place-odd, Fits, MacroblockFits, luma-known, chroma-known}
+use Rattle.motion.proofs.VectorLaws.{both-true, chroma-within}
 use Rattle.picture_header.specs.Size.{bytes}
 use Rattle.macroblock.specs.declared.place.Position.{Position}
+use Rattle.macroblock.specs.declared.place.Place.{Place}
 use Rattle.macroblock.specs.declared.compensation.Vector.{Vector}
 use Rattle.macroblock.specs.declared.compensation.Motion.{Motion}
 use Rattle.macroblock.specs.Place.{placeOf, Inside}
-use Rattle.macroblock.specs.Compensation.{vectorFor, VectorWithin, Readable, Predictable}
+use Rattle.macroblock.specs.Compensation.{vectorFor, isWhole, VectorWithin, Readable, Predictable}
 use Rattle.macroblock.specs.Fit.{directionFits}
 use Rattle.macroblock.specs.Macroblock.{BlocksDrawable}
 use Rattle.macroblock.proofs.PlaceLaws.{sides, by-plane, lines-inside}
@@ -94,3 +98,36 @@ predictable {p} {m} {forward} {backward} block d h = record {
   forward-readable = λ e. readable p (m .«forward_vector») forward block (d .inside) (d .small .forward) h (used-fits (m .forward) p (m .«forward_vector») e (d .forward-fits)) (d .lent .forward-whole e);
   backward-readable = λ e. readable p (m .«backward_vector») backward block (d .inside) (d .small .backward) h (used-fits (m .backward) p (m .«backward_vector») e (d .backward-fits)) (d .lent .backward-whole e);
 }
+
+-- ---- a part of a vector that is divided by 2
+abbrev pub half-left : {z : ℤ} → Within 2048 z → Held (remZ z (pos 2))
+half-left small = remainder (passed small) (literal (pos 2))
+
+pub halves : {z : ℤ} (small : Within 2048 z) → (0 < 2) × SFits w32 (quotZ (passed small .raw) (pos 2))
+halves small = (lit< tt, fits (quotient (passed small) (literal (pos 2))) tt)
+
+negated-none : (n : ℕ) → negℤ (pos n) ≡ pos 0 → n ≡ 0
+negated-none zero e = refl
+negated-none (suc n) e = ap natAbs e
+
+odd-none : (z : ℤ) → remZ z (pos 2) ≡ pos 0 → oddBit z ≡ 0
+odd-none (pos n) e = ap natAbs e
+odd-none (negsuc n) e = negated-none (suc n % 2) e
+
+remainder-none : (z : ℤ) → oddBit z ≡ 0 → remZ z (pos 2) ≡ pos 0
+remainder-none (pos n) e = ap pos e
+remainder-none (negsuc n) e = ap (λ (m : ℕ). negℤ (pos m)) e
+
+pub odd-where : {z : ℤ} (small : Within 2048 z) → (ofZ w32 (half-left small .raw) ≡ 0 → ⊥) → eqb (oddBit z) 0 ≡ false
+odd-where {z} small h = ne-eqb (oddBit z) 0 (λ e. h (ap (ofZ w32) (half-left small .is ∙ remainder-none z e)))
+
+pub even-where : {z : ℤ} (small : Within 2048 z) → ofZ w32 (half-left small .raw) ≡ 0 → eqb (oddBit z) 0 ≡ true
+even-where {z} small e =
+    eq-eqb (oddBit z) 0 (odd-none z (sym (half-left small .is) ∙ bits-eq w32 (fits (half-left small) tt) (fits (literal (pos 0)) tt) e))
+
+-- a vector without odd bits points to a place without them
+pub whole-place : {p : Place} {v : Vector} {reference : List ℕ} → Readable p v reference → isWhole v ≡ true
+    → halfPelPlace (p .x) (v .right) % 2 + halfPelPlace (p .y) (v .down) % 2 ≡ 0
+whole-place {p} {v} r e =
+    let both = both-true (eqb (oddBit (v .right)) 0) (eqb (oddBit (v .down)) 0) e in
+    omega (arith, place-odd (p .x) (v .right) (r .left), place-odd (p .y) (v .down) (r .top), eqb-true (oddBit (v .right)) 0 (both .0), eqb-true (oddBit (v .down)) 0 (both .1))

@@ -1,16 +1,16 @@
 -- The prediction of a block from the references (document 01, "Vectors and prediction").
 use mathlib.Core.Path.{_≡_}
-use mathlib.Core.Bool.{Bool, true, cond}
+use mathlib.Core.Bool.{Bool, true, cond, _&&_}
 use mathlib.Core.List.{List}
 use Prim.Native.Nat.{ℕ, _+_, _-_, _*_, _≤_}
-use lib.Dec.{ltb}
+use lib.Dec.{ltb, eqb}
 use lib.IntN.{pos}
 use lib.ListN.{length, take, drop, replicate}
 use lib.Signed.{_≤ℤ_}
 use Rattle.integers.specs.Bound.{Within}
 use Rattle.motion.specs.Fit.{pointed, halfPelPlace}
 use Rattle.motion.specs.Prediction.{prediction, meanOfBoth}
-use Rattle.motion.specs.Vector.{chromaVector}
+use Rattle.motion.specs.Vector.{chromaVector, oddBit}
 use Rattle.macroblock.specs.declared.place.Place.{Place}
 use Rattle.macroblock.specs.declared.compensation.Vector.{Vector}
 use Rattle.macroblock.specs.declared.compensation.Motion.{Motion}
@@ -22,6 +22,10 @@ vectorFor block v = cond (ltb block 4) v (record { right = chromaVector (v .righ
 -- the plane of a place, of a picture
 abbrev pub planeOf : Place → List ℕ → List ℕ
 planeOf p picture = take (p .to - p .from) (drop (p .from) picture)
+
+-- neither part of a vector has an odd bit: it points to whole pels
+abbrev pub isWhole : Vector → Bool
+isWhole v = eqb (oddBit (v .right)) 0 && eqb (oddBit (v .down)) 0
 
 -- the block that a vector for the plane points to
 unfoldable pub predictedFrom : List ℕ → Place → Vector → List ℕ

@@ -1,7 +1,8 @@
 // The prediction of a block from the lent references.
 ghost use mathlib.Core.Path.{_≡_};
+ghost use mathlib.Core.Bool.{true};
 ghost use Prim.Native.Nat.{_<_};
-ghost use Rattle.macroblock.specs.Compensation.{VectorWithin, vectorFor, Readable, predictedFrom, Predictable, predictedBlock};
+ghost use Rattle.macroblock.specs.Compensation.{VectorWithin, vectorFor, isWhole, Readable, predictedFrom, Predictable, predictedBlock};
 use crate::place::Place;
 
 // A vector for use, in half pels.
@@ -41,6 +42,32 @@ fn predict_block_from(reference: &[u8], place: Place, vector: Vector) -> [u8; 64
     let px = motion::fit::half_pel_place(place.x, vector.right);
     let py = motion::fit::half_pel_place(place.y, vector.down);
     motion::prediction::predict_block(&reference[from..to], place.stride, place.lines, px, py)
+}
+
+// Whether a vector points to whole pels.
+pub fn is_whole(vector: Vector) -> bool
+    requires { ⌜ VectorWithin 2048 vector ⌝ }
+    ensures { λ r. ⌜ r ≡ isWhole vector ⌝ }
+{
+    if vector.right % 2 != 0 {
+        return false;
+    }
+    if vector.down % 2 != 0 {
+        return false;
+    }
+    true
+}
+
+// The prediction from one reference, by a vector that points to whole pels.
+pub fn copy_block_from(reference: &[u8], place: Place, vector: Vector) -> [u8; 64]
+    requires { ⌜ Readable place vector (now reference) × (isWhole vector ≡ true) ⌝ }
+    ensures { λ r. ⌜ r ≡ predictedFrom (now (reference .entry)) place vector ⌝ }
+{
+    let from = place.from;
+    let to = place.to;
+    let px = motion::fit::half_pel_place(place.x, vector.right);
+    let py = motion::fit::half_pel_place(place.y, vector.down);
+    motion::prediction::copy_block(&reference[from..to], place.stride, place.lines, px, py)
 }
 
 // The prediction of a block by the directions that are used.

@@ -1,14 +1,17 @@
 // A macroblock written into the lent output, block by block.
 ghost use mathlib.Core.Path.{_≡_};
+ghost use mathlib.Core.Bool.{true};
 ghost use mathlib.Core.List.{[]};
-ghost use Prim.Native.Nat.{_<_};
+ghost use Prim.Native.Nat.{_≤_, _<_};
 ghost use Rattle.integers.specs.Bound.{AllWithin};
 ghost use Rattle.transform.specs.Transform.{inverseTransform};
 ghost use Rattle.macroblock.specs.Place.{placeOf, putAt};
+ghost use Rattle.macroblock.specs.Compensation.{isWhole, predictedFrom};
 ghost use Rattle.macroblock.specs.Block.{blockOf};
-ghost use Rattle.macroblock.specs.Macroblock.{BlocksDrawable, Drawable, RunDrawable, withMacroblock, withPredictions};
+ghost use Rattle.macroblock.specs.Macroblock.{BlocksDrawable, Drawable, RunDrawable, LumaReadable, withBlocks, withMacroblock, withPredictions};
 use crate::compensation;
 use crate::compensation::Motion;
+use crate::compensation::Vector;
 use crate::place;
 use crate::place::Position;
 use crate::residue;
@@ -34,6 +37,72 @@ fn write_block(
     place::put(output, place, pels);
 }
 
+// One block of Y, copied from whole pels.
+fn copy_luma_block(
+    output: &mut [u8],
+    reference: &[u8],
+    position: Position,
+    vector: Vector,
+    block: usize,
+)
+    requires { ⌜ LumaReadable position vector (now reference) (now output) × (isWhole vector ≡ true) × (block < 4) ⌝ }
+    ensures { λ _. ⌜ now (output .exit) ≡ putAt (placeOf position block) (predictedFrom (now (reference .entry)) (placeOf position block) vector) (now (output .entry)) ⌝ }
+{
+    let place = place::place_of(position, block);
+    let copied = compensation::copy_block_from(reference, place, vector);
+    place::put(output, place, copied);
+}
+
+// The blocks of Y, if the vector points to whole pels. Answers how many it wrote: four or none.
+fn copy_luma_from(
+    output: &mut [u8],
+    reference: &[u8],
+    position: Position,
+    vector: Vector,
+) -> usize
+    requires { ⌜ LumaReadable position vector (now reference) (now output) ⌝ }
+    ensures { λ r. ⌜ r ≤ 4 ⌝ }
+    ensures { λ r. ⌜ now (output .exit) ≡ withBlocks position (λ block. predictedFrom (now (reference .entry)) (placeOf position block) vector) r (now (output .entry)) ⌝ }
+{
+    if !compensation::is_whole(vector) {
+        return 0;
+    }
+    for block in 0..4 {
+        copy_luma_block(output, reference, position, vector, block);
+    }
+    4
+}
+
+// The blocks of Y that need no more than a copy: those of a macroblock with no block coded and one direction, to whole pels. Answers how many
+// it wrote. A loop with no question in it takes a third of the time.
+fn copy_luma(
+    output: &mut [u8],
+    forward: &[u8],
+    backward: &[u8],
+    position: Position,
+    motion: Motion,
+    pattern: u8,
+    coefficients: &[i16; 384],
+) -> usize
+    requires { ⌜ BlocksDrawable position motion (now forward) (now backward) (now output) ⌝ }
+    ensures { λ r. ⌜ r ≤ 4 ⌝ }
+    ensures { λ r. ⌜ now (output .exit) ≡ withBlocks position (blockOf inverseTransform (now (forward .entry)) (now (backward .entry)) position motion pattern (now (coefficients .entry))) r (now (output .entry)) ⌝ }
+{
+    if pattern != 0 {
+        return 0;
+    }
+    if motion.forward {
+        if motion.backward {
+            return 0;
+        }
+        return copy_luma_from(output, forward, position, motion.forward_vector);
+    }
+    if motion.backward {
+        return copy_luma_from(output, backward, position, motion.backward_vector);
+    }
+    0
+}
+
 // The macroblock at an address: six blocks.
 pub fn write_macroblock(
     output: &mut [u8],
@@ -49,7 +118,16 @@ pub fn write_macroblock(
     ensures { λ _. ⌜ now (output .exit) ≡ withMacroblock inverseTransform (now (forward .entry)) (now (backward .entry)) size address motion pattern (now (coefficients .entry)) (now (output .entry)) ⌝ }
 {
     let position = place::position_of(size, address);
-    for block in 0..6 {
+    let copied = copy_luma(
+        output,
+        forward,
+        backward,
+        position,
+        motion,
+        pattern,
+        coefficients,
+    );
+    for block in copied..6 {
         write_block(
             output,
             forward,

@@ -2,7 +2,8 @@
 use mathlib.Core.Path.{_≡_, refl, sym, ap, subst, _∙_}
 use mathlib.Core.Bool.{Bool, true, false, cond}
 use mathlib.Core.List.{List}
-use Prim.Native.Nat.{ℕ, zero, suc, _+_, _-_, _*_, _<_, _≤_}
+use Prim.Native.Nat.{ℕ, zero, suc, _+_, _-_, _*_, _^_, _<_, _≤_}
+use native.Mathlib.Nat.{add-zero, zero-div}
 use native.Mathlib.Numerals.{sub-one}
 use native.Mathlib.Omega.{arith}
 use borrow.Author.Tests.{leb-true}
@@ -18,6 +19,7 @@ use Rattle.refusals.specs.declared.Refusal.the-variants.{BodyLength, Coefficien
 use Rattle.format3.specs.declared.verdict.Verdict.{Verdict}
 use Rattle.format3.specs.declared.verdict.Verdict.the-variants as Verdict
 use Rattle.format3.specs.declared.field.Cursor.{Cursor}
+use Rattle.format3.specs.Chain.{only}
 use Rattle.format3.specs.Field.{byteOf, signedWordOf}
 use Rattle.format3.proofs.Laws.Chain.{only-all, both}
 use Rattle.format3.proofs.Laws.Field.{byte-all, signed-all}
@@ -30,7 +32,7 @@ use Rattle.blocks.specs.declared.LevelsAnswer.{LevelsAnswer}
 use Rattle.blocks.specs.declared.LevelsAnswer.the-variants as Levels
 use Rattle.blocks.specs.declared.BlockAnswer.{BlockAnswer}
 use Rattle.blocks.specs.declared.BlockAnswer.the-variants as Block
-use Rattle.pairs.specs.Reading.{Reading, plain}
+use Rattle.pairs.specs.Reading.{Reading, plain, storing}
 use Rattle.blocks.specs.Blocks.{legalDifference, legalDc, dcOf, pastOf, withPast, storedDc, legalCount, firstPosition, countOf, levelsOf, afterLevels, levelsThen, dcThen, intraBlockOf, interBlockOf, isCoded, codingOf, blockOf, blockThen, blocksOf, LegalPasts}
 use Rattle.pairs.specs.Pairs.{pairsOf}
 use Rattle.pairs.proofs.Laws.Reading.{Keeps, keeps-set, Sound, sound-plain, sound-storing}
@@ -229,3 +231,22 @@ module _ (c : BlocksCoding) (matrix : List ℕ) (body : List ℕ) where
             answered = rw (e, less) at (sym (ap (λ (r : Reading _). r .answer) one) ∙ p .answered);
             stored = rw (e, less) at (sym (ap (λ (r : Reading _). r .store now) one) ∙ p .stored);
           }
+
+-- ---- a pattern of 0: no block is coded, so nothing is read and nothing is stored
+pub none-coded : (block : ℕ) → isCoded 0 block ≡ false
+unfolding isCoded
+none-coded block = rw (zero-div (2 ^ (5 - block)))
+
+block-uncoded : (c : BlocksCoding) (matrix : List ℕ) (block : ℕ) (pasts : DcPasts) (l : List ℕ) → c .pattern ≡ 0
+    → blockOf c matrix block pasts l ≡ plain (Block.Legal pasts (record { at = 0 }))
+unfolding blockOf only
+block-uncoded c matrix block pasts l e = rw (e, none-coded block)
+
+pub blocks-uncoded : (c : BlocksCoding) (matrix : List ℕ) (n block at : ℕ) (pasts : DcPasts) (l : List ℕ) → c .pattern ≡ 0
+    → blocksOf c matrix n block at pasts l ≡ plain (Block.Legal pasts (record { at = at }))
+unfolding blocksOf
+blocks-uncoded c matrix zero block at pasts l e = refl
+blocks-uncoded c matrix (suc n) block at pasts l e =
+    ap (λ (r : Reading BlockAnswer). blockThen r (λ next size. blocksOf c matrix n (block + 1) (at + size) next l)) (block-uncoded c matrix block pasts (drop at l) e)
+    ∙ ap (storing (λ k. k)) (blocks-uncoded c matrix n (block + 1) (at + 0) pasts l e)
+    ∙ ap (λ (m : ℕ). plain (Block.Legal pasts (record { at = m }))) (add-zero at)
