@@ -2,7 +2,7 @@ pub mod PlaceLaws
 pub mod CompensationLaws
 pub mod RunLaws
 pub mod BlocksLaws
-pub mod LumaLaws
+pub mod CopyLaws
 pub mod PutLaws
 pub mod OwnerLaws
 pub mod WriteLaws

@@ -11,9 +11,11 @@ use Rattle.integers.specs.Bound.{Within}
 use Rattle.motion.specs.Fit.{pointed, halfPelPlace}
 use Rattle.motion.specs.Prediction.{prediction, meanOfBoth}
 use Rattle.motion.specs.Vector.{chromaVector, oddBit}
+use Rattle.macroblock.specs.declared.place.Position.{Position}
 use Rattle.macroblock.specs.declared.place.Place.{Place}
 use Rattle.macroblock.specs.declared.compensation.Vector.{Vector}
 use Rattle.macroblock.specs.declared.compensation.Motion.{Motion}
+use Rattle.macroblock.specs.Place.{placeOf}
 
 -- "Chroma first halves towards zero": the vector for the plane of a block
 unfoldable pub vectorFor : ℕ → Vector → Vector
@@ -30,6 +32,10 @@ isWhole v = eqb (oddBit (v .right)) 0 && eqb (oddBit (v .down)) 0
 -- the block that a vector for the plane points to
 unfoldable pub predictedFrom : List ℕ → Place → Vector → List ℕ
 predictedFrom reference p v = prediction (planeOf p reference) (p .stride) (halfPelPlace (p .x) (v .right)) (halfPelPlace (p .y) (v .down))
+
+-- the block of a macroblock that a vector for use points to
+abbrev pub pointedBlock : List ℕ → Position → Vector → ℕ → List ℕ
+pointedBlock reference p v block = predictedFrom reference (placeOf p block) (vectorFor block v)
 
 -- one direction, "the mean of both directions", or "0 for intra"
 abbrev pub combined : Bool → Bool → List ℕ → List ℕ → List ℕ

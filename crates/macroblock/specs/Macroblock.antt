@@ -12,7 +12,7 @@ use Rattle.macroblock.specs.declared.compensation.Motion.{Motion}
 use Rattle.macroblock.specs.declared.compensation.Vector.{Vector}
 use Rattle.macroblock.specs.declared.fit.Fit.the-variants.{Fits}
 use Rattle.macroblock.specs.Place.{positionOf, placeOf, putAt, Inside}
-use Rattle.macroblock.specs.Compensation.{VectorWithin, MotionWithin, Readable}
+use Rattle.macroblock.specs.Compensation.{vectorFor, VectorWithin, MotionWithin, Readable}
 use Rattle.macroblock.specs.Fit.{directionFits, fitOf, firstMisfit}
 use Rattle.macroblock.specs.Block.{blockOf}
 
@@ -62,9 +62,9 @@ pub record BlocksDrawable (p : Position) (m : Motion) (forward backward output :
   pub backward-fits : directionFits (m .backward) p (m .«backward_vector») ≡ true
   pub lent : Lent (p .size) m forward backward output
 
--- what a vector points to from each block of Y is in the reference, and each is in the output
-pub record LumaReadable (p : Position) (v : Vector) (reference output : List ℕ) : Type 0 where
+-- what a vector points to from each block is in the reference, and each block is in the output
+pub record Copyable (p : Position) (v : Vector) (reference output : List ℕ) : Type 0 where
   pub inside : Inside p
   pub small : VectorWithin 2048 v
-  pub readable : (block : ℕ) → block < 4 → Readable (placeOf p block) v reference
+  pub readable : (block : ℕ) → block < 6 → Readable (placeOf p block) (vectorFor block v) reference
   pub output-whole : length output ≡ bytes (p .size)

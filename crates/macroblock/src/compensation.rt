@@ -20,7 +20,7 @@ pub struct Motion {
 }
 
 // The vector for the plane of a block.
-fn vector_for(block: usize, vector: Vector) -> Vector
+pub fn vector_for(block: usize, vector: Vector) -> Vector
     requires { ⌜ VectorWithin 2048 vector ⌝ }
     ensures { λ r. ⌜ r ≡ vectorFor block vector ⌝ }
 {

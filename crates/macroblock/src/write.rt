@@ -3,12 +3,14 @@ ghost use mathlib.Core.Path.{_≡_};
 ghost use mathlib.Core.Bool.{true};
 ghost use mathlib.Core.List.{[]};
 ghost use Prim.Native.Nat.{_≤_, _<_};
+ghost use lib.ListN.{length};
 ghost use Rattle.integers.specs.Bound.{AllWithin};
 ghost use Rattle.transform.specs.Transform.{inverseTransform};
-ghost use Rattle.macroblock.specs.Place.{placeOf, putAt};
-ghost use Rattle.macroblock.specs.Compensation.{isWhole, predictedFrom};
+ghost use Rattle.picture_header.specs.Size.{bytes};
+ghost use Rattle.macroblock.specs.Place.{placeOf, putAt, Inside};
+ghost use Rattle.macroblock.specs.Compensation.{isWhole, predictedFrom, pointedBlock, Readable};
 ghost use Rattle.macroblock.specs.Block.{blockOf};
-ghost use Rattle.macroblock.specs.Macroblock.{BlocksDrawable, Drawable, RunDrawable, LumaReadable, withBlocks, withMacroblock, withPredictions};
+ghost use Rattle.macroblock.specs.Macroblock.{BlocksDrawable, Drawable, RunDrawable, Copyable, withBlocks, withMacroblock, withPredictions};
 use crate::compensation;
 use crate::compensation::Motion;
 use crate::compensation::Vector;
@@ -37,15 +39,9 @@ fn write_block(
     place::put(output, place, pels);
 }
 
-// One block of Y, copied from whole pels.
-fn copy_luma_block(
-    output: &mut [u8],
-    reference: &[u8],
-    position: Position,
-    vector: Vector,
-    block: usize,
-)
-    requires { ⌜ LumaReadable position vector (now reference) (now output) × (isWhole vector ≡ true) × (block < 4) ⌝ }
+// One block, copied from the whole pels that the vector for its plane points to.
+fn copy_block(output: &mut [u8], reference: &[u8], position: Position, vector: Vector, block: usize)
+    requires { ⌜ Inside position × Readable (placeOf position block) vector (now reference) × (isWhole vector ≡ true) × (block < 6) × (length (now output) ≡ bytes (position .size)) ⌝ }
     ensures { λ _. ⌜ now (output .exit) ≡ putAt (placeOf position block) (predictedFrom (now (reference .entry)) (placeOf position block) vector) (now (output .entry)) ⌝ }
 {
     let place = place::place_of(position, block);
@@ -53,29 +49,38 @@ fn copy_luma_block(
     place::put(output, place, copied);
 }
 
-// The blocks of Y, if the vector points to whole pels. Answers how many it wrote: four or none.
-fn copy_luma_from(
-    output: &mut [u8],
-    reference: &[u8],
-    position: Position,
-    vector: Vector,
-) -> usize
-    requires { ⌜ LumaReadable position vector (now reference) (now output) ⌝ }
-    ensures { λ r. ⌜ r ≤ 4 ⌝ }
-    ensures { λ r. ⌜ now (output .exit) ≡ withBlocks position (λ block. predictedFrom (now (reference .entry)) (placeOf position block) vector) r (now (output .entry)) ⌝ }
+// The four blocks of Y, copied.
+fn copy_luma(output: &mut [u8], reference: &[u8], position: Position, vector: Vector)
+    requires { ⌜ Copyable position vector (now reference) (now output) × (isWhole vector ≡ true) ⌝ }
+    ensures { λ _. ⌜ now (output .exit) ≡ withBlocks position (pointedBlock (now (reference .entry)) position vector) 4 (now (output .entry)) ⌝ }
+{
+    for block in 0..4 {
+        copy_block(output, reference, position, vector, block);
+    }
+}
+
+// The blocks up to the first that the vector points to half pels for. Answers how many it wrote: none, four or six.
+fn copy_whole(output: &mut [u8], reference: &[u8], position: Position, vector: Vector) -> usize
+    requires { ⌜ Copyable position vector (now reference) (now output) ⌝ }
+    ensures { λ r. ⌜ r ≤ 6 ⌝ }
+    ensures { λ r. ⌜ now (output .exit) ≡ withBlocks position (pointedBlock (now (reference .entry)) position vector) r (now (output .entry)) ⌝ }
 {
     if !compensation::is_whole(vector) {
         return 0;
     }
-    for block in 0..4 {
-        copy_luma_block(output, reference, position, vector, block);
+    copy_luma(output, reference, position, vector);
+    let chroma = compensation::vector_for(4, vector);
+    if !compensation::is_whole(chroma) {
+        return 4;
     }
-    4
+    copy_block(output, reference, position, chroma, 4);
+    copy_block(output, reference, position, chroma, 5);
+    6
 }
 
-// The blocks of Y that need no more than a copy: those of a macroblock with no block coded and one direction, to whole pels. Answers how many
-// it wrote. A loop with no question in it takes a third of the time.
-fn copy_luma(
+// The blocks that need no more than a copy: those of a macroblock with no block coded and one direction, at whole pels. Answers how many of the
+// six it wrote. Without a question at each block they take half the time.
+fn copy_blocks(
     output: &mut [u8],
     forward: &[u8],
     backward: &[u8],
@@ -85,7 +90,7 @@ fn copy_luma(
     coefficients: &[i16; 384],
 ) -> usize
     requires { ⌜ BlocksDrawable position motion (now forward) (now backward) (now output) ⌝ }
-    ensures { λ r. ⌜ r ≤ 4 ⌝ }
+    ensures { λ r. ⌜ r ≤ 6 ⌝ }
     ensures { λ r. ⌜ now (output .exit) ≡ withBlocks position (blockOf inverseTransform (now (forward .entry)) (now (backward .entry)) position motion pattern (now (coefficients .entry))) r (now (output .entry)) ⌝ }
 {
     if pattern != 0 {
@@ -95,10 +100,10 @@ fn copy_luma(
         if motion.backward {
             return 0;
         }
-        return copy_luma_from(output, forward, position, motion.forward_vector);
+        return copy_whole(output, forward, position, motion.forward_vector);
     }
     if motion.backward {
-        return copy_luma_from(output, backward, position, motion.backward_vector);
+        return copy_whole(output, backward, position, motion.backward_vector);
     }
     0
 }
@@ -118,7 +123,7 @@ pub fn write_macroblock(
     ensures { λ _. ⌜ now (output .exit) ≡ withMacroblock inverseTransform (now (forward .entry)) (now (backward .entry)) size address motion pattern (now (coefficients .entry)) (now (output .entry)) ⌝ }
 {
     let position = place::position_of(size, address);
-    let copied = copy_luma(
+    let copied = copy_blocks(
         output,
         forward,
         backward,

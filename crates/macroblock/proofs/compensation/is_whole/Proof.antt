@@ -1,5 +1,4 @@
 -- `compensation::is_whole` meets its contract: a part of a vector has an odd bit where halving it leaves something. Assumes nothing.
-use mathlib.Core.Path.{refl}
 use Rattle.macroblock.proofs.CompensationLaws.{halves, odd-where, even-where}
 use Rattle.macroblock.proofs.compensation.is_whole.Statement.{statement}
 use Rattle.macroblock.proofs.compensation.is_whole.Tie as tie

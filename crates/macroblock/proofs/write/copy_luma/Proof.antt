@@ -1,77 +1,69 @@
--- `write::copy_luma` meets its contract: with no block coded and one direction, each block of Y is what its vector points to. Assumes nothing.
-use mathlib.Core.Path.{_≡_, _∙_, ap, sym}
-use Prim.Native.Nat.{ℕ}
+-- `write::copy_luma` meets its contract: before block b the first b blocks are written. Assumes nothing.
+use mathlib.Core.Path.{_≡_, refl, sym, _∙_}
+use Prim.Native.Nat.{_-_, _≤_}
 use native.Mathlib.Omega.{arith}
-use borrow.Author.Needs.{needs}
-use Rattle.transform.specs.Transform.{inverseTransform}
-use Rattle.macroblock.specs.Block.{blockOf}
+use lib.ListN.{length}
+use Rattle.macroblock.specs.Place.{placeOf, putAt}
+use Rattle.macroblock.specs.Compensation.{predictedFrom, pointedBlock}
 use Rattle.macroblock.specs.Macroblock.{withBlocks}
-use Rattle.macroblock.proofs.BlocksLaws.{blocks-none}
-use Rattle.macroblock.proofs.LumaLaws.{forward-luma, backward-luma, forward-only, backward-only}
+use Rattle.macroblock.proofs.BlocksLaws.{blocks-none, blocks-more}
+use Rattle.macroblock.proofs.CopyLaws.{luma-vector, luma-readable}
 use Rattle.macroblock.proofs.write.copy_luma.Statement.{statement}
 use Rattle.macroblock.proofs.write.copy_luma.Tie as tie
 
-returns : tie.Need-returns
-returns c = (omega arith, blocks-none _ _ _)
+abbrev Inv-loop : tie.InvT-loop
+Inv-loop output₀ reference position vector block₀ output block =
+    (block ≤ 4) × (output ≡ withBlocks position (pointedBlock reference position vector) block output₀) × (length output ≡ length output₀)
 
-returns-2 : tie.Need-returns-2
-returns-2 c = (omega arith, blocks-none _ _ _)
+abbrev μ-loop : tie.MeasureT-loop
+μ-loop output₀ reference position vector block₀ output block = 4 - block
 
-copy-luma-from-requires : tie.Need-copy-luma-from-requires
-copy-luma-from-requires c κs =
-    let used = c .before .before in
-    forward-luma (used .before .before .before .before .before .pre) (used .if2 .taken)
+loop-holds : tie.Need-loop-holds Inv-loop μ-loop
+loop-holds c = (omega arith, blocks-none _ _ _, refl)
 
-same-length : tie.Need-same-length
-same-length c = search needs
+copy-block-requires : tie.Need-copy-block-requires Inv-loop μ-loop
+copy-block-requires c κs =
+    let head = c .before .before in
+    let s = head .before .before .before in
+    let below = c .before .loop-test .taken in
+    (s .pre .0 .inside, luma-readable (s .pre .0) (head .loop .block) below, s .pre .1, omega arith, head .loop .inv .2 ∙ s .pre .0 .output-whole)
 
-returns-3 : tie.Need-returns-3
-returns-3 c =
+add-block : tie.Need-add-block Inv-loop μ-loop
+add-block c = omega arith
+
+loop-less : tie.Need-loop-less Inv-loop μ-loop
+loop-less c = omega arith
+
+loop-again : tie.Need-loop-again Inv-loop μ-loop
+loop-again c =
     let call = c .before .before in
-    let one = call .before .before in
-    let used = one .before in
-    let a = used .before .before .before .before .before .args in
-    let few = call .copy-luma-from .ensures .0 in (
-      few,
-      call .copy-luma-from .ensures .1
-          ∙ forward-only inverseTransform (a .forward .now) (a .backward .now) (a .position) (a .motion) (a .coefficients .now) (call .copy-luma-from .result) few (a .output .now) (used .if2 .taken) (one .if3 .left)
-          ∙ ap (λ (pattern : ℕ). withBlocks (a .position) (blockOf inverseTransform (a .forward .now) (a .backward .now) (a .position) (a .motion) pattern (a .coefficients .now)) (call .copy-luma-from .result) (a .output .now)) (sym (used .before .if1 .left)),
+    let tested = call .before .before in
+    let head = tested .before in
+    let a = head .before .before .before .args in
+    let b = head .loop .block in (
+      omega arith,
+      call .copy-block .ensures
+          ∙ (λ i. putAt (placeOf (a .position) b) (predictedFrom (a .reference .now) (placeOf (a .position) b) (sym (luma-vector b (a .vector) (tested .loop-test .taken)) i)) (head .loop .inv .1 i))
+          ∙ blocks-more (a .position) (pointedBlock (a .reference .now) (a .position) (a .vector)) b (a .output .now),
+      call .copy-block .kept .0 ∙ head .loop .inv .2,
     )
 
-copy-luma-from-requires-2 : tie.Need-copy-luma-from-requires-2
-copy-luma-from-requires-2 c κs =
-    let used = c .before in
-    backward-luma (used .before .before .before .before .before .before .pre) (used .if4 .taken)
+same-length : tie.Need-same-length Inv-loop μ-loop
+same-length c = c .before .loop .inv .2
 
-same-length-2 : tie.Need-same-length-2
-same-length-2 c = search needs
-
-returns-4 : tie.Need-returns-4
-returns-4 c =
-    let call = c .before .before in
-    let used = call .before .before in
-    let other = used .before in
-    let a = other .before .before .before .before .before .args in
-    let few = call .copy-luma-from2 .ensures .0 in (
-      few,
-      call .copy-luma-from2 .ensures .1
-          ∙ backward-only inverseTransform (a .forward .now) (a .backward .now) (a .position) (a .motion) (a .coefficients .now) (call .copy-luma-from2 .result) few (a .output .now) (other .if2 .left) (used .if4 .taken)
-          ∙ ap (λ (pattern : ℕ). withBlocks (a .position) (blockOf inverseTransform (a .forward .now) (a .backward .now) (a .position) (a .motion) pattern (a .coefficients .now)) (call .copy-luma-from2 .result) (a .output .now)) (sym (other .before .if1 .left)),
-    )
-
-returns-5 : tie.Need-returns-5
-returns-5 c = (omega arith, blocks-none _ _ _)
+returns : tie.Need-returns Inv-loop μ-loop
+returns c = let all : c .before .loop .block ≡ 4 = omega arith in rw all at (c .before .loop .inv .1)
 
 pub copy-luma-spec : {M : Type 1} → statement M
 copy-luma-spec =
     tie.close
     (tie.spec
-    returns
-    returns-2
-    copy-luma-from-requires
+    Inv-loop
+    μ-loop
+    loop-holds
+    copy-block-requires
+    add-block
+    loop-less
+    loop-again
     same-length
-    returns-3
-    copy-luma-from-requires-2
-    same-length-2
-    returns-4
-    returns-5)
+    returns)

@@ -24,13 +24,13 @@ abbrev μ-loop : tie.MeasureT-loop
 position-of-requires : tie.Need-position-of-requires Inv-loop μ-loop
 position-of-requires c κs = c .before .before .before .pre .0 .size
 
-copy-luma-requires : tie.Need-copy-luma-requires Inv-loop μ-loop
-copy-luma-requires c κs =
+copy-blocks-requires : tie.Need-copy-blocks-requires Inv-loop μ-loop
+copy-blocks-requires c κs =
     let called = c .before in
     rw (called .position-of .ensures) (blocks-again (called .before .before .before .before .pre .0) refl)
 
 loop-holds : tie.Need-loop-holds Inv-loop μ-loop
-loop-holds c = (omega (arith, c .before .before .copy-luma .ensures .0), (λ l e. e), refl)
+loop-holds c = (omega (arith, c .before .before .copy-blocks .ensures .0), (λ l e. e), refl)
 
 write-block-requires : tie.Need-write-block-requires Inv-loop μ-loop
 write-block-requires c κs =
@@ -38,7 +38,7 @@ write-block-requires c κs =
     let copy = head .before .before .before in
     let called = copy .before .before in
     let s = called .before .before .before .before in
-    (rw (called .position-of .ensures) (blocks-again (s .pre .0) (head .loop .inv .2 ∙ copy .copy-luma .kept .0)), s .pre .1, c .before .loop-test .taken)
+    (rw (called .position-of .ensures) (blocks-again (s .pre .0) (head .loop .inv .2 ∙ copy .copy-blocks .kept .0)), s .pre .1, c .before .loop-test .taken)
 
 add-block : tie.Need-add-block Inv-loop μ-loop
 add-block c = omega arith
@@ -61,7 +61,7 @@ loop-again c =
     )
 
 same-length : tie.Need-same-length Inv-loop μ-loop
-same-length c = let head = c .before in head .loop .inv .2 ∙ head .before .before .before .copy-luma .kept .0
+same-length c = let head = c .before in head .loop .inv .2 ∙ head .before .before .before .copy-blocks .kept .0
 
 returns : tie.Need-returns Inv-loop μ-loop
 returns c =
@@ -70,7 +70,7 @@ returns c =
     let called = copy .before .before in
     let a = called .before .before .before .before .args in
     let all : head .loop .block ≡ 6 = omega arith in
-    head .loop .inv .1 (a .output .now) (copy .copy-luma .ensures .1)
+    head .loop .inv .1 (a .output .now) (copy .copy-blocks .ensures .1)
     ∙ (λ i. withBlocks (called .position-of .ensures i) (blockOf inverseTransform (a .forward .now) (a .backward .now) (called .position-of .ensures i) (a .motion) (a .pattern) (a .coefficients .now)) (all i) (a .output .now))
 
 pub write-macroblock-spec : {M : Type 1} → statement M
@@ -80,7 +80,7 @@ write-macroblock-spec =
     Inv-loop
     μ-loop
     position-of-requires
-    copy-luma-requires
+    copy-blocks-requires
     loop-holds
     write-block-requires
     add-block

@@ -1,0 +1,105 @@
+-- `write::copy_whole` meets its contract: the four blocks of Y have the vector itself, and both chroma blocks its half. Assumes nothing.
+use mathlib.Core.Path.{_≡_, sym, _∙_, subst}
+use mathlib.Core.Bool.{true}
+use native.Mathlib.Omega.{arith}
+use borrow.Author.Tests.{not-false}
+use Rattle.macroblock.specs.declared.compensation.Vector.{Vector}
+use Rattle.macroblock.specs.Place.{placeOf, putAt}
+use Rattle.macroblock.specs.Compensation.{isWhole, predictedFrom, pointedBlock, Readable}
+use Rattle.macroblock.proofs.BlocksLaws.{blocks-none, blocks-more}
+use Rattle.macroblock.proofs.CopyLaws.{chroma-vector}
+use Rattle.macroblock.proofs.write.copy_whole.Statement.{statement}
+use Rattle.macroblock.proofs.write.copy_whole.Tie as tie
+
+is-whole-requires : tie.Need-is-whole-requires
+is-whole-requires c κs = c .before .before .pre .small
+
+returns : tie.Need-returns
+returns c = (omega arith, blocks-none _ _ _)
+
+copy-luma-requires : tie.Need-copy-luma-requires
+copy-luma-requires c κs =
+    let asked = c .before .before in
+    (asked .before .before .before .pre, sym (asked .is-whole .ensures) ∙ not-false (asked .is-whole .result) (c .before .if1 .left))
+
+vector-for-requires : tie.Need-vector-for-requires
+vector-for-requires c κs = c .before .before .before .before .before .before .before .before .pre .small
+
+is-whole-requires-2 : tie.Need-is-whole-requires-2
+is-whole-requires-2 c κs =
+    let s = c .before .before .before .before .before .before .before .before .before in
+    rw (c .vector-for .ensures) (s .pre .readable 4 (omega arith) .small)
+
+same-length : tie.Need-same-length
+same-length c = c .before .before .before .before .before .copy-luma .kept .0
+
+returns-2 : tie.Need-returns-2
+returns-2 c = (omega arith, c .before .before .before .before .before .copy-luma .ensures)
+
+-- the chroma vector points to whole pels
+chroma-whole : (c : tie.Else2) → isWhole (c .before .before .vector-for .result) ≡ true
+chroma-whole c = sym (c .before .is-whole2 .ensures) ∙ not-false (c .before .is-whole2 .result) (c .if2 .left)
+
+copy-block-requires : tie.Need-copy-block-requires
+copy-block-requires c κs =
+    let halved = c .before .before .before in
+    let luma = halved .before .before .before in
+    let s = luma .before .before .before .before .before .before in
+    (s .pre .inside, rw (halved .vector-for .ensures) (s .pre .readable 4 (omega arith)), chroma-whole (c .before), omega arith, luma .copy-luma .kept .0 ∙ s .pre .output-whole)
+
+copy-block-requires-2 : tie.Need-copy-block-requires-2
+copy-block-requires-2 c κs =
+    let first = c .before .before .before in
+    let halved = first .before .before .before .before in
+    let luma = halved .before .before .before in
+    let s = luma .before .before .before .before .before .before in
+    let a = s .args in (
+      s .pre .inside,
+      rw (halved .vector-for .ensures) (subst (λ (v : Vector). Readable (placeOf (a .position) 5) v (a .reference .now)) (chroma-vector (a .vector)) (s .pre .readable 5 (omega arith))),
+      chroma-whole (first .before .before),
+      omega arith,
+      first .copy-block .kept .0 ∙ luma .copy-luma .kept .0 ∙ s .pre .output-whole,
+    )
+
+same-length-2 : tie.Need-same-length-2
+same-length-2 c =
+    let second = c .before .before in
+    let first = second .before .before .before .before in
+    let luma = first .before .before .before .before .before .before .before in
+    second .copy-block2 .kept .0 ∙ first .copy-block .kept .0 ∙ luma .copy-luma .kept .0
+
+returns-3 : tie.Need-returns-3
+returns-3 c =
+    let second = c .before .before in
+    let first = second .before .before .before .before in
+    let halved = first .before .before .before .before in
+    let luma = halved .before .before .before in
+    let a = luma .before .before .before .before .before .before .args in
+    let p = a .position in
+    let blocks = pointedBlock (a .reference .now) p (a .vector) in
+    let five = halved .vector-for .ensures ∙ sym (chroma-vector (a .vector)) in (
+      omega arith,
+      second .copy-block2 .ensures
+          ∙ (λ i. putAt (placeOf p 5) (predictedFrom (a .reference .now) (placeOf p 5) (five i)) ((
+          first .copy-block .ensures
+          ∙ (λ j. putAt (placeOf p 4) (predictedFrom (a .reference .now) (placeOf p 4) (halved .vector-for .ensures j)) (luma .copy-luma .ensures j))
+          ∙ blocks-more p blocks 4 (a .output .now)
+          ) i))
+          ∙ blocks-more p blocks 5 (a .output .now),
+    )
+
+pub copy-whole-spec : {M : Type 1} → statement M
+copy-whole-spec =
+    tie.close
+    (tie.spec
+    is-whole-requires
+    returns
+    copy-luma-requires
+    vector-for-requires
+    is-whole-requires-2
+    same-length
+    returns-2
+    copy-block-requires
+    copy-block-requires-2
+    same-length-2
+    returns-3)
