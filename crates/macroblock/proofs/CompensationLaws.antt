@@ -26,7 +26,7 @@ use Rattle.macroblock.specs.declared.place.Place.{Place}
 use Rattle.macroblock.specs.declared.compensation.Vector.{Vector}
 use Rattle.macroblock.specs.declared.compensation.Motion.{Motion}
 use Rattle.macroblock.specs.Place.{placeOf, Inside}
-use Rattle.macroblock.specs.Compensation.{vectorFor, isWhole, VectorWithin, Readable, Predictable}
+use Rattle.macroblock.specs.Compensation.{vectorFor, isWhole, halfPels, VectorWithin, Pointing, Readable, Predictable}
 use Rattle.macroblock.specs.Fit.{directionFits}
 use Rattle.macroblock.specs.Macroblock.{BlocksDrawable}
 use Rattle.macroblock.proofs.PlaceLaws.{sides, by-plane, lines-inside}
@@ -59,11 +59,13 @@ readable p v reference block inside small h fits whole = by-plane (λ q. Readabl
       order = omega arith;
       within = omega (arith, whole);
       whole = omega (arith, lines-inside 16 (p .size .width) (p .size .height) (16 * p .size .height) (le-refl (16 * p .size .height)));
-      column = omega (arith, sides inside, inside .across);
-      line = omega (arith, sides inside, inside .below);
-      small = small;
-      left = moved-lower (luma .across) (8 * (block % 2));
-      top = moved-lower (luma .below) (8 * (block / 2));
+      pointing = record {
+        column = omega (arith, sides inside, inside .across);
+        line = omega (arith, sides inside, inside .below);
+        small = small;
+        left = moved-lower (luma .across) (8 * (block % 2));
+        top = moved-lower (luma .below) (8 * (block / 2));
+      };
       across = moved-upper (luma .across) (8 * (block % 2)) (omega arith);
       below = moved-upper (luma .below) (8 * (block / 2)) (omega arith);
     }))
@@ -71,11 +73,13 @@ readable p v reference block inside small h fits whole = by-plane (λ q. Readabl
       order = omega arith;
       within = omega (arith, whole);
       whole = omega (arith, lines-inside 8 (p .size .width) (p .size .height) (8 * p .size .height) (le-refl (8 * p .size .height)));
-      column = omega (arith, sides inside, inside .across);
-      line = omega (arith, sides inside, inside .below);
-      small = record { across = chroma-within (small .across); below = chroma-within (small .below) };
-      left = chroma .across .lower;
-      top = chroma .below .lower;
+      pointing = record {
+        column = omega (arith, sides inside, inside .across);
+        line = omega (arith, sides inside, inside .below);
+        small = record { across = chroma-within (small .across); below = chroma-within (small .below) };
+        left = chroma .across .lower;
+        top = chroma .below .lower;
+      };
       across = chroma .across .upper;
       below = chroma .below .upper;
     }))
@@ -126,8 +130,7 @@ even-where {z} small e =
     eq-eqb (oddBit z) 0 (odd-none z (sym (half-left small .is) ∙ bits-eq w32 (fits (half-left small) tt) (fits (literal (pos 0)) tt) e))
 
 -- a vector without odd bits points to a place without them
-pub whole-place : {p : Place} {v : Vector} {reference : List ℕ} → Readable p v reference → isWhole v ≡ true
-    → halfPelPlace (p .x) (v .right) % 2 + halfPelPlace (p .y) (v .down) % 2 ≡ 0
+pub whole-place : {p : Place} {v : Vector} → Pointing p v → isWhole v ≡ true → halfPels p v .px % 2 + halfPels p v .py % 2 ≡ 0
 whole-place {p} {v} r e =
     let both = both-true (eqb (oddBit (v .right)) 0) (eqb (oddBit (v .down)) 0) e in
     omega (arith, place-odd (p .x) (v .right) (r .left), place-odd (p .y) (v .down) (r .top), eqb-true (oddBit (v .right)) 0 (both .0), eqb-true (oddBit (v .down)) 0 (both .1))

@@ -14,6 +14,7 @@ use Rattle.motion.specs.Vector.{chromaVector, oddBit}
 use Rattle.macroblock.specs.declared.place.Position.{Position}
 use Rattle.macroblock.specs.declared.place.Place.{Place}
 use Rattle.macroblock.specs.declared.compensation.Vector.{Vector}
+use Rattle.macroblock.specs.declared.compensation.HalfPels.{HalfPels}
 use Rattle.macroblock.specs.declared.compensation.Motion.{Motion}
 use Rattle.macroblock.specs.Place.{placeOf}
 
@@ -29,9 +30,13 @@ planeOf p picture = take (p .to - p .from) (drop (p .from) picture)
 abbrev pub isWhole : Vector → Bool
 isWhole v = eqb (oddBit (v .right)) 0 && eqb (oddBit (v .down)) 0
 
+-- where a vector for the plane points to from a place, in half pels
+abbrev pub halfPels : Place → Vector → HalfPels
+halfPels p v = record { px = halfPelPlace (p .x) (v .right); py = halfPelPlace (p .y) (v .down) }
+
 -- the block that a vector for the plane points to
 unfoldable pub predictedFrom : List ℕ → Place → Vector → List ℕ
-predictedFrom reference p v = prediction (planeOf p reference) (p .stride) (halfPelPlace (p .x) (v .right)) (halfPelPlace (p .y) (v .down))
+predictedFrom reference p v = prediction (planeOf p reference) (p .stride) (halfPels p v .px) (halfPels p v .py)
 
 -- the block of a macroblock that a vector for use points to
 abbrev pub pointedBlock : List ℕ → Position → Vector → ℕ → List ℕ
@@ -58,18 +63,22 @@ pub record MotionWithin (b : ℕ) (m : Motion) : Type 0 where
   pub forward : VectorWithin b (m .«forward_vector»)
   pub backward : VectorWithin b (m .«backward_vector»)
 
--- the block that a vector for the plane points to is in that plane of the reference
-pub record Readable (p : Place) (v : Vector) (reference : List ℕ) : Type 0 where
-  pub order : p .from ≤ p .to
-  pub within : p .to ≤ length reference
-  pub whole : p .lines * p .stride ≤ p .to - p .from
+-- a vector for the plane points to no pel before the first, of numbers that are small
+pub record Pointing (p : Place) (v : Vector) : Type 0 where
   pub column : p .x ≤ 65536
   pub line : p .y ≤ 65536
   pub small : VectorWithin 2048 v
   pub left : pos 0 ≤ℤ pointed (p .x) (v .right)
   pub top : pos 0 ≤ℤ pointed (p .y) (v .down)
-  pub across : halfPelPlace (p .x) (v .right) + 16 ≤ 2 * p .stride
-  pub below : halfPelPlace (p .y) (v .down) + 16 ≤ 2 * p .lines
+
+-- the block that a vector for the plane points to is in that plane of the reference
+pub record Readable (p : Place) (v : Vector) (reference : List ℕ) : Type 0 where
+  pub order : p .from ≤ p .to
+  pub within : p .to ≤ length reference
+  pub whole : p .lines * p .stride ≤ p .to - p .from
+  pub pointing : Pointing p v
+  pub across : halfPels p v .px + 16 ≤ 2 * p .stride
+  pub below : halfPels p v .py + 16 ≤ 2 * p .lines
 
 -- the same for each direction that is used
 pub record Predictable (m : Motion) (p : Place) (block : ℕ) (forward backward : List ℕ) : Type 0 where

@@ -2,7 +2,7 @@
 ghost use mathlib.Core.Path.{_≡_};
 ghost use mathlib.Core.Bool.{true};
 ghost use Prim.Native.Nat.{_<_};
-ghost use Rattle.macroblock.specs.Compensation.{VectorWithin, vectorFor, isWhole, Readable, predictedFrom, Predictable, predictedBlock};
+ghost use Rattle.macroblock.specs.Compensation.{VectorWithin, vectorFor, isWhole, halfPels, Pointing, Readable, predictedFrom, Predictable, predictedBlock};
 use crate::place::Place;
 
 // A vector for use, in half pels.
@@ -32,6 +32,22 @@ pub fn vector_for(block: usize, vector: Vector) -> Vector
     Vector { right, down }
 }
 
+// A place in a plane, counted in half pels.
+pub struct HalfPels {
+    pub px: usize,
+    pub py: usize,
+}
+
+// Where the vector for the block's plane points to.
+fn half_pels(place: Place, vector: Vector) -> HalfPels
+    requires { ⌜ Pointing place vector ⌝ }
+    ensures { λ r. ⌜ r ≡ halfPels place vector ⌝ }
+{
+    let px = motion::fit::half_pel_place(place.x, vector.right);
+    let py = motion::fit::half_pel_place(place.y, vector.down);
+    HalfPels { px, py }
+}
+
 // The prediction from one reference, by the vector for the block's plane.
 fn predict_block_from(reference: &[u8], place: Place, vector: Vector) -> [u8; 64]
     requires { ⌜ Readable place vector (now reference) ⌝ }
@@ -39,9 +55,14 @@ fn predict_block_from(reference: &[u8], place: Place, vector: Vector) -> [u8; 64
 {
     let from = place.from;
     let to = place.to;
-    let px = motion::fit::half_pel_place(place.x, vector.right);
-    let py = motion::fit::half_pel_place(place.y, vector.down);
-    motion::prediction::predict_block(&reference[from..to], place.stride, place.lines, px, py)
+    let at = half_pels(place, vector);
+    motion::prediction::predict_block(
+        &reference[from..to],
+        place.stride,
+        place.lines,
+        at.px,
+        at.py,
+    )
 }
 
 // Whether a vector points to whole pels.
@@ -65,9 +86,14 @@ pub fn copy_block_from(reference: &[u8], place: Place, vector: Vector) -> [u8; 6
 {
     let from = place.from;
     let to = place.to;
-    let px = motion::fit::half_pel_place(place.x, vector.right);
-    let py = motion::fit::half_pel_place(place.y, vector.down);
-    motion::prediction::copy_block(&reference[from..to], place.stride, place.lines, px, py)
+    let at = half_pels(place, vector);
+    motion::prediction::copy_block(
+        &reference[from..to],
+        place.stride,
+        place.lines,
+        at.px,
+        at.py,
+    )
 }
 
 // The prediction of a block by the directions that are used.

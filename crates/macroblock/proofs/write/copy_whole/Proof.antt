@@ -28,7 +28,7 @@ vector-for-requires c κs = c .before .before .before .before .before .before .b
 is-whole-requires-2 : tie.Need-is-whole-requires-2
 is-whole-requires-2 c κs =
     let s = c .before .before .before .before .before .before .before .before .before in
-    rw (c .vector-for .ensures) (s .pre .readable 4 (omega arith) .small)
+    rw (c .vector-for .ensures) (s .pre .readable 4 (omega arith) .pointing .small)
 
 same-length : tie.Need-same-length
 same-length c = c .before .before .before .before .before .copy-luma .kept .0
