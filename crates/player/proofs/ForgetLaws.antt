@@ -21,8 +21,8 @@ use Rattle.picture_header.specs.declared.opening.Opened.{Opened}
 use Rattle.picture_header.specs.declared.opening.Opened.the-variants as Opened
 use Rattle.picture.specs.Picture.{Picture, answerOf, pictureOf}
 use Rattle.picture.specs.declared.reader.Answer.{Answer}
-use Rattle.picture.proofs.AcceptanceLaws.{accepted-answer, unopened-refused}
-use Rattle.picture.proofs.DemandLaws.{unopened, output-keeps-length, old-bytes-forgotten}
+use Rattle.picture_laws.proofs.AcceptanceLaws.{accepted-answer, unopened-refused}
+use Rattle.picture_laws.proofs.DemandLaws.{unopened, output-keeps-length, old-bytes-forgotten}
 use Rattle.picture.proofs.StartLaws.{opened}
 use Rattle.reel.proofs.ReferenceLaws.{kept-lent}
 use Rattle.reel.specs.References.{overwritten}

@@ -18,15 +18,15 @@ use Rattle.picture_header.specs.Opening.{openedOf}
 use Rattle.picture_header.specs.Size.{count}
 use Rattle.picture_state.specs.Plan.{planOf}
 use Rattle.picture_state.specs.State.{startState}
-use Rattle.picture.proofs.DemandLaws.{picture-is, unopened}
+use Rattle.picture_laws.proofs.DemandLaws.{picture-is, unopened}
 use Rattle.picture.proofs.SoundLaws.{taken-kept, start-within}
 use Rattle.picture.proofs.StartLaws.{opened}
-use Rattle.picture.proofs.StopLaws.{picture-stops}
+use Rattle.picture_laws.proofs.StopLaws.{picture-stops}
 use Rattle.picture.specs.Stopped.{Reached, Stop, at-record, at-end, reached}
 use Rattle.picture.specs.MacroblockRecord.{contextOf, Acted, ownDrawn, drawn, macroblockActed}
 use Rattle.picture.specs.Picture.{Picture, isComplete, ended, runFrom, pictureOf}
 use Rattle.picture.specs.Sound.{StateWithin}
 use Rattle.picture.specs.Step.{matrixOutcome, sliceOutcome, unwritten, acted, Taken, takenAt}
 use Rattle.refusals.specs.Refusal.{accepted, numberOf}
 use Rattle.symbols.specs.Slice.{sliceOf}
 use Rattle.transform.specs.Line.{passed}

@@ -16,13 +16,13 @@ use Rattle.picture_header.specs.declared.opening.Opened.{Opened}
 use Rattle.picture_header.specs.declared.opening.Opened.the-variants as Opened
 use Rattle.picture_state.specs.State.{startState}
 use Rattle.picture_state.specs.declared.state.PictureState.{PictureState}
-use Rattle.picture.proofs.DemandLaws.{taken-step, picture-is}
+use Rattle.picture_laws.proofs.DemandLaws.{taken-step, picture-is}
 use Rattle.picture.proofs.SoundLaws.{taken-kept, taken-ends, start-within}
 use Rattle.picture.proofs.StartLaws.{opened}
 use Rattle.picture.specs.Picture.{Picture, refusedAt, runFrom, pictureOf}
 use Rattle.picture.specs.Sound.{StateWithin}
 use Rattle.picture.specs.Step.{Taken, takenAt}
 use Rattle.picture.specs.Stopped.{Stop, at-record, at-end, reached, verdictAt, Stopped}
 
 module _ (transform : List ℤ → ℕ → ℤ) (file forward backward : List ℕ) where
   abbrev ran : ℕ → ℕ → PictureState → List ℕ → Picture

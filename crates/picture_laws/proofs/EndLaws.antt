@@ -75,12 +75,12 @@ use Rattle.picture_header.specs.declared.header.HeaderAnswer.{HeaderAnswer}
 use Rattle.picture_header.specs.declared.header.HeaderAnswer.the-variants as Header
 use Rattle.picture_header.specs.declared.opening.Opened.{Opened}
 use Rattle.picture_header.specs.declared.opening.Opened.the-variants as Opened
 use Rattle.picture.specs.MacroblockRecord.{contextOf, Acted, ownDrawn, drawn, macroblockActed}
 use Rattle.picture.specs.Step.{matrixOutcome, sliceOutcome, acted, takenAt}
-use Rattle.picture.proofs.DemandLaws.{unopened}
-use Rattle.picture.proofs.StopLaws.{picture-stops}
+use Rattle.picture_laws.proofs.DemandLaws.{unopened}
+use Rattle.picture_laws.proofs.StopLaws.{picture-stops}
 use Rattle.picture.specs.Picture.{Picture, pictureOf}
 use Rattle.picture.specs.Stopped.{Reached, Stop, at-record, at-end, verdictAt}
 
 -- a refusal that is not 7
 abbrev pub NotEnd : Refusal → Type 0

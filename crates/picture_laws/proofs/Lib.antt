@@ -1,0 +1,4 @@
+pub mod DemandLaws
+pub mod AcceptanceLaws
+pub mod StopLaws
+pub mod EndLaws
