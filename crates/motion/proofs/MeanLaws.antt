@@ -32,13 +32,23 @@ mean-interpolated (suc (suc across)) down pel a d = absurd (omega arith)
 mean-interpolated zero (suc (suc down)) pel a d = absurd (omega arith)
 mean-interpolated (suc zero) (suc (suc down)) pel a d = absurd (omega arith)
 
+-- where one of the two is odd it is the mean of two, whichever it is
+half-interpolated : (across down : ℕ) (pel : ℕ → ℕ → ℕ) → across + down ≡ 1
+    → meanOf 2 (pel 0 0 + pel across down) ≡ interpolated across down (pel 0 0) (pel 1 0) (pel 0 1) (pel 1 1)
+half-interpolated (suc zero) zero pel e = refl
+half-interpolated zero (suc zero) pel e = refl
+half-interpolated zero zero pel e = absurd (omega arith)
+half-interpolated (suc (suc across)) down pel e = absurd (omega arith)
+half-interpolated zero (suc (suc down)) pel e = absurd (omega arith)
+half-interpolated (suc zero) (suc down) pel e = absurd (omega arith)
+
 -- at a place of whole pels it is the pel
 whole-interpolated : (across down pel right below diagonal : ℕ) → across + down ≡ 0 → pel ≡ interpolated across down pel right below diagonal
 whole-interpolated zero zero pel right below diagonal e = refl
 whole-interpolated (suc across) down pel right below diagonal e = absurd (omega arith)
 whole-interpolated zero (suc down) pel right below diagonal e = absurd (omega arith)
 
--- ---- a predicted pel in the two cases in which it is worked out
+-- ---- a predicted pel in the three cases in which it is worked out
 module _ (plane : List ℕ) (stride px py k : ℕ) where
   -- the pel of the block's place, so many columns to the right and lines below
   abbrev near : ℕ → ℕ → ℕ
@@ -47,6 +57,10 @@ module _ (plane : List ℕ) (stride px py k : ℕ) where
   pub predicted-whole : px % 2 + py % 2 ≡ 0 → pelAt plane stride (px / 2 + k % 8) (py / 2 + k / 8) ≡ predictedPel plane stride px py k
   unfolding predictedPel
   predicted-whole e = whole-interpolated (px % 2) (py % 2) _ _ _ _ e
+
+  pub predicted-half : px % 2 + py % 2 ≡ 1 → meanOf 2 (near 0 0 + near (px % 2) (py % 2)) ≡ predictedPel plane stride px py k
+  unfolding predictedPel
+  predicted-half e = half-interpolated (px % 2) (py % 2) near e ∙ simp add-zero
 
   pub predicted-mean : meanOf 4 (near 0 0 + near (px % 2) 0 + near 0 (py % 2) + near (px % 2) (py % 2)) ≡ predictedPel plane stride px py k
   unfolding predictedPel

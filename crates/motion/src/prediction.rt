@@ -18,8 +18,8 @@ fn mean_of_two(a: u8, b: u8) -> u8
     ((a as u32 + b as u32 + 1) / 2) as u8
 }
 
-// Pel k of the block at (px, py). Where either is odd it is a mean of four, in which an even one makes two of them the same pel: one vector
-// loop then serves all three cases with a half pel.
+// Pel k of the block at (px, py). Where one of them is odd it is the mean of two, whichever it is, so that one vector loop serves both cases; and where
+// both are, of four.
 fn predict_pel(plane: &[u8], stride: usize, lines: usize, px: usize, py: usize, k: usize) -> u8
     requires { ⌜ (px + 16 ≤ 2 * stride) × (py + 16 ≤ 2 * lines) × (lines * stride ≤ length (now plane)) × (k < 64) ⌝ }
     ensures { λ r. ⌜ r ≡ predictedPel (now (plane .entry)) stride px py k ⌝ }
@@ -34,6 +34,9 @@ fn predict_pel(plane: &[u8], stride: usize, lines: usize, px: usize, py: usize, 
     }
     let right = px % 2;
     let below = py % 2 * stride;
+    if odd == 1 {
+        return mean_of_two(pel, plane[at + below + right]);
+    }
     mean_of_four(
         pel,
         plane[at + right],

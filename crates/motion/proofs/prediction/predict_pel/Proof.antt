@@ -1,11 +1,11 @@
--- `prediction::predict_pel` meets its contract: at whole pels it is the pel, and elsewhere the mean of four is the definition's by `predicted-mean`. Assumes nothing.
+-- `prediction::predict_pel` meets its contract: at whole pels it is the pel, and elsewhere the mean of two or of four is the definition's by `predicted-half` and `predicted-mean`. Assumes nothing.
 use mathlib.Core.Path.{_≡_}
 use Prim.Native.Nat.{ℕ, _+_, _*_, _/_, _%_, _<_}
 use native.Mathlib.Nat.{add-zero}
 use native.Mathlib.Omega.{arith}
 use borrow.Author.Needs.{needs}
 use lib.Arith.{digits-lt}
-use Rattle.motion.proofs.MeanLaws.{predicted-whole, predicted-mean}
+use Rattle.motion.proofs.MeanLaws.{predicted-whole, predicted-half, predicted-mean}
 use Rattle.motion.proofs.prediction.predict_pel.Statement.{statement}
 use Rattle.motion.proofs.prediction.predict_pel.Tie as tie
 
@@ -51,33 +51,52 @@ returns c = let a = c .before .before .before .args in predicted-whole (a .plane
 mul-below : tie.Need-mul-below
 mul-below c = omega (arith, last (c .before .before .before))
 
+add-mean-of-two : tie.Need-add-mean-of-two
+add-mean-of-two c = omega (arith, last (c .before .before .before .before))
+
+add-mean-of-two-2 : tie.Need-add-mean-of-two-2
+add-mean-of-two-2 c = omega (arith, last (c .before .before .before .before))
+
+shared-slice-read-mean-of-two : tie.Need-shared-slice-read-mean-of-two
+shared-slice-read-mean-of-two c = omega (arith, last (c .before .before .before .before .before))
+
+mean-of-two-requires : tie.Need-mean-of-two-requires
+mean-of-two-requires c κs = search needs
+
+returns-2 : tie.Need-returns-2
+returns-2 c =
+    let one = c .before .before in
+    let a = one .before .before .before .before .args in
+    rw (c .mean-of-two .ensures, farther (a .stride) (a .px / 2 + a .k % 8) (a .py / 2 + a .k / 8) (a .px % 2) (a .py % 2))
+    (simp add-zero at (predicted-half (a .plane .now) (a .stride) (a .px) (a .py) (a .k) (one .if2 .taken)))
+
 add-mean-of-four : tie.Need-add-mean-of-four
-add-mean-of-four c = omega (arith, last (c .before .before .before))
+add-mean-of-four c = omega (arith, last (c .before .before .before .before))
 
 shared-slice-read-mean-of-four : tie.Need-shared-slice-read-mean-of-four
-shared-slice-read-mean-of-four c = omega (arith, last (c .before .before .before .before))
+shared-slice-read-mean-of-four c = omega (arith, last (c .before .before .before .before .before))
 
 add-mean-of-four-2 : tie.Need-add-mean-of-four-2
-add-mean-of-four-2 c = omega (arith, last (c .before .before .before .before))
+add-mean-of-four-2 c = omega (arith, last (c .before .before .before .before .before))
 
 shared-slice-read-mean-of-four-2 : tie.Need-shared-slice-read-mean-of-four-2
-shared-slice-read-mean-of-four-2 c = omega (arith, last (c .before .before .before .before .before))
+shared-slice-read-mean-of-four-2 c = omega (arith, last (c .before .before .before .before .before .before))
 
 add-mean-of-four-3 : tie.Need-add-mean-of-four-3
-add-mean-of-four-3 c = omega (arith, last (c .before .before .before .before .before))
+add-mean-of-four-3 c = omega (arith, last (c .before .before .before .before .before .before))
 
 add-mean-of-four-4 : tie.Need-add-mean-of-four-4
-add-mean-of-four-4 c = omega (arith, last (c .before .before .before .before .before))
+add-mean-of-four-4 c = omega (arith, last (c .before .before .before .before .before .before))
 
 shared-slice-read-mean-of-four-3 : tie.Need-shared-slice-read-mean-of-four-3
-shared-slice-read-mean-of-four-3 c = omega (arith, last (c .before .before .before .before .before .before))
+shared-slice-read-mean-of-four-3 c = omega (arith, last (c .before .before .before .before .before .before .before))
 
 mean-of-four-requires : tie.Need-mean-of-four-requires
 mean-of-four-requires c κs = search needs
 
-returns-2 : tie.Need-returns-2
-returns-2 c =
-    let a = c .before .before .before .before .before .before .before .args in
+returns-3 : tie.Need-returns-3
+returns-3 c =
+    let a = c .before .before .before .before .before .before .before .before .args in
     let x = a .px / 2 + a .k % 8 in
     let y = a .py / 2 + a .k / 8 in
     rw (c .mean-of-four .ensures, farther (a .stride) x y (a .px % 2) (a .py % 2), below (a .stride) x y (a .py % 2), across (a .stride) x y (a .px % 2))
@@ -95,6 +114,11 @@ predict-pel-spec =
     add-odd
     returns
     mul-below
+    add-mean-of-two
+    add-mean-of-two-2
+    shared-slice-read-mean-of-two
+    mean-of-two-requires
+    returns-2
     add-mean-of-four
     shared-slice-read-mean-of-four
     add-mean-of-four-2
@@ -103,4 +127,4 @@ predict-pel-spec =
     add-mean-of-four-4
     shared-slice-read-mean-of-four-3
     mean-of-four-requires
-    returns-2)
+    returns-3)
