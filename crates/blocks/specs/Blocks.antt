@@ -6,6 +6,7 @@ use Prim.Native.Nat.{ℕ, zero, suc, _+_, _-_, _*_, _/_, _%_, _^_, _≤_}
 use lib.Dec.{leb, ltb, eqb}
 use lib.IntN.{ℤ, pos, negsuc}
 use lib.ListN.{set, drop}
+use Rattle.lists.specs.Scatter.{scatter}
 use Rattle.integers.specs.Limit.{inRange}
 use Rattle.coefficient.specs.Scaling.{intraDc}
 use Rattle.refusals.specs.declared.Refusal.the-variants.{BodyLength, Coefficient, DcCoefficient}
@@ -109,10 +110,15 @@ isCoded pattern block = eqb (pattern / 2 ^ (5 - block) % 2) 1
 abbrev pub codingOf : BlocksCoding → ℕ → BlockCoding
 codingOf c block = record { block = block; intra = c .intra; scale = c .scale }
 
+-- a coded block's coefficients are 0 before its first one lands
+unfoldable pub cleared : ℕ → List ℤ → List ℤ
+cleared block l = scatter (λ k. 64 * block + k) (λ k. pos 0) 64 l
+
 -- a block, if it is coded
 unfoldable pub blockOf : BlocksCoding → List ℕ → ℕ → DcPasts → List ℕ → Reading BlockAnswer
 blockOf c matrix block pasts l =
     only (isCoded (c .pattern) block) (plain (Block.Legal pasts (record { at = 0 }))) $
+    storing (cleared block) $
     cond (c .intra) (intraBlockOf (codingOf c block) matrix pasts l) (interBlockOf (codingOf c block) matrix pasts l)
 
 -- go on after a block, or refuse; what the block stored stays

@@ -5,7 +5,7 @@ ghost use lib.ListN.{drop};
 ghost use mathlib.Core.Bool.{true};
 ghost use Rattle.tables.specs.Tables.{zigzag};
 ghost use Rattle.pairs.specs.Pairs.{Coded};
-ghost use Rattle.blocks.specs.Blocks.{LegalPasts, BlocksCoded, legalDifference, legalDc, dcOf, pastOf, withPast, legalCount, firstPosition, levelsOf, intraBlockOf, interBlockOf, isCoded, blockOf, blocksOf};
+ghost use Rattle.blocks.specs.Blocks.{LegalPasts, BlocksCoded, legalDifference, legalDc, dcOf, pastOf, withPast, legalCount, firstPosition, levelsOf, intraBlockOf, interBlockOf, isCoded, cleared, blockOf, blocksOf};
 use format3::field::ByteField;
 use format3::field::Cursor;
 use format3::field::SignedField;
@@ -239,6 +239,16 @@ pub fn is_coded(pattern: u8, block: usize) -> bool
     from_block % 2 == 1
 }
 
+// The block's sixty-four coefficients made 0, whatever they were.
+fn clear_block(coefficients: &mut [i16; 384], block: usize)
+    requires { ⌜ block < 6 ⌝ }
+    ensures { λ _. ⌜ now (coefficients .exit) ≡ cleared block (now (coefficients .entry)) ⌝ }
+{
+    for k in 0..64 {
+        coefficients[64 * block + k] = 0;
+    }
+}
+
 // A block, if it is coded, from an offset on.
 fn read_block(
     rest: &[u8],
@@ -257,6 +267,7 @@ fn read_block(
     if !is_coded(coding.pattern, block) {
         return BlockAnswer::Legal(pasts, Cursor { at: 0 });
     }
+    clear_block(coefficients, block);
     let own = format3::field::after(rest, at);
     let intra = coding.intra;
     let one = BlockCoding {

@@ -12,6 +12,7 @@ use blocks::BlocksCoding;
 use blocks::DcPasts;
 use format3::field::ByteField;
 use format3::field::Cursor;
+use matrices::Matrices;
 use refusals::Refusal;
 use symbols::macroblock_head::HeadAnswer;
 use symbols::macroblock_head::HeadContext;
@@ -119,23 +120,24 @@ fn pasts_after(intra: bool, running: DcPasts) -> DcPasts
     reset_pasts()
 }
 
-// The blocks, with the matrix that the macroblock's kind uses.
+// The blocks, with the matrix that the macroblock's kind uses: the other is not copied.
 fn read_coded_blocks(
     rest: &[u8],
     coding: BlocksCoding,
     dc: DcPasts,
-    intra_matrix: &[u8; 64],
-    non_intra_matrix: &[u8; 64],
+    matrices: Matrices,
     coefficients: &mut [i16; 384],
 ) -> BlockAnswer
     requires { ⌜ LegalPasts dc × BlocksCoded coding ⌝ }
-    ensures { λ r. ⌜ r ≡ codedBlocksOf coding (now («intra_matrix» .entry)) (now («non_intra_matrix» .entry)) dc (now (rest .entry)) .answer ⌝ }
-    ensures { λ r. ⌜ now (coefficients .exit) ≡ codedBlocksOf coding (now («intra_matrix» .entry)) (now («non_intra_matrix» .entry)) dc (now (rest .entry)) .store (now (coefficients .entry)) ⌝ }
+    ensures { λ r. ⌜ r ≡ codedBlocksOf coding (matrices .intra) (matrices .«non_intra») dc (now (rest .entry)) .answer ⌝ }
+    ensures { λ r. ⌜ now (coefficients .exit) ≡ codedBlocksOf coding (matrices .intra) (matrices .«non_intra») dc (now (rest .entry)) .store (now (coefficients .entry)) ⌝ }
 {
     if coding.intra {
-        return blocks::read_blocks(rest, dc, coding, intra_matrix, coefficients);
+        let intra = matrices.intra;
+        return blocks::read_blocks(rest, dc, coding, &intra, coefficients);
     }
-    blocks::read_blocks(rest, dc, coding, non_intra_matrix, coefficients)
+    let non_intra = matrices.non_intra;
+    blocks::read_blocks(rest, dc, coding, &non_intra, coefficients)
 }
 
 // The pattern and the blocks, after which no byte is left (6).
@@ -143,13 +145,12 @@ fn read_residue(
     rest: &[u8],
     head: MacroblockHead,
     dc: DcPasts,
-    intra_matrix: &[u8; 64],
-    non_intra_matrix: &[u8; 64],
+    matrices: Matrices,
     coefficients: &mut [i16; 384],
 ) -> ResidueAnswer
     requires { ⌜ LegalPasts dc × (legalScale (head .scale) ≡ true) ⌝ }
-    ensures { λ r. ⌜ r ≡ residueOf head (now («intra_matrix» .entry)) (now («non_intra_matrix» .entry)) dc (now (rest .entry)) .answer ⌝ }
-    ensures { λ r. ⌜ now (coefficients .exit) ≡ residueOf head (now («intra_matrix» .entry)) (now («non_intra_matrix» .entry)) dc (now (rest .entry)) .store (now (coefficients .entry)) ⌝ }
+    ensures { λ r. ⌜ r ≡ residueOf head (matrices .intra) (matrices .«non_intra») dc (now (rest .entry)) .answer ⌝ }
+    ensures { λ r. ⌜ now (coefficients .exit) ≡ residueOf head (matrices .intra) (matrices .«non_intra») dc (now (rest .entry)) .store (now (coefficients .entry)) ⌝ }
 {
     let intra = crate::vectors::gives_part(head.flags, INTRA);
     match read_pattern(rest, head.flags) {
@@ -165,8 +166,7 @@ fn read_residue(
                 blocks,
                 coding,
                 dc,
-                intra_matrix,
-                non_intra_matrix,
+                matrices,
                 coefficients,
             ) {
                 BlockAnswer::Refused(refusal) => ResidueAnswer::Refused(refusal),
@@ -186,20 +186,19 @@ fn read_after_head(
     rest: &[u8],
     head: MacroblockHead,
     context: MacroblockContext,
-    intra_matrix: &[u8; 64],
-    non_intra_matrix: &[u8; 64],
+    matrices: Matrices,
     coefficients: &mut [i16; 384],
 ) -> SymbolsAnswer
     requires { ⌜ (legalScale (head .scale) ≡ true) × LegalContext context ⌝ }
-    ensures { λ r. ⌜ r ≡ afterHeadOf context head (now («intra_matrix» .entry)) (now («non_intra_matrix» .entry)) (now (rest .entry)) .answer ⌝ }
-    ensures { λ r. ⌜ now (coefficients .exit) ≡ afterHeadOf context head (now («intra_matrix» .entry)) (now («non_intra_matrix» .entry)) (now (rest .entry)) .store (now (coefficients .entry)) ⌝ }
+    ensures { λ r. ⌜ r ≡ afterHeadOf context head (matrices .intra) (matrices .«non_intra») (now (rest .entry)) .answer ⌝ }
+    ensures { λ r. ⌜ now (coefficients .exit) ≡ afterHeadOf context head (matrices .intra) (matrices .«non_intra») (now (rest .entry)) .store (now (coefficients .entry)) ⌝ }
 {
     match crate::vectors::read_vectors(rest, head.flags, context.forward_f, context.backward_f) {
         VectorsAnswer::Refused(refusal) => SymbolsAnswer::Refused(refusal),
         VectorsAnswer::Legal(vectors, cursor) => {
             let left = format3::field::after(rest, cursor.at);
             let dc = starting_pasts(context.dc, head.increment);
-            match read_residue(left, head, dc, intra_matrix, non_intra_matrix, coefficients) {
+            match read_residue(left, head, dc, matrices, coefficients) {
                 ResidueAnswer::Refused(refusal) => SymbolsAnswer::Refused(refusal),
                 ResidueAnswer::Legal(pattern, dc_after) => {
                     let forward = vectors.forward;
@@ -223,13 +222,12 @@ fn read_after_head(
 pub fn read_macroblock(
     body: &[u8],
     context: MacroblockContext,
-    intra_matrix: &[u8; 64],
-    non_intra_matrix: &[u8; 64],
+    matrices: Matrices,
     coefficients: &mut [i16; 384],
 ) -> SymbolsAnswer
     requires { ⌜ LegalContext context ⌝ }
-    ensures { λ r. ⌜ r ≡ symbolsOf context (now («intra_matrix» .entry)) (now («non_intra_matrix» .entry)) (now (body .entry)) ⌝ }
-    ensures { λ r. ⌜ now (coefficients .exit) ≡ coefficientsOf context (now («intra_matrix» .entry)) (now («non_intra_matrix» .entry)) (now (body .entry)) (now (coefficients .entry)) ⌝ }
+    ensures { λ r. ⌜ r ≡ symbolsOf context (matrices .intra) (matrices .«non_intra») (now (body .entry)) ⌝ }
+    ensures { λ r. ⌜ now (coefficients .exit) ≡ coefficientsOf context (matrices .intra) (matrices .«non_intra») (now (body .entry)) (now (coefficients .entry)) ⌝ }
 {
     match symbols::macroblock_head::read_head(body, context.head) {
         HeadAnswer::Refused(refusal) => SymbolsAnswer::Refused(refusal),
@@ -239,8 +237,7 @@ pub fn read_macroblock(
                 rest,
                 head,
                 context,
-                intra_matrix,
-                non_intra_matrix,
+                matrices,
                 coefficients,
             )
         }

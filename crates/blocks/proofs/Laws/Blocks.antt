@@ -9,8 +9,10 @@ use native.Mathlib.Omega.{arith}
 use borrow.Author.Tests.{leb-true}
 use lib.Dec.{leb, ltb, eqb}
 use lib.IntN.{ℤ, pos, negsuc}
-use lib.ListN.{drop}
-use Rattle.integers.specs.Bound.{Within}
+use lib.ListN.{length, drop}
+use Rattle.lists.specs.Scatter.{scatter}
+use Rattle.lists.proofs.Scatter.{scatter-at}
+use Rattle.integers.specs.Bound.{Within, at}
 use Rattle.integers.proofs.Bound.{within-literal, within-more}
 use Rattle.integers.proofs.Limit.{range-between, between-within}
 use Rattle.coefficient.specs.Scaling.{intraDc}
@@ -33,9 +35,9 @@ use Rattle.blocks.specs.declared.LevelsAnswer.the-variants as Levels
 use Rattle.blocks.specs.declared.BlockAnswer.{BlockAnswer}
 use Rattle.blocks.specs.declared.BlockAnswer.the-variants as Block
 use Rattle.pairs.specs.Reading.{Reading, plain, storing}
-use Rattle.blocks.specs.Blocks.{legalDifference, legalDc, dcOf, pastOf, withPast, storedDc, legalCount, firstPosition, countOf, levelsOf, afterLevels, levelsThen, dcThen, intraBlockOf, interBlockOf, isCoded, codingOf, blockOf, blockThen, blocksOf, LegalPasts}
+use Rattle.blocks.specs.Blocks.{legalDifference, legalDc, dcOf, pastOf, withPast, storedDc, legalCount, firstPosition, countOf, levelsOf, afterLevels, levelsThen, dcThen, intraBlockOf, interBlockOf, isCoded, codingOf, cleared, blockOf, blockThen, blocksOf, LegalPasts}
 use Rattle.pairs.specs.Pairs.{pairsOf}
-use Rattle.pairs.proofs.Laws.Reading.{Keeps, keeps-set, Sound, sound-plain, sound-storing}
+use Rattle.pairs.proofs.Laws.Reading.{Keeps, keeps-none, keeps-both, keeps-set, Sound, sound-plain, sound-storing}
 use Rattle.pairs.proofs.Laws.Pairs.{pairs-keep}
 
 pub difference-within : (difference : ℤ) → legalDifference difference ≡ true → Within 255 difference
@@ -165,15 +167,50 @@ inter-sound c matrix pasts l p =
     levels-then (levelsOf c matrix l) _ (levels-sound c matrix l) λ count h.
     block-legal _ _ (record { legal = p; short = omega arith })
 
-pub block-sound : (c : BlocksCoding) (matrix : List ℕ) (block : ℕ) (pasts : DcPasts) (l : List ℕ) → LegalPasts pasts → Sound BlockSound (blockOf c matrix block pasts l)
-unfolding blockOf
-block-sound c matrix block pasts l p =
-    only-all (Sound BlockSound) (isCoded (c .pattern) block) _ _ (sound-plain (block-legal _ _ (record { legal = p; short = omega arith }))) λ coded.
-    go (c .intra)
+-- ---- a block made 0
+zeros-keep : (block n : ℕ) → Keeps (scatter (λ k. 64 * block + k) (λ k. pos 0) n)
+unfolding scatter
+zeros-keep block zero = keeps-none
+zeros-keep block (suc n) = keeps-both (zeros-keep block n) (keeps-set (64 * block + n) (pos 0) (within-literal tt))
+
+cleared-keeps : (block : ℕ) → Keeps (cleared block)
+unfolding cleared
+cleared-keeps block = zeros-keep block 64
+
+-- place i of the coefficients is one of the block's
+pub record OfBlock (block i : ℕ) : Type 0 where
+  pub first : 64 * block ≤ i
+  pub last : i < 64 * block + 64
+
+cleared-at : (block i : ℕ) (l : List ℤ) → OfBlock block i → 64 * block + 64 ≤ length l → at (cleared block l) i ≡ pos 0
+unfolding cleared
+cleared-at block i l o h =
+    let k : ℕ = i - 64 * block in
+    let here : i ≡ 64 * block + k = omega (arith, o .first) in
+    ap (λ (j : ℕ). at (scatter (λ k. 64 * block + k) (λ k. pos 0) 64 l) j) here
+    ∙ scatter-at (λ k. 64 * block + k) (λ k. pos 0) 64 l k (pos 0) (omega (arith, o .first, o .last)) (omega (arith, o .first, o .last)) (λ j a b e. omega arith)
+
+kind-sound : (c : BlocksCoding) (matrix : List ℕ) (block : ℕ) (pasts : DcPasts) (l : List ℕ) → LegalPasts pasts
+    → Sound BlockSound (cond (c .intra) (intraBlockOf (codingOf c block) matrix pasts l) (interBlockOf (codingOf c block) matrix pasts l))
+kind-sound c matrix block pasts l p = go (c .intra)
   where
     go : (intra : Bool) → Sound BlockSound (cond intra (intraBlockOf (codingOf c block) matrix pasts l) (interBlockOf (codingOf c block) matrix pasts l))
     go true = intra-sound (codingOf c block) matrix pasts l p
     go false = inter-sound (codingOf c block) matrix pasts l p
+
+pub block-sound : (c : BlocksCoding) (matrix : List ℕ) (block : ℕ) (pasts : DcPasts) (l : List ℕ) → LegalPasts pasts → Sound BlockSound (blockOf c matrix block pasts l)
+unfolding blockOf
+block-sound c matrix block pasts l p =
+    only-all (Sound BlockSound) (isCoded (c .pattern) block) _ _ (sound-plain (block-legal _ _ (record { legal = p; short = omega arith }))) λ coded.
+    sound-storing (cleared-keeps block) (kind-sound c matrix block pasts l p)
+-- what a coded block stores in its own places does not depend on what was there
+pub block-own : (c : BlocksCoding) (matrix : List ℕ) (block : ℕ) (pasts : DcPasts) (l : List ℕ) → LegalPasts pasts → isCoded (c .pattern) block ≡ true
+    → (x y : List ℤ) (i : ℕ) → length x ≡ length y → 64 * block + 64 ≤ length x → OfBlock block i → at (blockOf c matrix block pasts l .store x) i ≡ at (blockOf c matrix block pasts l .store y) i
+unfolding blockOf only
+block-own c matrix block pasts l p coded x y i same long o =
+    let k = cleared-keeps block in
+    rw coded (kind-sound c matrix block pasts l p .keeps .steady (cleared block x) (cleared block y) i (k .long x ∙ same ∙ sym (k .long y))
+    (cleared-at block i x o long ∙ sym (cleared-at block i y o (omega (arith, same)))))
 
 pub next-sound : (c : BlocksCoding) (matrix : List ℕ) (block : ℕ) (pasts : DcPasts) (l : List ℕ) {next : DcPasts} {cursor : Cursor} → LegalPasts pasts → blockOf c matrix block pasts l .answer ≡ Block.Legal next cursor → Next next (cursor .at)
 unfolding BlockSound

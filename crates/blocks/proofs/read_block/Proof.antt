@@ -14,6 +14,9 @@ returns : tie.Need-returns
 unfolding blockOf only
 returns c = rw (← c .before .is-coded .ensures, not-true (c .before .is-coded .result) (c .if1 .taken)) (refl, refl)
 
+clear-block-requires : tie.Need-clear-block-requires
+clear-block-requires c κs = search needs
+
 after-requires : tie.Need-after-requires
 after-requires c κs = search needs
 
@@ -25,9 +28,10 @@ unfolding blockOf only
 returns-2 c =
     let at-if2 = c .before .before in
     let at-after = at-if2 .before in
-    let at-if1 = at-after .before in
+    let at-clear = at-after .before in
+    let at-if1 = at-clear .before .before in
     rw (← at-if1 .before .is-coded .ensures, not-false (at-if1 .before .is-coded .result) (at-if1 .if1 .left), at-if2 .if2 .taken)
-    (rw (at-if2 .if2 .taken, at-after .after .ensures) at (c .read-intra-block .ensures .0), rw (at-if2 .if2 .taken, at-after .after .ensures) at (c .read-intra-block .ensures .1))
+    (rw (at-if2 .if2 .taken, at-after .after .ensures) at (c .read-intra-block .ensures .0), rw (at-if2 .if2 .taken, at-after .after .ensures, at-clear .clear-block .ensures) at (c .read-intra-block .ensures .1))
 
 read-inter-block-requires : tie.Need-read-inter-block-requires
 read-inter-block-requires c κs = search needs
@@ -37,9 +41,10 @@ unfolding blockOf only
 returns-3 c =
     let at-if2 = c .before .before in
     let at-after = at-if2 .before in
-    let at-if1 = at-after .before in
+    let at-clear = at-after .before in
+    let at-if1 = at-clear .before .before in
     rw (← at-if1 .before .is-coded .ensures, not-false (at-if1 .before .is-coded .result) (at-if1 .if1 .left), at-if2 .if2 .left)
-    (rw (at-if2 .if2 .left, at-after .after .ensures) at (c .read-inter-block .ensures .0), rw (at-if2 .if2 .left, at-after .after .ensures) at (c .read-inter-block .ensures .1))
+    (rw (at-if2 .if2 .left, at-after .after .ensures) at (c .read-inter-block .ensures .0), rw (at-if2 .if2 .left, at-after .after .ensures, at-clear .clear-block .ensures) at (c .read-inter-block .ensures .1))
 
 pub read-block-spec : {M : Type 1} → statement M
 read-block-spec =
@@ -47,6 +52,7 @@ read-block-spec =
     (tie.spec
     is-coded-requires
     returns
+    clear-block-requires
     after-requires
     read-intra-block-requires
     returns-2

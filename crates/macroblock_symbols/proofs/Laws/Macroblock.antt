@@ -112,7 +112,7 @@ vectors-sound flags f b l =
     vectors-known f b _ _ (record { forward-known = codes-known (gives flags 2) f l p; backward-known = codes-known (gives flags 4) b (drop (first .at) l) q })
 
 -- ---- the blocks
-unfoldable BlocksSound : BlockAnswer → Type 0
+unfoldable pub BlocksSound : BlockAnswer → Type 0
 BlocksSound (Block.Legal pasts cursor) = LegalPasts pasts
 BlocksSound (Block.Refused refusal) = Unit
 
@@ -126,7 +126,7 @@ unfolding BlockSound BlocksSound
 after-block (Block.Legal pasts cursor) store rest s k r = sound-storing k (r pasts (cursor .at) (s .legal))
 after-block (Block.Refused refusal) store rest s k r = record { sound = tt; keeps = k }
 
-blocks-sound : (c : BlocksCoding) (matrix : List ℕ) (n block at : ℕ) (pasts : DcPasts) (l : List ℕ) → LegalPasts pasts → Sound BlocksSound (blocksOf c matrix n block at pasts l)
+pub blocks-sound : (c : BlocksCoding) (matrix : List ℕ) (n block at : ℕ) (pasts : DcPasts) (l : List ℕ) → LegalPasts pasts → Sound BlocksSound (blocksOf c matrix n block at pasts l)
 unfolding blocksOf
 blocks-sound c matrix zero block at pasts l p = sound-plain (blocks-legal pasts (record { at = at }) p)
 blocks-sound c matrix (suc n) block at pasts l p =

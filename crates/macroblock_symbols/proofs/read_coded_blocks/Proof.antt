@@ -10,7 +10,7 @@ read-blocks-requires c κs = search needs
 returns : tie.Need-returns
 unfolding codedBlocksOf
 returns c =
-    let e = c .before .before .if1 .taken in
+    let e = c .before .before .before .before .if1 .taken in
     rw e (rw e at (c .read-blocks .ensures .0), rw e at (c .read-blocks .ensures .1))
 
 read-blocks-requires-2 : tie.Need-read-blocks-requires-2
@@ -19,7 +19,7 @@ read-blocks-requires-2 c κs = search needs
 returns-2 : tie.Need-returns-2
 unfolding codedBlocksOf
 returns-2 c =
-    let e = c .before .before .if1 .left in
+    let e = c .before .before .before .before .if1 .left in
     rw e (rw e at (c .read-blocks2 .ensures .0), rw e at (c .read-blocks2 .ensures .1))
 
 pub read-coded-blocks-spec : {M : Type 1} → statement M

@@ -36,7 +36,7 @@ unfolding symbolsOf coefficientsOf
 returns c =
     let at-read = c .before .before .before in
     let start = at-read .before .before in
-    let e = refused-head (start .args .context) (start .args .intra-matrix .now) (start .args .non-intra-matrix .now) (start .args .body .now) (found at-read ∙ c .before .refusal .given .1) in
+    let e = refused-head (start .args .context) (start .args .matrices .intra) (start .args .matrices .«non_intra») (start .args .body .now) (found at-read ∙ c .before .refusal .given .1) in
     (ap (λ (r : Reading _). r .answer) e, ap (λ (r : Reading _). r .store (start .args .coefficients .now)) e)
 
 returns-2 : tie.Need-returns-2
@@ -46,7 +46,7 @@ returns-2 c =
     let at-head = at-after .before .before in
     let at-read = at-head .before .before in
     let start = at-read .before .before in
-    let e = legal-head (start .args .context) (start .args .intra-matrix .now) (start .args .non-intra-matrix .now) (start .args .body .now) (found at-read ∙ at-head .head .given .1) in (
+    let e = legal-head (start .args .context) (start .args .matrices .intra) (start .args .matrices .«non_intra») (start .args .body .now) (found at-read ∙ at-head .head .given .1) in (
       (rw (at-after .after .ensures) at (c .read-after-head .ensures .0)) ∙ ap (λ (r : Reading _). r .answer) e,
       (rw (at-after .after .ensures) at (c .read-after-head .ensures .1)) ∙ ap (λ (r : Reading _). r .store (start .args .coefficients .now)) e,
     )
