@@ -199,30 +199,24 @@ fn draw(
     }
 }
 
-// A macroblock record.
+// A macroblock record. The coefficients that are lent are any from -2048 to 2048, and hold its own afterwards: those of its coded blocks are made 0 before
+// its first one lands, and no other block's are looked at.
 pub fn act_macroblock(
     picture: PictureState,
     body: &[u8],
     forward: &[u8],
     backward: &[u8],
+    coefficients: &mut [i16; 384],
     output: &mut [u8],
 ) -> Outcome
-    requires { ⌜ Sound picture (now forward) (now backward) (now output) ⌝ }
+    requires { ⌜ Sound picture (now forward) (now backward) (now output) × AllWithin 2048 (now coefficients) ⌝ }
     ensures { λ r. ⌜ r ≡ outcomeOf (macroblockActed inverseTransform (now (forward .entry)) (now (backward .entry)) picture (now (body .entry)) (now (output .entry))) ⌝ }
     ensures { λ _. ⌜ now (output .exit) ≡ macroblockActed inverseTransform (now (forward .entry)) (now (backward .entry)) picture (now (body .entry)) (now (output .entry)) .output ⌝ }
+    ensures { λ _. ⌜ AllWithin 2048 (now (coefficients .exit)) ⌝ }
 {
     let context = context_of(picture);
     let matrices = picture.matrices;
-    let intra = matrices.intra;
-    let non_intra = matrices.non_intra;
-    let mut coefficients = [0i16; 384];
-    match macroblock_symbols::read_macroblock(
-        body,
-        context,
-        &intra,
-        &non_intra,
-        &mut coefficients,
-    ) {
+    match macroblock_symbols::read_macroblock(body, context, matrices, coefficients) {
         SymbolsAnswer::Refused(refusal) => Outcome {
             verdict: Verdict::Refused(refusal),
             state: PictureState { ..picture },
@@ -233,7 +227,7 @@ pub fn act_macroblock(
                 picture,
                 plan,
                 symbols.pattern,
-                &coefficients,
+                coefficients,
                 forward,
                 backward,
                 output,

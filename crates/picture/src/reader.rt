@@ -54,7 +54,7 @@ fn answer_at_end(file_length: usize, picture: PictureState) -> Answer
     }
 }
 
-// The records from an offset on.
+// The records from an offset on. One store of coefficients serves them all.
 fn read_records(
     file: &[u8],
     start: usize,
@@ -67,10 +67,19 @@ fn read_records(
     ensures { λ r. ⌜ r ≡ answerOf (runFrom inverseTransform (now (file .entry)) (now (forward .entry)) (now (backward .entry)) (length (now (file .entry))) start first (now (output .entry))) ⌝ }
     ensures { λ _. ⌜ now (output .exit) ≡ runFrom inverseTransform (now (file .entry)) (now (forward .entry)) (now (backward .entry)) (length (now (file .entry))) start first (now (output .entry)) .output ⌝ }
 {
+    let mut coefficients = [0i16; 384];
     let mut at = start;
     let mut picture = first;
     while at < file.len() {
-        let step = records::take_record(file, at, picture, forward, backward, output);
+        let step = records::take_record(
+            file,
+            at,
+            picture,
+            forward,
+            backward,
+            &mut coefficients,
+            output,
+        );
         let verdict = step.verdict;
         match verdict {
             Verdict::Refused(refusal) => {

@@ -1,5 +1,6 @@
 // What a record does: its turn, then its acting by its kind.
 ghost use mathlib.Core.Path.{_≡_};
+ghost use Rattle.integers.specs.Bound.{AllWithin};
 ghost use Rattle.transform.specs.Transform.{inverseTransform};
 ghost use Rattle.picture.specs.MacroblockRecord.{outcomeOf};
 ghost use Rattle.picture.specs.Step.{matrixOutcome, sliceOutcome, acted, takenAt, stepOf};
@@ -96,11 +97,13 @@ fn act(
     body: &[u8],
     forward: &[u8],
     backward: &[u8],
+    coefficients: &mut [i16; 384],
     output: &mut [u8],
 ) -> Outcome
-    requires { ⌜ Sound picture (now forward) (now backward) (now output) ⌝ }
+    requires { ⌜ Sound picture (now forward) (now backward) (now output) × AllWithin 2048 (now coefficients) ⌝ }
     ensures { λ r. ⌜ r ≡ outcomeOf (acted inverseTransform (now (forward .entry)) (now (backward .entry)) picture kind (now (body .entry)) (now (output .entry))) ⌝ }
     ensures { λ _. ⌜ now (output .exit) ≡ acted inverseTransform (now (forward .entry)) (now (backward .entry)) picture kind (now (body .entry)) (now (output .entry)) .output ⌝ }
+    ensures { λ _. ⌜ AllWithin 2048 (now (coefficients .exit)) ⌝ }
 {
     let turn = picture.turn;
     let due = format3::turn::in_turn(turn, kind);
@@ -111,7 +114,14 @@ fn act(
         if kind == SLICE {
             return act_slice(picture, body);
         }
-        return macroblock_record::act_macroblock(picture, body, forward, backward, output);
+        return macroblock_record::act_macroblock(
+            picture,
+            body,
+            forward,
+            backward,
+            coefficients,
+            output,
+        );
     }
     Outcome {
         verdict: Verdict::Refused(Refusal::OutOfTurn),
@@ -126,11 +136,13 @@ pub fn take_record(
     picture: PictureState,
     forward: &[u8],
     backward: &[u8],
+    coefficients: &mut [i16; 384],
     output: &mut [u8],
 ) -> Step
-    requires { ⌜ Sound picture (now forward) (now backward) (now output) ⌝ }
+    requires { ⌜ Sound picture (now forward) (now backward) (now output) × AllWithin 2048 (now coefficients) ⌝ }
     ensures { λ r. ⌜ r ≡ stepOf (takenAt inverseTransform (now (file .entry)) (now (forward .entry)) (now (backward .entry)) at picture (now (output .entry))) ⌝ }
     ensures { λ _. ⌜ now (output .exit) ≡ takenAt inverseTransform (now (file .entry)) (now (forward .entry)) (now (backward .entry)) at picture (now (output .entry)) .acts .output ⌝ }
+    ensures { λ _. ⌜ AllWithin 2048 (now (coefficients .exit)) ⌝ }
 {
     match format3::record::record_at(file, at) {
         Record::Refused(refusal) => Step {
@@ -144,7 +156,15 @@ pub fn take_record(
             length,
         } => {
             let end = start + length;
-            let outcome = act(picture, kind, &file[start..end], forward, backward, output);
+            let outcome = act(
+                picture,
+                kind,
+                &file[start..end],
+                forward,
+                backward,
+                coefficients,
+                output,
+            );
             let state = outcome.state;
             let verdict = outcome.verdict;
             Step {
