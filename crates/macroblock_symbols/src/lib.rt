@@ -162,13 +162,7 @@ fn read_residue(
                 intra,
                 scale: head.scale,
             };
-            match read_coded_blocks(
-                blocks,
-                coding,
-                dc,
-                matrices,
-                coefficients,
-            ) {
+            match read_coded_blocks(blocks, coding, dc, matrices, coefficients) {
                 BlockAnswer::Refused(refusal) => ResidueAnswer::Refused(refusal),
                 BlockAnswer::Legal(running, end) => {
                     if end.at < blocks.len() {
@@ -233,13 +227,7 @@ pub fn read_macroblock(
         HeadAnswer::Refused(refusal) => SymbolsAnswer::Refused(refusal),
         HeadAnswer::Legal(head, cursor) => {
             let rest = format3::field::after(body, cursor.at);
-            read_after_head(
-                rest,
-                head,
-                context,
-                matrices,
-                coefficients,
-            )
+            read_after_head(rest, head, context, matrices, coefficients)
         }
     }
 }

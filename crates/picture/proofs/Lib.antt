@@ -1,4 +1,5 @@
 pub mod RecordLaws
+pub mod FreshLaws
 pub mod SoundLaws
 pub mod ReaderLaws
 pub mod StartLaws

@@ -3,7 +3,9 @@ use mathlib.Core.Bool.{true}
 use mathlib.Core.List.{List}
 use mathlib.Core.Path.{_≡_}
 use Prim.Native.Nat.{ℕ, _+_, _≤_, _<_}
+use lib.IntN.{ℤ}
 use lib.ListN.{length}
+use Rattle.integers.specs.Bound.{AllWithin}
 use Rattle.picture_header.specs.Header.{usesForward, usesBackward, HeaderWithin}
 use Rattle.picture_header.specs.Size.{count, bytes, SizeWithin}
 use Rattle.picture_header.specs.declared.header.Header.{Header}
@@ -22,6 +24,11 @@ pub record BorrowedBy (h : Header) (forward backward output : List ℕ) : Type 0
   pub output-whole : length output ≡ bytes (h .size)
   pub forward-whole : usesForward (h .«coding_type») ≡ true → length forward ≡ bytes (h .size)
   pub backward-whole : usesBackward (h .«coding_type») ≡ true → length backward ≡ bytes (h .size)
+
+-- a store for a macroblock's coefficients: 384 numbers in the transform's range
+pub record Store (coefficients : List ℤ) : Type 0 where
+  pub long : length coefficients ≡ 384
+  pub small : AllWithin 2048 coefficients
 
 -- a header that was tested, and a slice's state in its ranges
 pub record StateWithin (s : PictureState) : Type 0 where

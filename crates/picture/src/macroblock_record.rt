@@ -3,7 +3,7 @@ ghost use mathlib.Core.Path.{_≡_};
 ghost use Rattle.integers.specs.Bound.{AllWithin};
 ghost use Rattle.transform.specs.Transform.{inverseTransform};
 ghost use Rattle.picture.specs.MacroblockRecord.{outcomeOf, passes, advanced, contextOf, written, ownDrawn, drawn, macroblockActed};
-ghost use Rattle.picture.specs.Sound.{Advancing, Planned, Sound, StateWithin, SkipsFit, AllFit};
+ghost use Rattle.picture.specs.Sound.{Advancing, Planned, Sound, Store, StateWithin, SkipsFit, AllFit};
 use format3::record::MACROBLOCK;
 use format3::verdict::Verdict;
 use macroblock::fit::Fit;
@@ -209,10 +209,10 @@ pub fn act_macroblock(
     coefficients: &mut [i16; 384],
     output: &mut [u8],
 ) -> Outcome
-    requires { ⌜ Sound picture (now forward) (now backward) (now output) × AllWithin 2048 (now coefficients) ⌝ }
+    requires { ⌜ Sound picture (now forward) (now backward) (now output) × Store (now coefficients) ⌝ }
     ensures { λ r. ⌜ r ≡ outcomeOf (macroblockActed inverseTransform (now (forward .entry)) (now (backward .entry)) picture (now (body .entry)) (now (output .entry))) ⌝ }
     ensures { λ _. ⌜ now (output .exit) ≡ macroblockActed inverseTransform (now (forward .entry)) (now (backward .entry)) picture (now (body .entry)) (now (output .entry)) .output ⌝ }
-    ensures { λ _. ⌜ AllWithin 2048 (now (coefficients .exit)) ⌝ }
+    ensures { λ _. ⌜ Store (now (coefficients .exit)) ⌝ }
 {
     let context = context_of(picture);
     let matrices = picture.matrices;

@@ -1,10 +1,9 @@
 // What a record does: its turn, then its acting by its kind.
 ghost use mathlib.Core.Path.{_≡_};
-ghost use Rattle.integers.specs.Bound.{AllWithin};
 ghost use Rattle.transform.specs.Transform.{inverseTransform};
 ghost use Rattle.picture.specs.MacroblockRecord.{outcomeOf};
 ghost use Rattle.picture.specs.Step.{matrixOutcome, sliceOutcome, acted, takenAt, stepOf};
-ghost use Rattle.picture.specs.Sound.{Sound};
+ghost use Rattle.picture.specs.Sound.{Sound, Store};
 use crate::macroblock_record;
 use crate::macroblock_record::Outcome;
 use format3::record::MATRIX;
@@ -100,10 +99,10 @@ fn act(
     coefficients: &mut [i16; 384],
     output: &mut [u8],
 ) -> Outcome
-    requires { ⌜ Sound picture (now forward) (now backward) (now output) × AllWithin 2048 (now coefficients) ⌝ }
+    requires { ⌜ Sound picture (now forward) (now backward) (now output) × Store (now coefficients) ⌝ }
     ensures { λ r. ⌜ r ≡ outcomeOf (acted inverseTransform (now (forward .entry)) (now (backward .entry)) picture kind (now (body .entry)) (now (output .entry))) ⌝ }
     ensures { λ _. ⌜ now (output .exit) ≡ acted inverseTransform (now (forward .entry)) (now (backward .entry)) picture kind (now (body .entry)) (now (output .entry)) .output ⌝ }
-    ensures { λ _. ⌜ AllWithin 2048 (now (coefficients .exit)) ⌝ }
+    ensures { λ _. ⌜ Store (now (coefficients .exit)) ⌝ }
 {
     let turn = picture.turn;
     let due = format3::turn::in_turn(turn, kind);
@@ -139,10 +138,10 @@ pub fn take_record(
     coefficients: &mut [i16; 384],
     output: &mut [u8],
 ) -> Step
-    requires { ⌜ Sound picture (now forward) (now backward) (now output) × AllWithin 2048 (now coefficients) ⌝ }
+    requires { ⌜ Sound picture (now forward) (now backward) (now output) × Store (now coefficients) ⌝ }
     ensures { λ r. ⌜ r ≡ stepOf (takenAt inverseTransform (now (file .entry)) (now (forward .entry)) (now (backward .entry)) at picture (now (output .entry))) ⌝ }
     ensures { λ _. ⌜ now (output .exit) ≡ takenAt inverseTransform (now (file .entry)) (now (forward .entry)) (now (backward .entry)) at picture (now (output .entry)) .acts .output ⌝ }
-    ensures { λ _. ⌜ AllWithin 2048 (now (coefficients .exit)) ⌝ }
+    ensures { λ _. ⌜ Store (now (coefficients .exit)) ⌝ }
 {
     match format3::record::record_at(file, at) {
         Record::Refused(refusal) => Step {

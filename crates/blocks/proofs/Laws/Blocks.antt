@@ -203,6 +203,7 @@ unfolding blockOf
 block-sound c matrix block pasts l p =
     only-all (Sound BlockSound) (isCoded (c .pattern) block) _ _ (sound-plain (block-legal _ _ (record { legal = p; short = omega arith }))) λ coded.
     sound-storing (cleared-keeps block) (kind-sound c matrix block pasts l p)
+
 -- what a coded block stores in its own places does not depend on what was there
 pub block-own : (c : BlocksCoding) (matrix : List ℕ) (block : ℕ) (pasts : DcPasts) (l : List ℕ) → LegalPasts pasts → isCoded (c .pattern) block ≡ true
     → (x y : List ℤ) (i : ℕ) → length x ≡ length y → 64 * block + 64 ≤ length x → OfBlock block i → at (blockOf c matrix block pasts l .store x) i ≡ at (blockOf c matrix block pasts l .store y) i

@@ -37,21 +37,28 @@ part-act-end : tie.Need-part-act-end
 part-act-end c = within (c .before)
 
 act-requires : tie.Need-act-requires
-act-requires c κs = c .before .before .before .before .before .before .before .before .before .before .pre
+act-requires c κs = c .before .before .before .before .before .before .before .before .before .before .before .pre
 
 returns : tie.Need-returns
 unfolding takenAt
-returns c = (rw (← c .before .before .before .record-at .ensures, c .before .refusal .given .1), rw (← c .before .before .before .record-at .ensures, c .before .refusal .given .1))
+returns c =
+    let at-record = c .before .before .before in
+    let e = sym (at-record .record-at .ensures) ∙ c .before .refusal .given .1 in
+    (rw e, (rw e, c .before .before .before .before .before .before .before .before .pre .1))
 
 same-length : tie.Need-same-length
 same-length c = search needs
 
 returns-2 : tie.Need-returns-2
 unfolding takenAt
-returns-2 c = (
-  rw (← c .before .before .before .before .before .before .before .before .before .record-at .ensures, c .before .before .before .before .before .before .before .kind .given .1) (let e = rw add-sub-cancel-left at (c .before .before .before .act .ensures .0) in λ i. record { verdict = e i .verdict; state = e i .state; end = c .before .before .before .before .before .before .before .kind .given .0 .1 .0 + c .before .before .before .before .before .before .before .kind .given .0 .1 .1 .0 }),
-  rw (← c .before .before .before .before .before .before .before .before .before .record-at .ensures, c .before .before .before .before .before .before .before .kind .given .1) (rw add-sub-cancel-left at (c .before .before .before .act .ensures .1)),
-)
+returns-2 c =
+    let call = c .before .before .before in
+    let at-kind = call .before .before .before .before .before in
+    let e = sym (at-kind .before .before .record-at .ensures) ∙ at-kind .kind .given .1 in
+    let acts = rw add-sub-cancel-left at (call .act .ensures .0) in (
+      rw e (λ i. record { verdict = acts i .verdict; state = acts i .state; end = at-kind .kind .given .0 .1 .0 + at-kind .kind .given .0 .1 .1 .0 }),
+      (rw e (rw add-sub-cancel-left at (call .act .ensures .1 .0)), call .act .ensures .1 .1),
+    )
 
 pub take-record-spec : {M : Type 1} → statement M
 take-record-spec =
