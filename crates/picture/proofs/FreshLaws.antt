@@ -7,7 +7,6 @@ use native.Mathlib.Omega.{arith}
 use lib.IntN.{ℤ}
 use lib.ListN.{length}
 use Rattle.lists.proofs.Tab.{tab-ext}
-use Rattle.integers.specs.Bound.{at}
 use Rattle.refusals.specs.declared.Refusal.the-variants.{VectorOutside}
 use Rattle.format3.specs.Chain.{only}
 use Rattle.format3.specs.declared.verdict.Verdict.the-variants.{Passed}

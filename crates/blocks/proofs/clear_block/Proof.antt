@@ -1,11 +1,10 @@
 -- `clear_block` meets its contract: before place k the first k of the block are 0. Assumes nothing.
 use mathlib.Core.Path.{_≡_, sym}
-use Prim.Native.Nat.{ℕ, _+_, _-_, _*_, _≤_}
+use Prim.Native.Nat.{_+_, _-_, _*_, _≤_}
 use native.Mathlib.Omega.{arith}
 use lib.IntN.{pos}
-use lib.ListN.{length}
 use Rattle.lists.specs.Scatter.{scatter}
-use Rattle.lists.proofs.Scatter.{scatter-length, scatter-none, scatter-next}
+use Rattle.lists.proofs.Scatter.{scatter-none, scatter-next}
 use Rattle.blocks.specs.Blocks.{cleared}
 use Rattle.blocks.proofs.clear_block.Statement.{statement}
 use Rattle.blocks.proofs.clear_block.Tie as tie
