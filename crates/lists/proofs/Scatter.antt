@@ -1,5 +1,5 @@
 -- Laws of `scatter`. Assumes nothing.
-use mathlib.Core.Path.{_≡_, refl, ap, _∙_, sym}
+use mathlib.Core.Path.{_≡_, refl, ap, _∙_}
 use mathlib.Core.List.{List}
 use Prim.Native.Nat.{ℕ, zero, suc, _+_, _<_}
 use native.Mathlib.Decide.{ℕ-discrete}
@@ -19,6 +19,10 @@ module _ {A : Type 0} (place : ℕ → ℕ) (value : ℕ → A) where
   unfolding scatter
   scatter-none l = refl
 
+  -- the same count, written in another way
+  pub scatter-to : (n m : ℕ) (l : List A) → n ≡ m → scatter place value n l ≡ scatter place value m l
+  scatter-to n m l e = ap (λ (k : ℕ). scatter place value k l) e
+
   -- one store more, as a loop's step has it
   pub scatter-more : (n : ℕ) (l : List A) → set (scatter place value n l) (place n) (value n) ≡ scatter place value (n + 1) l
   unfolding scatter
@@ -27,7 +31,7 @@ module _ {A : Type 0} (place : ℕ → ℕ) (value : ℕ → A) where
   -- the same, where the count so far and the next one are written in another way
   pub scatter-next : (n m : ℕ) (l p : List A) → p ≡ scatter place value n l → n + 1 ≡ m → set p (place n) (value n) ≡ scatter place value m l
   scatter-next n m l p e h =
-      ap (λ (q : List A). set q (place n) (value n)) e ∙ scatter-more n l ∙ ap (λ (k : ℕ). scatter place value k l) h
+      ap (λ (q : List A). set q (place n) (value n)) e ∙ scatter-more n l ∙ scatter-to (n + 1) m l h
 
   -- a place that none of the first n stores has keeps what it had
   pub scatter-other : (n : ℕ) (l : List A) (i : ℕ) (d : A) → ((k : ℕ) → k < n → i ≡ place k → ⊥) → getD (scatter place value n l) i d ≡ getD l i d

@@ -35,19 +35,24 @@ use Rattle.macroblock.proofs.PlaceLaws.{sides, by-plane, lines-inside}
 abbrev pub passed : {z : ℤ} → Within 2048 z → Held z
 passed small = kept w32 (number small) tt
 
--- ---- a block that stands `offset` pels inside a macroblock which fits
-module _ {side x width : ℕ} {v : ℤ} (fit : Fits side x width v) (offset : ℕ) where
+-- ---- the same vector `offset` pels further on
+module _ (x offset : ℕ) (v : ℤ) where
   moved : up (pointed (x + offset) v) + dn (pointed x v) ≡ up (pointed x v) + 2 * offset + dn (pointed (x + offset) v)
   moved = omega (arith, parts-add (pos (2 * x)) v, parts-add (pos (2 * (x + offset))) v)
 
+  pub place-moved : pos 0 ≤ℤ pointed x v → pos 0 ≤ℤ pointed (x + offset) v → halfPelPlace (x + offset) v ≡ halfPelPlace x v + 2 * offset
+  place-moved low high =
+      let here = size-up (pointed x v) low in
+      let there = size-up (pointed (x + offset) v) high in
+      omega (arith, ap up here, ap dn here, ap up there, ap dn there, moved)
+
+-- ---- a block that stands `offset` pels inside a macroblock which fits
+module _ {side x width : ℕ} {v : ℤ} (fit : Fits side x width v) (offset : ℕ) where
   pub moved-lower : pos 0 ≤ℤ pointed (x + offset) v
-  moved-lower = le-of _ _ (omega (arith, moved, of-le (fit .lower)))
+  moved-lower = le-of _ _ (omega (arith, moved x offset v, of-le (fit .lower)))
 
   pub moved-upper : offset + 8 ≤ side → halfPelPlace (x + offset) v + 16 ≤ 2 * width
-  moved-upper inside =
-      let here = size-up (pointed x v) (fit .lower) in
-      let there = size-up (pointed (x + offset) v) moved-lower in
-      omega (arith, ap up here, ap dn here, ap up there, ap dn there, moved, fit .upper)
+  moved-upper inside = omega (arith, place-moved x offset v (fit .lower) moved-lower, fit .upper)
 
 -- ---- each block of a macroblock whose vector fits
 pub readable : (p : Position) (v : Vector) (reference : List ℕ) (block : ℕ) → Inside p → VectorWithin 2048 v → block < 6

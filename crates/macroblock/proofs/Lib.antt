@@ -3,6 +3,7 @@ pub mod CompensationLaws
 pub mod RunLaws
 pub mod BlocksLaws
 pub mod CopyLaws
+pub mod SquareLaws
 pub mod PutLaws
 pub mod OwnerLaws
 pub mod WriteLaws

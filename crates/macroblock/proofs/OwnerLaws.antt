@@ -8,7 +8,7 @@ use native.Mathlib.Omega.{arith}
 use borrow.Author.Tests.{lt-ltb, le-ltb, le-leb, leb-true, ltb-true}
 use lib.Arith.{digits-lt, digits-div, digits-mod}
 use lib.Dec.{ltb, leb}
-use Rattle.motion.proofs.PelLaws.{inBlock}
+use Rattle.motion.proofs.PelLaws.{inSquare}
 use Rattle.motion.proofs.VectorLaws.{both-true}
 use Rattle.picture_header.specs.declared.size.PictureSize.{PictureSize}
 use Rattle.picture_header.specs.Size.{SizeWithin, count, bytes, startOfCb, startOfCr}
@@ -25,16 +25,16 @@ record InBlock (stride x y i : ℕ) : Type 0 where
   top : y ≤ i / stride
   bottom : i / stride < y + 8
 
-in-block : (stride x y i : ℕ) → inBlock stride x y i ≡ true → InBlock stride x y i
-unfolding inBlock
+in-block : (stride x y i : ℕ) → inSquare 8 stride x y i ≡ true → InBlock stride x y i
+unfolding inSquare
 in-block stride x y i e =
     let all = both-true (leb x (i % stride) && ltb (i % stride) (x + 8)) (leb y (i / stride) && ltb (i / stride) (y + 8)) e in
     let across = both-true (leb x (i % stride)) (ltb (i % stride) (x + 8)) (all .0) in
     let down = both-true (leb y (i / stride)) (ltb (i / stride) (y + 8)) (all .1) in
     record { left = leb-true _ _ (across .0); right = ltb-true _ _ (across .1); top = leb-true _ _ (down .0); bottom = ltb-true _ _ (down .1) }
 
-block-in : (stride x y i : ℕ) → InBlock stride x y i → inBlock stride x y i ≡ true
-unfolding inBlock
+block-in : (stride x y i : ℕ) → InBlock stride x y i → inSquare 8 stride x y i ≡ true
+unfolding inSquare
 block-in stride x y i b = rw (le-leb x (i % stride) (b .left), lt-ltb (i % stride) (x + 8) (b .right), le-leb y (i / stride) (b .top), lt-ltb (i / stride) (y + 8) (b .bottom))
 
 record InPlane (p : Place) (i : ℕ) : Type 0 where

@@ -9,7 +9,7 @@ use lib.ListN.{length, take, drop, replicate}
 use lib.Signed.{_≤ℤ_}
 use Rattle.integers.specs.Bound.{Within}
 use Rattle.motion.specs.Fit.{pointed, halfPelPlace}
-use Rattle.motion.specs.Prediction.{prediction, meanOfBoth}
+use Rattle.motion.specs.Prediction.{prediction, pelsOfSquare, meanOfBoth}
 use Rattle.motion.specs.Vector.{chromaVector, oddBit}
 use Rattle.macroblock.specs.declared.place.Position.{Position}
 use Rattle.macroblock.specs.declared.place.Place.{Place}
@@ -37,6 +37,10 @@ halfPels p v = record { px = halfPelPlace (p .x) (v .right); py = halfPelPlace (
 -- the block that a vector for the plane points to
 unfoldable pub predictedFrom : List ℕ → Place → Vector → List ℕ
 predictedFrom reference p v = prediction (planeOf p reference) (p .stride) (halfPels p v .px) (halfPels p v .py)
+
+-- the square of 16 by 16 pels that it points to, where it points to whole pels
+unfoldable pub squareFrom : List ℕ → Place → Vector → List ℕ
+squareFrom reference p v = pelsOfSquare (planeOf p reference) (p .stride) (halfPels p v .px) (halfPels p v .py)
 
 -- the block of a macroblock that a vector for use points to
 abbrev pub pointedBlock : List ℕ → Position → Vector → ℕ → List ℕ

@@ -4,7 +4,7 @@ use mathlib.Core.List.{List}
 use Prim.Native.Nat.{ℕ, _+_, _-_, _*_, _/_, _%_, _≤_, _<_}
 use lib.Dec.{eqb}
 use Rattle.lists.specs.Part.{part}
-use Rattle.motion.specs.Pel.{withBlock}
+use Rattle.motion.specs.Pel.{withSquare, withBlock}
 use Rattle.picture_header.specs.declared.size.PictureSize.{PictureSize}
 use Rattle.picture_header.specs.Size.{count, startOfY, startOfCb, startOfCr, column, row}
 use Rattle.macroblock.specs.declared.place.Position.{Position}
@@ -45,6 +45,10 @@ placeOf p block =
 -- the picture with a block put at its place
 unfoldable pub putAt : Place → List ℕ → List ℕ → List ℕ
 putAt p block picture = part (p .from) (p .to - p .from) (withBlock (p .stride) (p .x) (p .y) block) picture
+
+-- the same with a square of 16 by 16 pels
+unfoldable pub putSquareAt : Place → List ℕ → List ℕ → List ℕ
+putSquareAt p square picture = part (p .from) (p .to - p .from) (withSquare 16 (p .stride) (p .x) (p .y) square) picture
 
 -- a column and a row of a picture of at most 396 macroblocks
 pub record Inside (p : Position) : Type 0 where

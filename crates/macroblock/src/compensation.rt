@@ -1,8 +1,8 @@
 // The prediction of a block from the lent references.
 ghost use mathlib.Core.Path.{_≡_};
 ghost use mathlib.Core.Bool.{true};
-ghost use Prim.Native.Nat.{_<_};
-ghost use Rattle.macroblock.specs.Compensation.{VectorWithin, vectorFor, isWhole, halfPels, Pointing, Readable, predictedFrom, Predictable, predictedBlock};
+ghost use Prim.Native.Nat.{_+_, _*_, _≤_};
+ghost use Rattle.macroblock.specs.Compensation.{VectorWithin, vectorFor, isWhole, halfPels, Pointing, Readable, predictedFrom, squareFrom, Predictable, predictedBlock};
 use crate::place::Place;
 
 // A vector for use, in half pels.
@@ -88,6 +88,23 @@ pub fn copy_block_from(reference: &[u8], place: Place, vector: Vector) -> [u8; 6
     let to = place.to;
     let at = half_pels(place, vector);
     motion::prediction::copy_block(
+        &reference[from..to],
+        place.stride,
+        place.lines,
+        at.px,
+        at.py,
+    )
+}
+
+// The square of 16 by 16 pels that a vector points to.
+pub fn copy_square_from(reference: &[u8], place: Place, vector: Vector) -> [u8; 256]
+    requires { ⌜ Readable place vector (now reference) × (halfPels place vector .px + 32 ≤ 2 * place .stride) × (halfPels place vector .py + 32 ≤ 2 * place .lines) ⌝ }
+    ensures { λ r. ⌜ r ≡ squareFrom (now (reference .entry)) place vector ⌝ }
+{
+    let from = place.from;
+    let to = place.to;
+    let at = half_pels(place, vector);
+    motion::prediction::copy_square(
         &reference[from..to],
         place.stride,
         place.lines,

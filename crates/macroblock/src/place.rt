@@ -1,9 +1,9 @@
 // Where the blocks of a macroblock stand in a picture, and a block put there.
 ghost use mathlib.Core.Path.{_≡_};
-ghost use Prim.Native.Nat.{_+_, _*_, _≤_, _<_};
+ghost use Prim.Native.Nat.{_+_, _-_, _*_, _≤_, _<_};
 ghost use lib.ListN.{length};
 ghost use Rattle.picture_header.specs.Size.{SizeWithin, count};
-ghost use Rattle.macroblock.specs.Place.{positionOf, lumaPlace, chromaPlace, placeOf, putAt, Inside, Holds};
+ghost use Rattle.macroblock.specs.Place.{positionOf, lumaPlace, chromaPlace, placeOf, putAt, putSquareAt, Inside, Holds};
 use picture_header::size::PictureSize;
 
 // A macroblock's column and row in a picture of this size.
@@ -104,4 +104,20 @@ pub fn put(output: &mut [u8], place: Place, block: [u8; 64])
     let from = place.from;
     let to = place.to;
     motion::block::put_block(&mut output[from..to], place.stride, place.x, place.y, block);
+}
+
+// A square of 16 by 16 pels put at its place.
+pub fn put_square(output: &mut [u8], place: Place, square: [u8; 256])
+    requires { ⌜ Holds place (length (now output)) × (place .x + 16 ≤ place .stride) × ((place .y + 16) * place .stride ≤ place .to - place .from) ⌝ }
+    ensures { λ _. ⌜ now (output .exit) ≡ putSquareAt place square (now (output .entry)) ⌝ }
+{
+    let from = place.from;
+    let to = place.to;
+    motion::block::put_square(
+        &mut output[from..to],
+        place.stride,
+        place.x,
+        place.y,
+        square,
+    );
 }

@@ -49,14 +49,14 @@ fn copy_block(output: &mut [u8], reference: &[u8], position: Position, vector: V
     place::put(output, place, copied);
 }
 
-// The four blocks of Y, copied.
+// The four blocks of Y, copied as one square: lines of sixteen bytes take half the instructions of lines of eight.
 fn copy_luma(output: &mut [u8], reference: &[u8], position: Position, vector: Vector)
     requires { ⌜ Copyable position vector (now reference) (now output) × (isWhole vector ≡ true) ⌝ }
     ensures { λ _. ⌜ now (output .exit) ≡ withBlocks position (pointedBlock (now (reference .entry)) position vector) 4 (now (output .entry)) ⌝ }
 {
-    for block in 0..4 {
-        copy_block(output, reference, position, vector, block);
-    }
+    let place = place::place_of(position, 0);
+    let square = compensation::copy_square_from(reference, place, vector);
+    place::put_square(output, place, square);
 }
 
 // The blocks up to the first that the vector points to half pels for. Answers how many it wrote: none, four or six.

@@ -1,4 +1,5 @@
 pub mod FitLaws
 pub mod MeanLaws
 pub mod PelLaws
+pub mod SquareLaws
 pub mod VectorLaws

@@ -16,10 +16,14 @@ reconstructedPel predicted residue = natAbs (limited (pos 0) (pos 255) (pos pred
 abbrev pub reconstructed : List ℕ → List ℤ → List ℕ
 reconstructed predicted residue = tab 64 (λ k. reconstructedPel (getD predicted k 0) (at residue k))
 
--- where pel k of the block at column x of line y stands, in a plane whose lines are `stride` long
-unfoldable pub cell : ℕ → ℕ → ℕ → ℕ → ℕ
-cell stride x y k = (y + k / 8) * stride + (x + k % 8)
+-- where pel k of the square at column x of line y stands, of side by side pels, in a plane whose lines are `stride` long
+unfoldable pub cell : ℕ → ℕ → ℕ → ℕ → ℕ → ℕ
+cell side stride x y k = (y + k / side) * stride + (x + k % side)
 
--- the plane with the block at column x of line y
+-- the plane with the square at column x of line y
+abbrev pub withSquare : ℕ → ℕ → ℕ → ℕ → List ℕ → List ℕ → List ℕ
+withSquare side stride x y square plane = scatter (cell side stride x y) (λ k. getD square k 0) (side * side) plane
+
+-- the plane with the 8 by 8 block
 abbrev pub withBlock : ℕ → ℕ → ℕ → List ℕ → List ℕ → List ℕ
-withBlock stride x y block plane = scatter (cell stride x y) (λ k. getD block k 0) 64 plane
+withBlock stride x y block plane = withSquare 8 stride x y block plane

@@ -35,6 +35,10 @@ predictedPel plane stride px py k =
 abbrev pub prediction : List ℕ → ℕ → ℕ → ℕ → List ℕ
 prediction plane stride px py = tab 64 (predictedPel plane stride px py)
 
+-- the pels of the 16 by 16 square at (px, py), with no mean taken: four predictions where both are even
+abbrev pub pelsOfSquare : List ℕ → ℕ → ℕ → ℕ → List ℕ
+pelsOfSquare plane stride px py = tab 256 (λ k. pelAt plane stride (px / 2 + k % 16) (py / 2 + k / 16))
+
 -- "as does the mean of both directions": of the two predictions, each rounded
 abbrev pub meanOfBoth : List ℕ → List ℕ → List ℕ
 meanOfBoth forward backward = tab 64 (λ k. meanOf 2 (getD forward k 0 + getD backward k 0))

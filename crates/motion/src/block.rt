@@ -5,7 +5,7 @@ ghost use lib.IntN.{pos};
 ghost use lib.ListN.{length};
 ghost use Rattle.integers.specs.Bound.{Within, AllWithin};
 ghost use Rattle.integers.specs.Limit.{limited};
-ghost use Rattle.motion.specs.Pel.{reconstructedPel, reconstructed, withBlock};
+ghost use Rattle.motion.specs.Pel.{reconstructedPel, reconstructed, withSquare, withBlock};
 
 // A sum limited to 0..255, still of sixteen bits: so limited, sixteen of them become bytes in one instruction.
 fn limit_pel(sum: i16) -> i16
@@ -50,6 +50,20 @@ pub fn put_block(plane: &mut [u8], stride: usize, x: usize, y: usize, block: [u8
             let k = 8 * j + i;
             let at = (y + k / 8) * stride + (x + k % 8);
             plane[at] = block[k];
+        }
+    }
+}
+
+// Puts the square of 16 by 16 pels at column x of line y: the inner loop becomes a store of sixteen bytes.
+pub fn put_square(plane: &mut [u8], stride: usize, x: usize, y: usize, square: [u8; 256])
+    requires { ⌜ (x + 16 ≤ stride) × ((y + 16) * stride ≤ length (now plane)) ⌝ }
+    ensures { λ _. ⌜ now (plane .exit) ≡ withSquare 16 stride x y square (now (plane .entry)) ⌝ }
+{
+    for j in 0..16 {
+        for i in 0..16 {
+            let k = 16 * j + i;
+            let at = (y + k / 16) * stride + (x + k % 16);
+            plane[at] = square[k];
         }
     }
 }

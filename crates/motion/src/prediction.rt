@@ -1,8 +1,8 @@
 // The prediction of an 8 by 8 block from a plane of a reference picture, at a place that counts half pels.
 ghost use mathlib.Core.Path.{_≡_};
-ghost use Prim.Native.Nat.{_+_, _*_, _%_, _≤_, _<_};
+ghost use Prim.Native.Nat.{_+_, _*_, _/_, _%_, _≤_, _<_};
 ghost use lib.ListN.{length};
-ghost use Rattle.motion.specs.Prediction.{meanOf, predictedPel, prediction, meanOfBoth};
+ghost use Rattle.motion.specs.Prediction.{meanOf, pelAt, predictedPel, prediction, pelsOfSquare, meanOfBoth};
 
 // The mean of four pels, halves up. With two of them equal to the other two it is the mean of two, and of four equal ones the pel.
 fn mean_of_four(a: u8, b: u8, c: u8, d: u8) -> u8
@@ -83,6 +83,32 @@ pub fn copy_block(plane: &[u8], stride: usize, lines: usize, px: usize, py: usiz
         }
     }
     block
+}
+
+// Pel k of the square at (px, py).
+fn copy_square_pel(plane: &[u8], stride: usize, lines: usize, px: usize, py: usize, k: usize) -> u8
+    requires { ⌜ (px + 32 ≤ 2 * stride) × (py + 32 ≤ 2 * lines) × (lines * stride ≤ length (now plane)) × (k < 256) ⌝ }
+    ensures { λ r. ⌜ r ≡ pelAt (now (plane .entry)) stride (px / 2 + k % 16) (py / 2 + k / 16) ⌝ }
+{
+    let x = px / 2 + k % 16;
+    let y = py / 2 + k / 16;
+    let at = y * stride + x;
+    plane[at]
+}
+
+// The pels of the 16 by 16 square at (px, py): lines of sixteen bytes take half the instructions of lines of eight.
+pub fn copy_square(plane: &[u8], stride: usize, lines: usize, px: usize, py: usize) -> [u8; 256]
+    requires { ⌜ (px + 32 ≤ 2 * stride) × (py + 32 ≤ 2 * lines) × (lines * stride ≤ length (now plane)) ⌝ }
+    ensures { λ r. ⌜ r ≡ pelsOfSquare (now (plane .entry)) stride px py ⌝ }
+{
+    let mut square = [0u8; 256];
+    for j in 0..16 {
+        for i in 0..16 {
+            let k = 16 * j + i;
+            square[k] = copy_square_pel(plane, stride, lines, px, py, k);
+        }
+    }
+    square
 }
 
 // The mean of the predictions of both directions.

@@ -1,11 +1,11 @@
 -- `block::put_block` meets its contract: before line j the first 8 j pels are put, before pel i of line j the first 8 j + i. Assumes nothing.
-use mathlib.Core.Path.{_≡_, refl, ap, _∙_, sym}
+use mathlib.Core.Path.{_≡_, refl, _∙_, sym}
 use mathlib.Core.List.{List}
 use Prim.Native.Nat.{ℕ, _+_, _-_, _*_, _≤_}
 use native.Mathlib.Omega.{arith}
 use lib.ListN.{length, getD, length-set}
 use Rattle.lists.specs.Scatter.{scatter}
-use Rattle.lists.proofs.Scatter.{scatter-none, scatter-next}
+use Rattle.lists.proofs.Scatter.{scatter-none, scatter-to, scatter-next}
 use Rattle.motion.specs.Pel.{cell}
 use Rattle.motion.proofs.PelLaws.{CellFits, cell-fits}
 use Rattle.motion.proofs.block.put_block.Statement.{statement}
@@ -13,11 +13,7 @@ use Rattle.motion.proofs.block.put_block.Tie as tie
 
 -- the plane with the first n pels of the block
 abbrev put : ℕ → ℕ → ℕ → List ℕ → ℕ → List ℕ → List ℕ
-put stride x y block n plane = scatter (cell stride x y) (λ k. getD block k 0) n plane
-
--- the same count, written in another way
-scatter-to : (place value : ℕ → ℕ) (n m : ℕ) (l : List ℕ) → n ≡ m → scatter place value n l ≡ scatter place value m l
-scatter-to place value n m l e = ap (λ (k : ℕ). scatter place value k l) e
+put stride x y block n plane = scatter (cell 8 stride x y) (λ k. getD block k 0) n plane
 
 abbrev Inv-loop2 : tie.InvT-loop2
 Inv-loop2 plane₀ stride x y block j i₀ plane i = (i ≤ 8) × ((l : List ℕ) → plane₀ ≡ put stride x y block (8 * j) l → plane ≡ put stride x y block (8 * j + i) l) × (length plane ≡ length plane₀)
@@ -31,8 +27,8 @@ Inv-loop plane₀ stride x y block j₀ plane j = (j ≤ 8) × (plane ≡ put st
 abbrev μ-loop : tie.MeasureT-loop
 μ-loop plane₀ stride x y block j₀ plane j = 8 - j
 
-fits : (c : tie.In-loop2 Inv-loop2 μ-loop2 Inv-loop μ-loop) → let a = c .before .before .before .before .args in CellFits (a .stride) (a .x) (a .y) (8 * c .before .before .before .loop .j + c .before .loop2 .i) (length (a .plane .now))
-fits c = let s = c .before .before .before .before in cell-fits _ _ _ _ _ (omega arith) (s .pre .0) (s .pre .1)
+fits : (c : tie.In-loop2 Inv-loop2 μ-loop2 Inv-loop μ-loop) → let a = c .before .before .before .before .args in CellFits 8 (a .stride) (a .x) (a .y) (8 * c .before .before .before .loop .j + c .before .loop2 .i) (length (a .plane .now))
+fits c = let s = c .before .before .before .before in cell-fits 8 _ _ _ (omega arith) (s .pre .0) _ _ (omega arith) (s .pre .1)
 
 loop-holds : tie.Need-loop-holds Inv-loop2 μ-loop2 Inv-loop μ-loop
 loop-holds c = (omega arith, sym (scatter-none _ _ _), refl)
@@ -75,7 +71,7 @@ unfolding cell
 loop2-again c =
     let a = c .before .before .before .before .args in (
       omega arith,
-      (λ l e. scatter-next (cell (a .stride) (a .x) (a .y)) (λ k. getD (a .t5) k 0) (8 * c .before .before .before .loop .j + c .before .loop2 .i) _ l _ (c .before .loop2 .inv .1 l e) (omega arith)),
+      (λ l e. scatter-next (cell 8 (a .stride) (a .x) (a .y)) (λ k. getD (a .t5) k 0) (8 * c .before .before .before .loop .j + c .before .loop2 .i) _ l _ (c .before .loop2 .inv .1 l e) (omega arith)),
       simp length-set (c .before .loop2 .inv .2),
     )
 
