@@ -49,7 +49,7 @@ fn copy_block(output: &mut [u8], reference: &[u8], position: Position, vector: V
     place::put(output, place, copied);
 }
 
-// The four blocks of Y, copied as one square: lines of sixteen bytes take half the instructions of lines of eight.
+// The four blocks of Y, copied as one square: a line of sixteen bytes takes no more loads and stores than one of eight.
 fn copy_luma(output: &mut [u8], reference: &[u8], position: Position, vector: Vector)
     requires { ⌜ Copyable position vector (now reference) (now output) × (isWhole vector ≡ true) ⌝ }
     ensures { λ _. ⌜ now (output .exit) ≡ withBlocks position (pointedBlock (now (reference .entry)) position vector) 4 (now (output .entry)) ⌝ }

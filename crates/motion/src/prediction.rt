@@ -96,7 +96,7 @@ fn copy_square_pel(plane: &[u8], stride: usize, lines: usize, px: usize, py: usi
     plane[at]
 }
 
-// The pels of the 16 by 16 square at (px, py): lines of sixteen bytes take half the instructions of lines of eight.
+// The pels of the 16 by 16 square at (px, py): the inner loop becomes a load of sixteen bytes.
 pub fn copy_square(plane: &[u8], stride: usize, lines: usize, px: usize, py: usize) -> [u8; 256]
     requires { ⌜ (px + 32 ≤ 2 * stride) × (py + 32 ≤ 2 * lines) × (lines * stride ≤ length (now plane)) ⌝ }
     ensures { λ r. ⌜ r ≡ pelsOfSquare (now (plane .entry)) stride px py ⌝ }
