@@ -48,17 +48,18 @@ pub fn read_u16(rest: &[u8]) -> WordField
     WordField::Value(value, Cursor { at: 2 })
 }
 
-// The signed number whose two's complement is n, where half of the numbers are not negative.
-fn signed(n: u16, half: u16) -> i16
-    requires { ⌜ (n < 2 * half) × (half ≤ 32768) ⌝ }
-    ensures { λ r. ⌜ r ≡ twosComplement half n ⌝ }
+// The signed number whose two's complement is n: half of all numbers is added before the remainder and taken off after it, which the compiler knows as one
+// instruction.
+fn signed_byte(n: u8) -> i16
+    ensures { λ r. ⌜ r ≡ twosComplement 128 n ⌝ }
 {
-    let value = n as i32;
-    if n < half {
-        return value as i16;
-    }
-    let less = value - 2 * (half as i32);
-    less as i16
+    ((n as u16 + 128) % 256) as i16 - 128
+}
+
+fn signed_word(n: u16) -> i16
+    ensures { λ r. ⌜ r ≡ twosComplement 32768 n ⌝ }
+{
+    (((n as u32 + 32768) % 65536) as i32 - 32768) as i16
 }
 
 // A signed byte.
@@ -68,7 +69,7 @@ pub fn read_i8(rest: &[u8]) -> SignedField
     let ByteField::Value(value, cursor) = read_u8(rest) else {
         return SignedField::Short;
     };
-    SignedField::Value(signed(value as u16, 128), cursor)
+    SignedField::Value(signed_byte(value), cursor)
 }
 
 // A signed number of two bytes, big-endian.
@@ -78,7 +79,7 @@ pub fn read_i16(rest: &[u8]) -> SignedField
     let WordField::Value(value, cursor) = read_u16(rest) else {
         return SignedField::Short;
     };
-    SignedField::Value(signed(value, 32768), cursor)
+    SignedField::Value(signed_word(value), cursor)
 }
 
 // The part after the first n bytes; nothing where there are fewer.

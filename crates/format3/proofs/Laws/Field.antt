@@ -2,15 +2,17 @@
 use mathlib.Core.Path.{_≡_, refl, sym, _∙_}
 use mathlib.Core.List.{List, [], _∷_}
 use Prim.Native.Nat.{ℕ, _+_, _-_, _*_, _<_, _≤_}
+use native.Mathlib.Decide.{decLt}
 use native.Mathlib.Omega.{arith}
+use borrow.Author.Tests.{lt-ltb, le-ltb}
 use lib.IntN.{ℤ, pos, negsuc, negℤ, _-ℤ_}
 use lib.Signed.{mag}
 use lib.ListN.{length, getD, take, drop, length-drop, drop-of-length-le}
 use lib.Seq.{take-all, drop-length}
 use mir.Syntax.{w16}
 use mir.Val.{SFits}
-use Rattle.integers.proofs.Difference.{up, dn, parts-add, parts-neg}
-use Rattle.format3.specs.Field.{bigEndian, byteOf, wordOf, byteThen, wordThen, signedThen}
+use Rattle.integers.proofs.Difference.{up, dn, same-of, parts-add, parts-neg}
+use Rattle.format3.specs.Field.{bigEndian, twosComplement, byteOf, wordOf, byteThen, wordThen, signedThen}
 use Rattle.format3.specs.declared.field.ByteField.{ByteField}
 use Rattle.format3.specs.declared.field.ByteField.the-variants as B
 use Rattle.format3.specs.declared.field.WordField.{WordField}
@@ -66,12 +68,27 @@ mag-below : (z : ℤ) → up z < dn z + 32768 → dn z ≤ up z + 32768 → mag 
 mag-below (pos n) h k = omega arith
 mag-below (negsuc n) h k = omega arith
 
-pub lower-fits : (half n : ℕ) → half ≤ 32768 → n < half → SFits w16 (pos n)
+lower-fits : (half n : ℕ) → half ≤ 32768 → n < half → SFits w16 (pos n)
 lower-fits half n h k = record { sfits = omega arith }
 
-pub upper-fits : (half n : ℕ) → half ≤ 32768 → n < 2 * half → half ≤ n → SFits w16 (pos n -ℤ pos (2 * half))
+upper-fits : (half n : ℕ) → half ≤ 32768 → n < 2 * half → half ≤ n → SFits w16 (pos n -ℤ pos (2 * half))
 upper-fits half n h k l =
     let z = pos n -ℤ pos (2 * half) in
     let sum : up z + (0 + dn (negℤ (pos (2 * half)))) ≡ n + up (negℤ (pos (2 * half))) + dn z = parts-add (pos n) (negℤ (pos (2 * half))) in
     let neg = parts-neg (pos (2 * half)) in
     record { sfits = mag-below z (omega (arith, sum, neg)) (omega (arith, sum, neg)) }
+
+-- a number with half of all numbers added, and all of them taken off where it is in the upper half; then half of them taken off
+pub complement-of : (half n m : ℕ) → (n < half → m ≡ n + half) → (half ≤ n → m + half ≡ n) → pos m -ℤ pos half ≡ twosComplement half n
+unfolding twosComplement
+complement-of half n m low high = elim (decLt n half) [
+  | yes h ↦ rw (lt-ltb n half h) (same-of _ _ (omega (arith, low h, parts-add (pos m) (negℤ (pos half)), parts-neg (pos half))))
+  | no h ↦ rw (le-ltb n half (omega arith)) (same-of _ _ (omega (arith, high (omega arith), parts-add (pos m) (negℤ (pos half)), parts-neg (pos half), parts-add (pos n) (negℤ (pos (2 * half))), parts-neg (pos (2 * half)))))
+]
+
+pub complement-fits : (half n : ℕ) → half ≤ 32768 → n < 2 * half → SFits w16 (twosComplement half n)
+unfolding twosComplement
+complement-fits half n h k = elim (decLt n half) [
+  | yes l ↦ rw (lt-ltb n half l) (lower-fits half n h l)
+  | no l ↦ rw (le-ltb n half (omega arith)) (upper-fits half n h k (omega arith))
+]

@@ -20,14 +20,14 @@ returns : tie.Need-returns
 unfolding signedWordOf
 returns c = rw (← c .before .before .read-u16 .ensures, c .enum-told .given .1)
 
-signed-requires : tie.Need-signed-requires
-signed-requires c κs = search needs
+signed-word-requires : tie.Need-signed-word-requires
+signed-word-requires c κs = search needs
 
 returns-2 : tie.Need-returns-2
 unfolding signedWordOf
-returns-2 c = rw (← c .before .before .before .before .read-u16 .ensures, c .before .before .value .given .1, ← c .signed .ensures, returned w16 (c .signed .ok) refl)
+returns-2 c = rw (← c .before .before .before .before .read-u16 .ensures, c .before .before .value .given .1, ← c .signed-word .ensures, returned w16 (c .signed-word .ok) refl)
 
 pub read-i16-spec : {M : Type 1} → statement M
 read-i16-spec =
     tie.close
-    (tie.spec read-u16-requires enum-known-value enum-told returns signed-requires returns-2)
+    (tie.spec read-u16-requires enum-known-value enum-told returns signed-word-requires returns-2)

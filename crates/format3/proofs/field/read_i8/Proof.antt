@@ -20,15 +20,12 @@ returns : tie.Need-returns
 unfolding signedByteOf
 returns c = rw (← c .before .before .read-u8 .ensures, c .enum-told .given .1)
 
-cast-signed : tie.Need-cast-signed
-cast-signed c = search needs
-
-signed-requires : tie.Need-signed-requires
-signed-requires c κs = search needs
+signed-byte-requires : tie.Need-signed-byte-requires
+signed-byte-requires c κs = search needs
 
 returns-2 : tie.Need-returns-2
 unfolding signedByteOf
-returns-2 c = rw (← c .before .before .before .before .read-u8 .ensures, c .before .before .value .given .1, ← c .signed .ensures, returned w16 (c .signed .ok) refl)
+returns-2 c = rw (← c .before .before .before .before .read-u8 .ensures, c .before .before .value .given .1, ← c .signed-byte .ensures, returned w16 (c .signed-byte .ok) refl)
 
 pub read-i8-spec : {M : Type 1} → statement M
 read-i8-spec =
@@ -38,6 +35,5 @@ read-i8-spec =
     enum-known-value
     enum-told
     returns
-    cast-signed
-    signed-requires
+    signed-byte-requires
     returns-2)
