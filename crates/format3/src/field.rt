@@ -1,7 +1,6 @@
 // The fields of a body. Each reader is handed the part of the body that starts after what was read, and answers the value with a cursor,
 // or `Short` where the field is not wholly inside.
 ghost use mathlib.Core.Path.{_≡_};
-ghost use Prim.Native.Nat.{_*_, _<_, _≤_};
 ghost use lib.ListN.{drop};
 ghost use Rattle.format3.specs.Field.{byteOf, wordOf, signedByteOf, signedWordOf, twosComplement};
 
