@@ -1,4 +1,4 @@
-/* Format 3 in plain C: the same algorithm as the library's, with its refusals and its exact transform, written as one
+/* Format 3 and raw slices in plain C: the same algorithm as the library's, with its refusals and its exact transform, written as one
  * writes C. It is not proved, and is here only to be measured beside it. */
 #ifndef PLAIN_H
 #define PLAIN_H
@@ -14,11 +14,21 @@ uint32_t plain_reconstruct(
     uint8_t *output, size_t output_length,
     size_t *place, size_t *made);
 
+/* As format3_read_slice. */
+uint32_t plain_read_slice(
+    const uint8_t *slice, size_t slice_length,
+    uint32_t width, uint32_t height, uint32_t coding_type,
+    uint32_t forward_f_code, uint32_t backward_f_code,
+    uint8_t *records, size_t records_length,
+    size_t *written, size_t *byte, size_t *bit);
+
 /* As format3_transform, of coefficients that are in range. */
 void plain_transform(const int16_t coefficients[64], int16_t residues[64]);
 
-/* What was done since the counts were last cleared, where this is compiled with PLAIN_CENSUS: pairs, and 8 by 8 blocks. */
+/* What was done since the counts were last cleared, where this is compiled with PLAIN_CENSUS: codes of slices, pairs, and 8 by 8
+ * blocks. */
 struct plain_census {
+    unsigned long codes;
     unsigned long pairs;
     unsigned long transforms;
     unsigned long whole_pel_fetches;

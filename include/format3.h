@@ -1,4 +1,4 @@
-/* Format 3 pictures: from macroblock symbols to pels.
+/* Format 3 pictures: from macroblock symbols to pels, and from the slices of an MPEG-1 video stream to these symbols.
  *
  * The library libformat3_c.a holds the entries declared here. They are proved: each takes every input, ends, never does
  * anything undefined, and answers what is said of it below for all files, numbers and lengths. `crates/format3_c` has
@@ -10,12 +10,12 @@
  *   - every other pointer is of one object of its type, or of the 64 that are said, aligned as C aligns it, not null;
  *   - what is written through one pointer overlaps nothing that another pointer of the same call is of: not the output
  *     a reference or the file, nor `place` `made`, nor the residues the coefficients: a block is never transformed in
- *     place. What is only read may overlap: both references may be one picture;
+ *     place; nor the records the slice. What is only read may overlap: both references may be one picture;
  *   - nobody else writes these buffers during the call.
  * Nothing is allocated or kept from call to call, so the entries may be called from several threads at once.
  *
  * Every entry returns one of the numbers of `enum format3_answer`. Whatever the number, it writes every single object
- * and array that it has a pointer to for writing; of `output` it writes what is said there. */
+ * and array that it has a pointer to for writing; of `output` and `records` it writes what is said there. */
 #ifndef FORMAT3_H
 #define FORMAT3_H
 
@@ -40,7 +40,7 @@ enum format3_answer {
     FORMAT3_FILE_ENDS = 7,           /* the file ends with macroblocks or the header missing */
 
     /* the encoder */
-    FORMAT3_HEADER = 8,              /* a size, type, flag or f_code in the header */
+    FORMAT3_HEADER = 8,              /* a size, type, flag or f_code in the header, or given with a raw slice */
     FORMAT3_MATRIX = 9,              /* which matrix, one given twice, a weight of 0, an intra first weight that is not 8 */
     FORMAT3_QUANTIZER_SCALE = 10,    /* a scale that is not 1..31 */
     FORMAT3_SLICE_START = 11,        /* a slice that does not start at the next address */
@@ -56,7 +56,14 @@ enum format3_answer {
     FORMAT3_OUTPUT_LENGTH = 19,      /* the output is not 384 bytes a macroblock */
     FORMAT3_FORWARD_LENGTH = 20,     /* the forward reference is not as long as the output, or not empty where unused */
     FORMAT3_BACKWARD_LENGTH = 21,    /* the backward reference likewise */
-    FORMAT3_NUMBER_OUT_OF_RANGE = 22 /* a number given to the transform, a coefficient or the vector entry */
+    FORMAT3_NUMBER_OUT_OF_RANGE = 22, /* a number given to the transform, a coefficient or the vector entry */
+
+    /* the writer of a raw slice */
+    FORMAT3_SLICE_CODE = 24,         /* bits that begin no code, a row outside the picture, or a code that leads too far */
+    FORMAT3_SLICE_CUT = 25,         /* the slice ends before its first macroblock, or one that it begins, is whole */
+
+    /* the caller */
+    FORMAT3_RECORDS_LENGTH = 26      /* the slice's records do not fit the buffer */
 };
 
 /* A picture of N macroblocks, at most 48 wide, 36 high and 396 in all, is 384 x N bytes. */
@@ -126,6 +133,46 @@ uint32_t format3_vector(uint32_t f_code, int32_t past, int32_t code, uint32_t re
 uint32_t format3_show_record(
     const uint8_t *file, size_t file_length, size_t offset,
     size_t *kind, size_t *start, size_t *length);
+
+/* The records of a raw slice: the bytes of one slice of an MPEG-1 video stream, from its start code 00 00 01 on, turned by
+ * the tables of Annex B of ISO/IEC 11172-2 into one slice record and a macroblock record for each coded macroblock, one
+ * after another from the start of `records`. Behind the version, a header of the same numbers and the matrices, the records
+ * of all slices of a picture are a file for `format3_reconstruct`.
+ *
+ * Width and height are in macroblocks, the coding type is 1 I, 2 P or 3 B, and both with the f_codes are as a header has
+ * them: at most 48 wide, 36 high and 396 in all; an f_code of 1..7 for a direction that the type uses (P forward, B both),
+ * else 0.
+ *
+ * A slice is its start code, with its row from 1; the quantizer scale; extra information; and macroblocks up to where only
+ * zero bits are left, or none. Stuffing and extra information are dropped. Escapes are added into the address increment;
+ * the first increment goes into the slice record's start address, (row - 1) x width + increment - 1, and its macroblock's
+ * record carries 1. What the tables can carry and `format3_reconstruct` refuses is written as it is read: a scale of 0, an
+ * address past the picture, a skip in an I picture, a DC out of its range, a vector that does not fit.
+ *
+ * The start code is one code, and so are a coefficient with its sign and an escape with its run and level; else every
+ * field of the syntax is one. `byte` and `bit` say where a code starts, the bits of a byte counted from 0, the most
+ * significant first.
+ *
+ * Answers 0, 8, 24, 25 or 26.
+ * Accepted (0): `written` is the length of the records, which are at the start of `records`; the bytes after them are as
+ * they were before the call. `byte` and `bit` are where the unread rest starts: the slice's length and 0 where nothing is
+ * left.
+ * Refused: `written` is 0, and every byte of `records` is as it was before the call.
+ *    8  a width, height, coding type or f_code is out of its range, which is tested before anything is read; `byte` and
+ *       `bit` are 0.
+ *   24  from `byte` and `bit` on, the bits begin no code that may stand there, whatever would come after them; or the start
+ *       code's row is not in the picture; or a whole code there takes an address increment past 396, or a coefficient past
+ *       position 63. After an escape of the increment, stuffing is no code. A level of 0 or -256 after an escape, and one of
+ *       -127..127 in 16 bits, is none. The start code of what follows in the stream is none: it is not to be given along.
+ *   25  from `byte` and `bit` on, the bits are the start of a code, or there are none left, and the first macroblock or one
+ *       that was begun is not whole.
+ *   26  the slice would be accepted, but its records are longer than `records_length`; `byte` and `bit` are 0. */
+uint32_t format3_read_slice(
+    const uint8_t *slice, size_t slice_length,
+    uint32_t width, uint32_t height, uint32_t coding_type,
+    uint32_t forward_f_code, uint32_t backward_f_code,
+    uint8_t *records, size_t records_length,
+    size_t *written, size_t *byte, size_t *bit);
 
 #ifdef __cplusplus
 }

@@ -36,6 +36,12 @@ edits=(
     's/(FORMAT3_VERSION|FORMAT3_PATTERN) = [0-9]+/\1 = 23/'
     's/FORMAT3_ACCEPTED = 0/FORMAT3_ACCEPTED = 24/'
     's/^enum format3_limit/enum limit/'
+    's/uint32_t width, uint32_t height, /uint32_t height, uint32_t width, /'
+    's/uint32_t forward_f_code, uint32_t backward_f_code/uint32_t backward_f_code, uint32_t forward_f_code/'
+    's/const uint8_t \*slice/uint8_t *slice/'
+    's/size_t \*byte, size_t \*bit/size_t *bit, size_t *byte/'
+    's/SLICE_CODE = 24/SLICE_CODE = 25/'
+    's/FORMAT3_RECORDS_LENGTH = 26/FORMAT3_RECORDS_LENGTH = 27/'
 )
 for edit in "${edits[@]}"; do
     require_refused "$edit"

@@ -1,4 +1,4 @@
-/* figures: every entry called from C at figures of document 01. Prints each that is not as it should be, and fails. */
+/* figures: every entry called from C at figures of document 01, and the slice that makes the worked reel's first picture. Prints each that is not as it should be, and fails. */
 #include <stdint.h>
 #include <stdio.h>
 
@@ -120,6 +120,40 @@ static void pictures(void)
     picture(0, 384, FORMAT3_FILE_EMPTY, 0, 0);
 }
 
+/* The grey picture's one slice: a scale of 8, an intra macroblock, and no coefficient. */
+static const uint8_t GREY_SLICE[9] = {0, 0, 1, 1, 0x43, 0x94, 0xa5, 0x22, 0x20};
+
+/* Where its records are in the file. */
+enum { GREY_RECORDS = 11, GREY_RECORDS_LENGTH = 30 };
+
+static void slice(
+    size_t slice_length, uint32_t type, size_t records_length, uint32_t number, long expected_written, long expected_byte,
+    long expected_bit)
+{
+    uint8_t records[GREY_RECORDS_LENGTH + 1];
+    size_t written = 99, byte = 99, bit = 99;
+    for (size_t k = 0; k < sizeof records; k++)
+        records[k] = 7;
+    expect("slice answer", number,
+        format3_read_slice(GREY_SLICE, slice_length, 1, 1, type, 0, 0, records, records_length, &written, &byte, &bit));
+    expect("written", expected_written, (long)written);
+    expect("byte", expected_byte, (long)byte);
+    expect("bit", expected_bit, (long)bit);
+    for (size_t k = 0; k < sizeof records; k++)
+        expect("record byte", (long)k < expected_written ? GREY[GREY_RECORDS + k] : 7, records[k]);
+}
+
+static void slices(void)
+{
+    slice(sizeof GREY_SLICE, 1, GREY_RECORDS_LENGTH + 1, FORMAT3_ACCEPTED, GREY_RECORDS_LENGTH, 8, 4);
+    slice(sizeof GREY_SLICE, 1, GREY_RECORDS_LENGTH, FORMAT3_ACCEPTED, GREY_RECORDS_LENGTH, 8, 4);
+    slice(sizeof GREY_SLICE, 1, GREY_RECORDS_LENGTH - 1, FORMAT3_RECORDS_LENGTH, 0, 0, 0);
+    slice(sizeof GREY_SLICE, 4, GREY_RECORDS_LENGTH, FORMAT3_HEADER, 0, 0, 0);
+    slice(sizeof GREY_SLICE, 2, GREY_RECORDS_LENGTH, FORMAT3_HEADER, 0, 0, 0);
+    slice(8, 1, 0, FORMAT3_SLICE_CUT, 0, 8, 0);
+    slice(0, 1, 0, FORMAT3_SLICE_CUT, 0, 0, 0);
+}
+
 int main(void)
 {
     coefficients();
@@ -127,5 +161,6 @@ int main(void)
     transforms();
     records();
     pictures();
+    slices();
     return failures == 0 ? 0 : 1;
 }

@@ -22,7 +22,7 @@ pub fn require_every_answer(counts: &Counts) -> Result<(), String> {
     }
 }
 
-fn require_same<T: PartialEq + Debug>(
+pub(crate) fn require_same<T: PartialEq + Debug>(
     what: impl FnOnce() -> String,
     ours: T,
     theirs: T,
@@ -76,11 +76,23 @@ fn same_picture(tested: &Entries, case: &Case, what: impl Fn() -> String) -> Res
     };
     let (ours, theirs) = (run(&ENTRIES), run(tested));
     require_same(&what, ours.0, theirs.0)?;
-    if let Some(byte) = (0..case.output.len()).find(|byte| ours.1[*byte] != theirs.1[*byte]) {
-        let what = || format!("{}, byte {byte}", what());
-        require_same(what, ours.1[byte], theirs.1[byte])?;
-    }
+    require_same_bytes(&what, &ours.1, &theirs.1)?;
     Ok(ours.0.number)
+}
+
+/// Two buffers of one length have the same bytes; else the first that differs is told.
+pub(crate) fn require_same_bytes(
+    what: impl Fn() -> String,
+    ours: &[u8],
+    theirs: &[u8],
+) -> Result<(), String> {
+    match (0..ours.len()).find(|byte| ours[*byte] != theirs[*byte]) {
+        Some(byte) => {
+            let what = || format!("{}, byte {byte}", what());
+            require_same(what, ours[byte], theirs[byte])
+        }
+        None => Ok(()),
+    }
 }
 
 /// Records shown from a few offsets of the file, and from past its end.

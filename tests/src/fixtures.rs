@@ -1,11 +1,13 @@
-//! Fixtures made outside the project: reels, what `panel` prints for them, and the pictures of another codec.
+//! Fixtures made outside the project: reels, what `panel` prints for them, the streams that they come from, the pictures of
+//! another codec, and raw slices with their answers.
 
 use std::fs;
 use std::path::{Path, PathBuf};
 
 use crate::decoder::panel::{play, text, Line, NO_LIMITS};
-use crate::decoder::Reconstruct;
+use crate::decoder::{Entries, Given, ReadSlice, Reconstruct, SliceAnswer};
 use crate::sha256;
+use crate::stream;
 
 /// A reel within the limits of `panel`, and what it prints.
 pub struct PanelFixture {
@@ -16,14 +18,27 @@ pub struct PanelFixture {
     pub printed: String,
 }
 
-/// A reel of any length.
+/// A reel of any length, and the stream that it comes from.
 pub struct StreamFixture {
     pub name: String,
+    /// The MPEG-1 video elementary stream.
+    pub stream: Vec<u8>,
     pub reel: Vec<u8>,
     /// What `panel` would print without its limits, each line with 16 hexadecimal digits of its picture's SHA-256.
     pub expected: String,
     /// The pictures one after another as another codec decodes them.
     pub other: Option<Vec<u8>>,
+}
+
+/// A raw slice, what it is read with, and what reading it gives.
+pub struct SliceFixture {
+    pub name: String,
+    pub slice: Vec<u8>,
+    pub given: Given,
+    pub buffer_length: usize,
+    pub answer: SliceAnswer,
+    /// None where the slice is refused.
+    pub records: Vec<u8>,
 }
 
 pub fn panel_fixtures() -> Vec<PanelFixture> {
@@ -39,6 +54,7 @@ pub fn panel_fixtures() -> Vec<PanelFixture> {
 pub fn stream_fixtures() -> Vec<StreamFixture> {
     let read = |reel: PathBuf| StreamFixture {
         name: name_of(&reel),
+        stream: read_bytes(&reel.with_extension("m1v")),
         expected: read_text(&reel.with_extension("expect")),
         other: fs::read(reel.with_extension("other.yuv")).ok(),
         reel: read_bytes(&reel),
@@ -46,11 +62,70 @@ pub fn stream_fixtures() -> Vec<StreamFixture> {
     reels("streams").into_iter().map(read).collect()
 }
 
+/// The lines of `slices.txt`. There is at least one.
+pub fn slice_fixtures() -> Vec<SliceFixture> {
+    let path = fixture("slices.txt");
+    let lines = read_text(&path);
+    let lines = lines.lines().filter(|line| !line.starts_with('#'));
+    let fixtures: Vec<SliceFixture> = lines.map(slice_fixture).collect();
+    assert!(!fixtures.is_empty(), "no slice in {}", path.display());
+    fixtures
+}
+
+/// "name, width height type forward_f_code backward_f_code, buffer length (-1: large), slice hex (- empty), number, written, byte,
+/// bit, records hex (- none)", with tabs between them.
+fn slice_fixture(line: &str) -> SliceFixture {
+    let columns: Vec<&str> = line.split('\t').collect();
+    let [name, given, length, slice, number, written, byte, bit, records] = columns[..] else {
+        panic!("not the columns of a slice: {line}");
+    };
+    let given: Vec<u32> = given.split(' ').map(number_of).collect();
+    let [width, height, picture_type, forward, backward] = given[..] else {
+        panic!("not the numbers of a header: {line}");
+    };
+    SliceFixture {
+        name: name.into(),
+        slice: bytes_of(slice),
+        given: Given {
+            width,
+            height,
+            picture_type,
+            f_codes: [forward, backward],
+        },
+        buffer_length: if length == "-1" {
+            LARGE
+        } else {
+            number_of(length)
+        },
+        answer: SliceAnswer {
+            number: number_of(number),
+            written: number_of(written),
+            byte: number_of(byte),
+            bit: number_of(bit),
+        },
+        records: bytes_of(records),
+    }
+}
+
+/// Longer than the records of any slice of the fixtures.
+const LARGE: usize = 1 << 16;
+
+fn number_of<N: std::str::FromStr>(text: &str) -> N {
+    let number = text.parse();
+    number.unwrap_or_else(|_| panic!("no number: {text}"))
+}
+
+/// The bytes of hexadecimal digits; `-` is none.
+fn bytes_of(digits: &str) -> Vec<u8> {
+    let digits = digits.trim_matches('-');
+    let byte = |at| u8::from_str_radix(&digits[at..at + 2], 16);
+    let bytes: Result<_, _> = (0..digits.len()).step_by(2).map(byte).collect();
+    bytes.unwrap_or_else(|_| panic!("no bytes: {digits}"))
+}
+
 /// The reels of a folder of fixtures, in the order of their names. There is at least one.
-fn reels(folder: &str) -> Vec<PathBuf> {
-    let path = Path::new(env!("CARGO_MANIFEST_DIR"))
-        .join("fixtures")
-        .join(folder);
+fn reels(name: &str) -> Vec<PathBuf> {
+    let path = fixture(name);
     let entries = fs::read_dir(&path).unwrap_or_else(|error| panic!("{}: {error}", path.display()));
     let mut reels: Vec<PathBuf> = entries
         .filter_map(|entry| Some(entry.ok()?.path()))
@@ -59,6 +134,12 @@ fn reels(folder: &str) -> Vec<PathBuf> {
     assert!(!reels.is_empty(), "no reel in {}", path.display());
     reels.sort();
     reels
+}
+
+/// What lies in the folder of fixtures under a name.
+fn fixture(name: &str) -> PathBuf {
+    let package = Path::new(env!("CARGO_MANIFEST_DIR"));
+    package.join("fixtures").join(name)
 }
 
 fn name_of(reel: &Path) -> String {
@@ -95,6 +176,58 @@ impl StreamFixture {
         same_lines(&self.name, &self.expected, &text(&lines))?;
         match &self.other {
             Some(other) => within_one(&self.name, other, &pictures),
+            None => Ok(()),
+        }
+    }
+
+    /// Every slice of the stream, turned into records, gives those of the reel; so the pictures' files are those of the reel.
+    /// Answers how many slices there are.
+    pub fn check_slices(&self, read_slice: ReadSlice) -> Result<usize, String> {
+        let pictures = stream::pictures(&self.stream)?;
+        let files = stream::files_of_reel(&self.reel)?;
+        if pictures.len() != files.len() {
+            let (found, expected) = (pictures.len(), files.len());
+            return Err(format!("{}: {found} pictures, not {expected}", self.name));
+        }
+        let mut slices = 0;
+        for (number, (picture, file)) in (1..).zip(pictures.iter().zip(files)) {
+            let what = |error| format!("{}, picture {number}: {error}", self.name);
+            picture.check_records(file, read_slice).map_err(what)?;
+            slices += picture.slices.len();
+        }
+        Ok(slices)
+    }
+
+    /// The stream played, its slices read and its pictures made by these entries: each has the line and the hash expected.
+    pub fn check_stream(&self, entries: &Entries) -> Result<(), String> {
+        let reel = stream::reel(&self.stream, entries.read_slice)?;
+        let mut lines = play(&reel, NO_LIMITS, entries.reconstruct);
+        lines.iter_mut().for_each(add_hash);
+        same_lines(&self.name, &self.expected, &text(&lines))
+    }
+}
+
+/// What a buffer holds before a slice is read: each byte that is written, or left, shows.
+fn pattern(length: usize) -> Vec<u8> {
+    (0..length).map(|at| (91 * at + 37) as u8).collect()
+}
+
+impl SliceFixture {
+    /// Reading the slice gives the answer and the records, and leaves every other byte of the buffer as it was.
+    pub fn check(&self, read_slice: ReadSlice) -> Result<(), String> {
+        let mut buffer = pattern(self.buffer_length);
+        let mut expected = buffer.clone();
+        expected[..self.records.len()].copy_from_slice(&self.records);
+        let answer = read_slice(&self.slice, self.given, &mut buffer);
+        if answer != self.answer {
+            let (name, expected) = (&self.name, self.answer);
+            return Err(format!("{name}: expected {expected:?}, found {answer:?}"));
+        }
+        match (0..buffer.len()).find(|byte| buffer[*byte] != expected[*byte]) {
+            Some(byte) => Err(format!(
+                "{}: byte {byte} of the buffer is {}, not {}",
+                self.name, buffer[byte], expected[byte]
+            )),
             None => Ok(()),
         }
     }

@@ -7,6 +7,7 @@ use std::process::ExitCode;
 use program::Program;
 
 pub mod compare;
+pub mod compare_slices;
 pub mod decoder;
 pub mod fixtures;
 pub mod generator;
@@ -16,6 +17,7 @@ pub mod p1180;
 pub mod program;
 pub mod random;
 pub mod sha256;
+pub mod stream;
 
 /// How a program ends: a failure is told.
 pub fn exit_code(program: &str, result: Result<(), String>) -> ExitCode {

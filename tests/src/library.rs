@@ -2,7 +2,7 @@
 #![allow(unsafe_code)]
 
 use crate::decoder::entries::{Entries, Shown};
-use crate::decoder::Answer;
+use crate::decoder::{Answer, Given, SliceAnswer};
 
 /// The library's entries.
 pub const ENTRIES: Entries = Entries {
@@ -16,6 +16,7 @@ pub const ENTRIES: Entries = Entries {
     },
     vector,
     show_record,
+    read_slice,
 };
 
 type Coefficient = unsafe extern "C" fn(i32, i32, i32, *mut i16) -> u32;
@@ -56,6 +57,21 @@ extern "C" {
         kind: *mut usize,
         start: *mut usize,
         length: *mut usize,
+    ) -> u32;
+
+    fn format3_read_slice(
+        slice: *const u8,
+        slice_len: usize,
+        width: u32,
+        height: u32,
+        coding_type: u32,
+        forward_f_code: u32,
+        backward_f_code: u32,
+        records: *mut u8,
+        records_len: usize,
+        written: *mut usize,
+        byte: *mut usize,
+        bit: *mut usize,
     ) -> u32;
 }
 
@@ -127,4 +143,32 @@ fn show_record(file: &[u8], offset: usize) -> (u32, Shown) {
         )
     };
     (number, shown)
+}
+
+fn read_slice(slice: &[u8], given: Given, records: &mut [u8]) -> SliceAnswer {
+    let mut answer = SliceAnswer {
+        number: 0,
+        written: UNWRITTEN,
+        byte: UNWRITTEN,
+        bit: UNWRITTEN,
+    };
+    let [forward_f_code, backward_f_code] = given.f_codes;
+    // SAFETY: each slice's pointer goes with its length, the others are of live numbers.
+    answer.number = unsafe {
+        format3_read_slice(
+            slice.as_ptr(),
+            slice.len(),
+            given.width,
+            given.height,
+            given.picture_type,
+            forward_f_code,
+            backward_f_code,
+            records.as_mut_ptr(),
+            records.len(),
+            &mut answer.written,
+            &mut answer.byte,
+            &mut answer.bit,
+        )
+    };
+    answer
 }

@@ -1,7 +1,8 @@
 //! The comparison itself: it finds nothing between the other decoder and itself, and finds wrong implementations.
 
 use format3_tests::compare::{changed_fields, coefficients, pictures, transforms, vectors};
-use format3_tests::decoder::{Answer, Entries, Reconstruct, ENTRIES};
+use format3_tests::compare_slices::{changed_slices, ended_slices, slices, stream_slices};
+use format3_tests::decoder::{Answer, Entries, ReadSlice, Reconstruct, SliceAnswer, ENTRIES};
 
 const SEED: u64 = 2;
 
@@ -12,6 +13,10 @@ fn compare(tested: &Entries) -> Result<(), String> {
     changed_fields(tested, SEED)?;
     coefficients(tested)?;
     vectors(tested)?;
+    changed_slices(tested, SEED)?;
+    ended_slices(tested)?;
+    stream_slices(tested, SEED)?;
+    slices(tested, SEED, 6000)?;
     Ok(())
 }
 
@@ -107,4 +112,83 @@ fn wrong_entries_are_found() {
         ..ENTRIES
     };
     require_found("a start where a record is refused", starts_where_refused);
+}
+
+/// Readers that differ from the other decoder's in one rule.
+#[test]
+fn wrong_readers_of_slices_are_found() {
+    const REFUSED: SliceAnswer = SliceAnswer {
+        number: 0,
+        written: 0,
+        byte: 0,
+        bit: 0,
+    };
+    let refuses_all: ReadSlice = |_, _, _| SliceAnswer {
+        number: 24,
+        ..REFUSED
+    };
+    let writes_nothing: ReadSlice =
+        |slice, given, buffer| (ENTRIES.read_slice)(slice, given, &mut buffer.to_vec());
+    let writes_past: ReadSlice = |slice, given, buffer| {
+        let answer = (ENTRIES.read_slice)(slice, given, buffer);
+        buffer[answer.written..].fill(0);
+        answer
+    };
+    let writes_where_refused: ReadSlice = |slice, given, buffer| {
+        let answer = (ENTRIES.read_slice)(slice, given, buffer);
+        if answer.number != 0 && !buffer.is_empty() {
+            buffer[0] = 0;
+        }
+        answer
+    };
+    let short_buffer_first: ReadSlice = |slice, given, buffer| match buffer.len() {
+        0 => SliceAnswer {
+            number: 26,
+            ..REFUSED
+        },
+        _ => (ENTRIES.read_slice)(slice, given, buffer),
+    };
+    let trusts_the_numbers: ReadSlice = |slice, mut given, buffer| {
+        given.width = given.width.max(1);
+        (ENTRIES.read_slice)(slice, given, buffer)
+    };
+    let looks_at_a_byte: ReadSlice = |slice, mut given, buffer| {
+        given.height %= 256;
+        (ENTRIES.read_slice)(slice, given, buffer)
+    };
+    let bits_from_the_right: ReadSlice = |slice, given, buffer| {
+        let answer = (ENTRIES.read_slice)(slice, given, buffer);
+        let bit = (8 - answer.bit) % 8;
+        SliceAnswer { bit, ..answer }
+    };
+    let cut_is_no_code: ReadSlice = |slice, given, buffer| {
+        let mut answer = (ENTRIES.read_slice)(slice, given, buffer);
+        if answer.number == 25 && answer.byte + 1 == slice.len() && answer.bit == 1 {
+            answer.number = 24;
+        }
+        answer
+    };
+    let readers = [
+        ("a reader that refuses all", refuses_all),
+        ("one that writes nothing", writes_nothing),
+        ("one that writes past its records", writes_past),
+        ("one that writes where it refuses", writes_where_refused),
+        ("26 tested first", short_buffer_first),
+        ("a width that is not tested", trusts_the_numbers),
+        ("a height of which a byte is tested", looks_at_a_byte),
+        ("bits counted from the right", bits_from_the_right),
+        ("seven bits left as no code", cut_is_no_code),
+    ];
+    for (name, read_slice) in readers {
+        let wrong = Entries {
+            read_slice,
+            ..ENTRIES
+        };
+        let found = changed_slices(&wrong, SEED).and(slices(&wrong, SEED, 6000));
+        let found = found.err().unwrap_or_default();
+        assert!(
+            found.contains("by the one tested"),
+            "{name} was not found: {found}"
+        );
+    }
 }

@@ -1,9 +1,10 @@
 //! The generator makes legal cases that are accepted, and damaged ones that bring about every answer.
 
 use format3_tests::compare::{require_every_answer, Counts};
+use format3_tests::compare_slices::{require_every_slice_answer, slices, SliceCounts};
 use format3_tests::decoder::panel::{play, PANEL_LIMITS};
-use format3_tests::decoder::reconstruct;
-use format3_tests::generator::{case, reel, small_cases};
+use format3_tests::decoder::{reconstruct, ENTRIES};
+use format3_tests::generator::{case, reel, slice_case, small_cases, small_slice_cases};
 
 const SEED: u64 = 1;
 
@@ -58,4 +59,37 @@ fn changed_fields_bring_about_every_refusal_of_a_field() {
         counts[answer] += 1;
     }
     assert_eq!(require_every_answer(&counts), Ok(()));
+}
+
+/// All answers, and, as `slices` itself asks, every word of Annex B.
+#[test]
+fn slices_bring_about_every_answer_and_code() {
+    let counts = slices(&ENTRIES, SEED, 6000).expect("every code stands in a slice");
+    assert_eq!(require_every_slice_answer(&counts), Ok(()));
+    for number in 0..1000 {
+        let mut case = slice_case(SEED, number);
+        let answer = (ENTRIES.read_slice)(&case.slice, case.given, &mut case.buffer);
+        assert!(
+            !case.legal || answer.number == 0,
+            "slice {number}: {answer:?}"
+        );
+    }
+}
+
+#[test]
+fn few_slices_are_told_to_lack_codes() {
+    assert!(slices(&ENTRIES, SEED, 10).is_err());
+}
+
+/// Bits, bytes, lengths and numbers of small slices, each changed in turn, bring about every answer to a slice.
+#[test]
+fn changed_slices_bring_about_every_answer() {
+    let mut counts = SliceCounts::new();
+    for case in (SEED..SEED + 3).flat_map(small_slice_cases) {
+        for mut changed in case.each_change() {
+            let answer = (ENTRIES.read_slice)(&changed.slice, changed.given, &mut changed.buffer);
+            *counts.entry(answer.number).or_default() += 1;
+        }
+    }
+    assert_eq!(require_every_slice_answer(&counts), Ok(()));
 }

@@ -8,10 +8,12 @@ ghost use Rattle.coefficient.specs.Answer.{coefficientNumber, coefficientValue}
 ghost use Rattle.motion.specs.Vector.{decodedNumber, decodedVector};
 ghost use Rattle.format3.specs.Record.{recordOf, answerOf, kindOf, startOf, bodyLengthOf};
 ghost use Rattle.picture.specs.Picture.{pictureOf};
+ghost use Rattle.raw_slice.specs.Answer.{given, outcomeOf};
 use format3::record;
 use format3::record::Record;
 use motion::vector;
 use picture::reader;
+use raw_slice::entry;
 
 // The picture of a Format 3 file, from its references into the lent output: number, place, made.
 #[no_mangle]
@@ -130,4 +132,39 @@ pub extern "C" fn format3_show_record(
             refusals::number(refusal)
         }
     }
+}
+
+// The records of one raw slice, laid into the lent buffer: number, bytes written, and the byte and bit where the refused code or the unread rest starts.
+#[no_mangle]
+pub extern "C" fn format3_read_slice(
+    slice: &[u8],
+    width: u32,
+    height: u32,
+    coding_type: u32,
+    forward_f_code: u32,
+    backward_f_code: u32,
+    records: &mut [u8],
+    written: &mut usize,
+    byte: &mut usize,
+    bit: &mut usize,
+) -> u32
+    ensures number { λ r. ⌜ r ≡ outcomeOf (given width height «coding_type» «forward_f_code» «backward_f_code») (now (slice .entry)) (now (records .entry)) .answer .number ⌝ }
+    ensures records { λ _. ⌜ now (records .exit) ≡ outcomeOf (given width height «coding_type» «forward_f_code» «backward_f_code») (now (slice .entry)) (now (records .entry)) .buffer ⌝ }
+    ensures written { λ _. ⌜ now (written .exit) ≡ outcomeOf (given width height «coding_type» «forward_f_code» «backward_f_code») (now (slice .entry)) (now (records .entry)) .answer .written ⌝ }
+    ensures byte { λ _. ⌜ now (byte .exit) ≡ outcomeOf (given width height «coding_type» «forward_f_code» «backward_f_code») (now (slice .entry)) (now (records .entry)) .answer .byte ⌝ }
+    ensures bit { λ _. ⌜ now (bit .exit) ≡ outcomeOf (given width height «coding_type» «forward_f_code» «backward_f_code») (now (slice .entry)) (now (records .entry)) .answer .bit ⌝ }
+{
+    let answer = entry::read_slice(
+        slice,
+        width,
+        height,
+        coding_type,
+        forward_f_code,
+        backward_f_code,
+        records,
+    );
+    *written = answer.written;
+    *byte = answer.byte;
+    *bit = answer.bit;
+    answer.number
 }

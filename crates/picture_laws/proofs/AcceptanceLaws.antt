@@ -71,6 +71,9 @@ number-not-accepted R.OutputLength e = omega arith
 number-not-accepted R.ForwardLength e = omega arith
 number-not-accepted R.BackwardLength e = omega arith
 number-not-accepted R.NumberOutOfRange e = omega arith
+number-not-accepted R.SliceCode e = omega arith
+number-not-accepted R.SliceCut e = omega arith
+number-not-accepted R.RecordsLength e = omega arith
 
 -- ---- between records: `made` is the next address, and the picture is complete only at its last macroblock
 pub record Level (s : PictureState) : Type 0 where

@@ -1,4 +1,4 @@
--- The refusals and their numbers (document 01, "Refusals by who can cause them"). No other definition holds a refusal's number.
+-- The refusals and their numbers (document 01, "Refusals by who can cause them", and request No. 2). No other definition holds a refusal's number.
 use Prim.Native.Nat.{ℕ}
 use Rattle.refusals.specs.declared.Refusal.{Refusal}
 use Rattle.refusals.specs.declared.Refusal.the-variants.{
@@ -24,6 +24,9 @@ use Rattle.refusals.specs.declared.Refusal.the-variants.{
   ForwardLength,
   BackwardLength,
   NumberOutOfRange,
+  SliceCode,
+  SliceCut,
+  RecordsLength,
 }
 
 -- the answer's number where nothing is refused
@@ -73,3 +76,10 @@ numberOf ForwardLength = 20
 numberOf BackwardLength = 21
 -- a number out of range, given straight to the coefficient, transform or vector entry
 numberOf NumberOutOfRange = 22
+-- request No. 2, raw slices: "24 when the bits left, however they went on, begin no code (a forbidden level is none), the row isn't in the picture, or
+-- a code takes an increment past 396 or a coefficient past position 63"
+numberOf SliceCode = 24
+-- "25 when the bytes end before the first macroblock, or one begun, is whole"
+numberOf SliceCut = 25
+-- "26 when the records don't fit the buffer, tested last"
+numberOf RecordsLength = 26

@@ -29,6 +29,10 @@ pub enum Refusal {
     ForwardLength,
     BackwardLength,
     NumberOutOfRange,
+    // Of a slice's bits: the first two caused by the recorder, the last by the caller.
+    SliceCode,
+    SliceCut,
+    RecordsLength,
 }
 
 // The number of an acceptance.
@@ -61,5 +65,8 @@ pub fn number(refusal: Refusal) -> u32
         Refusal::ForwardLength => 20,
         Refusal::BackwardLength => 21,
         Refusal::NumberOutOfRange => 22,
+        Refusal::SliceCode => 24,
+        Refusal::SliceCut => 25,
+        Refusal::RecordsLength => 26,
     }
 }

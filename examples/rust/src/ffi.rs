@@ -47,4 +47,19 @@ extern "C" {
         start: *mut usize,
         length: *mut usize,
     ) -> u32;
+
+    pub fn format3_read_slice(
+        slice: *const u8,
+        slice_length: usize,
+        width: u32,
+        height: u32,
+        coding_type: u32,
+        forward_f_code: u32,
+        backward_f_code: u32,
+        records: *mut u8,
+        records_length: usize,
+        written: *mut usize,
+        byte: *mut usize,
+        bit: *mut usize,
+    ) -> u32;
 }

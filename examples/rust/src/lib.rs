@@ -29,6 +29,61 @@ pub struct Record<'a> {
     pub end: usize,
 }
 
+/// What a raw slice is read with, as in a header: width and height in macroblocks, the picture's type (1 I, 2 P, 3 B), and the
+/// f_codes, 0 for a direction that the type doesn't use.
+#[derive(Clone, Copy, Debug, PartialEq, Eq)]
+pub struct SliceNumbers {
+    pub width: u32,
+    pub height: u32,
+    pub coding_type: u32,
+    pub forward_f_code: u32,
+    pub backward_f_code: u32,
+}
+
+/// A place in a slice: a byte, and a bit of it, the most significant being 0.
+#[derive(Clone, Copy, Debug, PartialEq, Eq)]
+pub struct BitPlace {
+    pub byte: usize,
+    pub bit: usize,
+}
+
+/// A slice that was not accepted: why, and where the code starts that is refused.
+#[derive(Clone, Copy, Debug, PartialEq, Eq)]
+pub struct RefusedSlice {
+    pub refusal: Refusal,
+    pub place: BitPlace,
+}
+
+/// Turns the bytes of a slice, from its start code up to the next one, into records at the start of `records`. Gives how many
+/// bytes they are, and where in the slice what is left of it starts. Where the slice is refused, `records` is as it was.
+pub fn read_slice(
+    slice: &[u8],
+    numbers: SliceNumbers,
+    records: &mut [u8],
+) -> Result<(usize, BitPlace), RefusedSlice> {
+    let (mut written, mut byte, mut bit) = (0, 0, 0);
+    // SAFETY: each pointer is of a live slice, with its length, or of a live number, and what is written overlaps nothing.
+    let number = unsafe {
+        ffi::format3_read_slice(
+            slice.as_ptr(),
+            slice.len(),
+            numbers.width,
+            numbers.height,
+            numbers.coding_type,
+            numbers.forward_f_code,
+            numbers.backward_f_code,
+            records.as_mut_ptr(),
+            records.len(),
+            &mut written,
+            &mut byte,
+            &mut bit,
+        )
+    };
+    let place = BitPlace { byte, bit };
+    Refusal::of(number).map_err(|refusal| RefusedSlice { refusal, place })?;
+    Ok((written, place))
+}
+
 /// Decodes a file into `output`, and gives the count of its macroblocks. A reference that is not used is empty. Where the
 /// picture is refused, `output` holds the macroblocks made before, and is else as it was.
 pub fn reconstruct(

@@ -27,11 +27,16 @@ pub enum Refusal {
     ForwardLength = 20,
     BackwardLength = 21,
     NumberOutOfRange = 22,
+    // The writer of a raw slice.
+    SliceCode = 24,
+    SliceCut = 25,
+    // The caller.
+    RecordsLength = 26,
 }
 
 impl Refusal {
     /// All of them, in the order of their numbers.
-    pub const ALL: [Refusal; 22] = [
+    pub const ALL: [Refusal; 25] = [
         Refusal::FileEmpty,
         Refusal::Version,
         Refusal::RecordCut,
@@ -54,13 +59,18 @@ impl Refusal {
         Refusal::ForwardLength,
         Refusal::BackwardLength,
         Refusal::NumberOutOfRange,
+        Refusal::SliceCode,
+        Refusal::SliceCut,
+        Refusal::RecordsLength,
     ];
 
     /// What an answer's number says: 0 is an acceptance.
     pub(crate) fn of(number: u32) -> Result<(), Refusal> {
-        match number {
-            0 => Ok(()),
-            _ => Err(Refusal::ALL[number as usize - 1]),
+        if number == 0 {
+            return Ok(());
         }
+        let mut all = Refusal::ALL.into_iter();
+        let named = all.find(|refusal| *refusal as u32 == number);
+        Err(named.expect("the library answers by these numbers alone"))
     }
 }

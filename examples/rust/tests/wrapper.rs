@@ -1,9 +1,10 @@
 //! The safe functions, at figures of document 01.
 
 use format3::{
-    intra_coefficient, non_intra_coefficient, reconstruct, show_record, transform, vector,
+    intra_coefficient, non_intra_coefficient, read_slice, reconstruct, show_record, transform,
+    vector,
 };
-use format3::{Refusal, Refused};
+use format3::{BitPlace, Refusal, Refused, RefusedSlice, SliceNumbers};
 
 /// The worked reel's first file: a grey picture of one macroblock.
 fn grey() -> Vec<u8> {
@@ -77,9 +78,55 @@ fn coefficients_vectors_and_blocks() {
     assert_eq!(transform(&block), Err(Refusal::NumberOutOfRange));
 }
 
+/// The grey picture's one slice, and what it is read with.
+const GREY_SLICE: [u8; 9] = [0, 0, 1, 1, 0x43, 0x94, 0xa5, 0x22, 0x20];
+const GREY_NUMBERS: SliceNumbers = SliceNumbers {
+    width: 1,
+    height: 1,
+    coding_type: 1,
+    forward_f_code: 0,
+    backward_f_code: 0,
+};
+
+#[test]
+fn a_slice() {
+    let mut records = [7; 31];
+    let rest = BitPlace { byte: 8, bit: 4 };
+    assert_eq!(
+        read_slice(&GREY_SLICE, GREY_NUMBERS, &mut records),
+        Ok((30, rest))
+    );
+    assert_eq!(records[..30], grey()[11..]);
+    assert_eq!(records[30], 7);
+}
+
+#[test]
+fn refused_slices() {
+    let refused = |refusal, byte| {
+        let place = BitPlace { byte, bit: 0 };
+        Err(RefusedSlice { refusal, place })
+    };
+    let mut records = [7; 29];
+    let mut read = |slice, numbers| read_slice(slice, numbers, &mut records);
+    let cut = &GREY_SLICE[..8];
+    let wide = SliceNumbers {
+        width: 49,
+        ..GREY_NUMBERS
+    };
+    assert_eq!(read(&GREY_SLICE, wide), refused(Refusal::Header, 0));
+    assert_eq!(read(&[1], GREY_NUMBERS), refused(Refusal::SliceCode, 0));
+    assert_eq!(read(cut, GREY_NUMBERS), refused(Refusal::SliceCut, 8));
+    assert_eq!(
+        read(&GREY_SLICE, GREY_NUMBERS),
+        refused(Refusal::RecordsLength, 0)
+    );
+    assert_eq!(records, [7; 29]);
+}
+
+/// There is no 23.
 #[test]
 fn refusals_stand_in_the_order_of_their_numbers() {
-    for (number, refusal) in (1..).zip(Refusal::ALL) {
+    for (number, refusal) in (1..=22).chain(24..).zip(Refusal::ALL) {
         assert_eq!(refusal as u32, number);
     }
 }

@@ -1,11 +1,14 @@
-//! `compare [--panel PROGRAM] [COUNT [SEED]]`: the exported library against the other decoder on COUNT single pictures and on
-//! the edges of every other entry, and the program `panel`, if given, on COUNT reels and on one that is far too long. A
+//! `compare [--panel PROGRAM] [COUNT [SEED]]`: the exported library against the other decoder on COUNT single pictures, ten times
+//! as many raw slices and the edges of every other entry, and the program `panel`, if given, on COUNT reels and on one that is far too long. A
 //! small COUNT fails: it brings about too few answers.
 
 use std::process::ExitCode;
 
 use format3_tests::compare::{
     changed_fields, coefficients, panel, pictures, require_every_answer, transforms, vectors,
+};
+use format3_tests::compare_slices::{
+    changed_slices, ended_slices, require_every_slice_answer, slices, stream_slices,
 };
 use format3_tests::library::ENTRIES;
 use format3_tests::{exit_code, panel_argument};
@@ -50,5 +53,17 @@ fn compare_entries(count: u64, seed: u64) -> Result<(), String> {
     }
     let counts = pictures(&ENTRIES, seed, count)?;
     println!("{count} pictures, by answer: {counts:?}");
-    require_every_answer(&counts)
+    require_every_answer(&counts)?;
+    compare_slices(10 * count, seed)
+}
+
+fn compare_slices(count: u64, seed: u64) -> Result<(), String> {
+    println!("{} slices that end in a code", ended_slices(&ENTRIES)?);
+    let changed = (seed..seed + 40).map(|seed| changed_slices(&ENTRIES, seed));
+    let changed: Result<usize, String> = changed.sum();
+    println!("{} changed slices", changed?);
+    println!("{} slices of streams", stream_slices(&ENTRIES, seed)?);
+    let counts = slices(&ENTRIES, seed, count)?;
+    println!("{count} slices, by answer: {counts:?}");
+    require_every_slice_answer(&counts)
 }

@@ -2,7 +2,7 @@
 
 use std::process::ExitCode;
 
-use format3_tests::fixtures::{panel_fixtures, stream_fixtures};
+use format3_tests::fixtures::{panel_fixtures, slice_fixtures, stream_fixtures};
 use format3_tests::library::ENTRIES;
 use format3_tests::program::Program;
 use format3_tests::random::Random;
@@ -16,8 +16,18 @@ fn main() -> ExitCode {
 fn run(arguments: &[String]) -> Result<(), String> {
     for fixture in stream_fixtures() {
         fixture.check(ENTRIES.reconstruct)?;
-        println!("{}: as expected by the library", fixture.name);
+        let slices = fixture.check_slices(ENTRIES.read_slice)?;
+        fixture.check_stream(&ENTRIES)?;
+        println!(
+            "{}: as expected by the library, its stream of {slices} slices too",
+            fixture.name
+        );
     }
+    let slices = slice_fixtures();
+    for slice in &slices {
+        slice.check(ENTRIES.read_slice)?;
+    }
+    println!("{} slices: as expected by the library", slices.len());
     match panel_argument(arguments)? {
         (Some(program), []) => check_panel(program),
         (None, []) => Ok(()),

@@ -3,6 +3,7 @@
 use super::coefficients::{intra_ac, non_intra};
 use super::file::record;
 use super::refusals::{Answer, Refusal};
+use super::slice::ReadSlice;
 use super::transform::inverse_transform;
 use super::vectors::{code_legal, decoded, f_of, residual_legal};
 
@@ -29,6 +30,7 @@ pub struct Entries {
     pub non_intra_coefficient: fn(i32, i32, i32) -> (u32, i16),
     pub vector: fn(i32, i32, i32, i32) -> (u32, i32),
     pub show_record: fn(&[u8], usize) -> (u32, Shown),
+    pub read_slice: ReadSlice,
 }
 
 /// This decoder's entries.
@@ -39,6 +41,7 @@ pub const ENTRIES: Entries = Entries {
     non_intra_coefficient: |level, scale, weight| coefficient(non_intra, level, scale, weight),
     vector,
     show_record,
+    read_slice: super::slice::read_slice,
 };
 
 /// "22 a number out of the ranges above, given straight to the coefficient, transform or vector entry. These then give

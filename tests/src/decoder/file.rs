@@ -78,6 +78,15 @@ impl PictureType {
         }
     }
 
+    /// "Type (1 I, 2 P, 3 B)".
+    pub fn number(self) -> u8 {
+        match self {
+            PictureType::I => 1,
+            PictureType::P => 2,
+            PictureType::B => 3,
+        }
+    }
+
     pub fn letter(self) -> char {
         match self {
             PictureType::I => 'I',

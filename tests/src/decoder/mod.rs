@@ -1,6 +1,9 @@
-//! Another decoder of Format 3, for comparison only: written from document 01 alone, for clarity, not speed.
-//! Each module renders one of its headings, each function one of its sentences, which its comment quotes.
+//! Another decoder of Format 3, for comparison only: written from document 01 alone, and its reader of raw slices from request
+//! No. 2 and Annex B of the standard, for clarity, not speed. Each module renders one heading, each function one sentence, which
+//! its comment quotes.
 
+pub mod annex_b;
+pub mod bits;
 pub mod coefficients;
 pub mod entries;
 pub mod file;
@@ -9,9 +12,11 @@ pub mod panel;
 pub mod picture;
 pub mod refusals;
 pub mod size;
+pub mod slice;
 pub mod transform;
 pub mod vectors;
 
 pub use entries::{Entries, Reconstruct, Transform, ENTRIES};
 pub use picture::reconstruct;
 pub use refusals::Answer;
+pub use slice::{Given, ReadSlice, SliceAnswer};

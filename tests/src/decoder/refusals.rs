@@ -1,4 +1,4 @@
-//! "Refusals by who can cause them".
+//! "Refusals by who can cause them", and those that requests add.
 
 #[derive(Clone, Copy, Debug, PartialEq, Eq)]
 pub enum Refusal {
@@ -24,6 +24,9 @@ pub enum Refusal {
     ForwardLength = 20,
     BackwardLength = 21,
     NumberOutOfRange = 22,
+    SliceCode = 24,
+    SliceCut = 25,
+    RecordsLength = 26,
 }
 
 impl Refusal {

@@ -1,14 +1,21 @@
-//! Cases for both decoders: single pictures and reels, legal and damaged, from a seed.
+//! Cases for both decoders: single pictures, reels and raw slices, legal and damaged, from a seed.
 
 mod cases;
+pub mod codes;
 mod damage;
 mod file;
 mod picture;
 mod reels;
+mod slice_damage;
+mod slice_edges;
+mod slices;
 
 pub use cases::{case, small_cases, Case};
 pub use file::File;
 pub use reels::{reel, Reel};
+pub use slice_damage::damaged_bytes;
+pub use slice_edges::edge_slices;
+pub use slices::{slice_case, small_slice_cases, SliceCase};
 
 use crate::decoder::file::PictureType;
 use crate::decoder::size::Size;

@@ -102,12 +102,8 @@ impl Writer<'_> {
         self.file.record(HEADER, |file| {
             file.byte("width", size.width as i64, &[0, 1, 48, 49, 255]);
             file.byte("height", size.height as i64, &[0, 1, 36, 37, 255]);
-            let number = match picture_type {
-                PictureType::I => 1,
-                PictureType::P => 2,
-                PictureType::B => 3,
-            };
-            file.byte("picture type", number, &[0, 1, 2, 3, 4, 255]);
+            let number = picture_type.number();
+            file.byte("picture type", number.into(), &[0, 1, 2, 3, 4, 255]);
             for direction in directions {
                 file.byte("full-pel flag", direction.full_pel.into(), &[0, 1, 2, 255]);
                 file.byte("f_code", direction.f_code, &[0, 1, 7, 8, 255]);

@@ -1,0 +1,186 @@
+/* MPEG-1 video streams played end to end: start codes and headers by examples/c/stream.c, slices by format3_read_slice,
+ * pictures by format3_reconstruct. bench/run compiles it a second time with plain C under these two names.
+ *
+ *   play compare STREAM REEL   the stream's pictures are those of the reel, every byte
+ *   play time STREAM..         pictures a second, repeated until they are stable, and how the time is spent
+ *   play all STREAM            plays it once, inside measured(), for an instruction counter or a clock; prints the count
+ *   play slices STREAM         the same without making the pictures: slices to records alone
+ *   play codes STREAM          how many codes its slices have
+ *
+ * bench/run calls all of it. */
+#include <stdbool.h>
+#include <stdint.h>
+#include <stdio.h>
+#include <stdlib.h>
+#include <string.h>
+#include <time.h>
+
+#include "decoder.h"
+#include "job.h"
+#include "plain.h"
+#include "show.h"
+#include "stream.h"
+
+/* What is done with each picture's file. */
+enum extent { SLICES_ALONE, WHOLE };
+
+static struct decoder decoder;
+static struct file file;
+
+_Noreturn static void fail(const char *what, const char *why)
+{
+    fprintf(stderr, "play: %s: %s\n", what, why);
+    exit(2);
+}
+
+static struct bytes read_stream(const char *path)
+{
+    struct bytes bytes = {NULL, 0};
+    if (!read_file(path, &bytes))
+        exit(2);
+    return bytes;
+}
+
+/* Decodes the file at hand. It stands in decoder.output, or, if others may be predicted from it, in decoder.newer. */
+static const struct picture *make_picture(void)
+{
+    struct header header = header_of(file.bytes, file.length);
+    struct answer answer = decode(&decoder, file.bytes, file.length, header);
+    if (answer.number != FORMAT3_ACCEPTED)
+        fail("a picture", "refused");
+    const struct picture *picture = decoder.output;
+    if (header.type != B_PICTURE)
+        keep_reference(&decoder);
+    return picture;
+}
+
+static void require_end(const struct stream *stream)
+{
+    if (stream->problem != NULL)
+        fail("the stream", stream->problem);
+}
+
+/* Plays a stream from its start, and answers how many pictures it has. */
+static int play(struct bytes bytes, enum extent extent)
+{
+    struct stream stream;
+    int count = 0;
+    open_stream(&stream, bytes.data, bytes.length);
+    start_decoder(&decoder);
+    for (; next_picture(&stream, &file); count++)
+        if (extent == WHOLE)
+            make_picture();
+    require_end(&stream);
+    return count;
+}
+
+/* ---- comparing */
+
+static int compare(const char *path, const char *reel)
+{
+    struct bytes bytes = read_stream(path);
+    struct jobs jobs = jobs_of_reel(reel);
+    struct stream stream;
+    int count = 0;
+    open_stream(&stream, bytes.data, bytes.length);
+    start_decoder(&decoder);
+    for (; count < jobs.count && next_picture(&stream, &file); count++) {
+        const struct picture *picture = make_picture();
+        const struct job *job = &jobs.job[count];
+        if (picture->length != job->picture_length || memcmp(picture->bytes, job->picture, job->picture_length) != 0)
+            fail(path, "not the reel's pictures");
+    }
+    if (count < jobs.count || next_picture(&stream, &file))
+        fail(path, "not as many pictures as the reel");
+    require_end(&stream);
+    printf("%s: %d pictures, equal to the reel's\n", path, count);
+    return 0;
+}
+
+/* ---- timing */
+
+enum { FEWEST_ROUNDS = 20, MOST_ROUNDS = 400 };
+
+/* This process's own time: what else the machine does is not counted. */
+static double now(void)
+{
+    struct timespec time;
+    clock_gettime(CLOCK_PROCESS_CPUTIME_ID, &time);
+    return (double)time.tv_sec + 1e-9 * (double)time.tv_nsec;
+}
+
+/* The seconds of the best round, once none was better by more than a hundredth for a while. */
+static double best_round(struct bytes bytes, enum extent extent)
+{
+    double best = 1e9;
+    for (int k = 0, since_better = 0; k < MOST_ROUNDS && since_better < FEWEST_ROUNDS; k++) {
+        double start = now();
+        play(bytes, extent);
+        double seconds = now() - start;
+        since_better = seconds < 0.99 * best ? 0 : since_better + 1;
+        best = seconds < best ? seconds : best;
+    }
+    return best;
+}
+
+static int time_streams(char **paths, int count)
+{
+    for (int k = 0; k < count; k++) {
+        struct bytes bytes = read_stream(paths[k]);
+        int pictures = play(bytes, WHOLE);
+        double whole = best_round(bytes, WHOLE), slices = best_round(bytes, SLICES_ALONE);
+        printf("%s: %d pictures, %zu bytes each\n", paths[k], pictures, bytes.length / (size_t)pictures);
+        printf("  %8.0f pictures/s from the stream's bytes to pels; %.0f%% of the time for slices\n",
+            pictures / whole, 100 * slices / whole);
+        free(bytes.data);
+    }
+    return 0;
+}
+
+/* ---- once */
+
+__attribute__((noinline))
+static int measured(struct bytes bytes, enum extent extent)
+{
+    return play(bytes, extent);
+}
+
+static int once(const char *path, enum extent extent)
+{
+    struct bytes bytes = read_stream(path);
+    printf("%d\n", measured(bytes, extent));
+    free(bytes.data);
+    return 0;
+}
+
+/* Plain C reads every slice twice: once to see whether it is accepted. */
+static int codes(const char *path)
+{
+#ifdef PLAIN_CENSUS
+    struct bytes bytes = read_stream(path);
+    memset(&plain_census, 0, sizeof plain_census);
+    play(bytes, SLICES_ALONE);
+    printf("%lu\n", plain_census.codes / 2);
+    free(bytes.data);
+    return 0;
+#else
+    fail(path, "not compiled with PLAIN_CENSUS");
+#endif
+}
+
+int main(int count, char **argument)
+{
+    const char *command = count > 1 ? argument[1] : "";
+    if (strcmp(command, "compare") == 0 && count == 4)
+        return compare(argument[2], argument[3]);
+    if (strcmp(command, "time") == 0)
+        return time_streams(argument + 2, count - 2);
+    if (strcmp(command, "all") == 0 && count == 3)
+        return once(argument[2], WHOLE);
+    if (strcmp(command, "slices") == 0 && count == 3)
+        return once(argument[2], SLICES_ALONE);
+    if (strcmp(command, "codes") == 0 && count == 3)
+        return codes(argument[2]);
+    fprintf(stderr, "play: see the head of play.c for its arguments\n");
+    return 2;
+}

@@ -1,0 +1,4 @@
+pub mod Number
+pub mod Bytes
+pub mod Rest
+pub mod Zeros

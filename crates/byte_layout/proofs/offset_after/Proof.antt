@@ -1,0 +1,28 @@
+-- `offset_after` meets its contract: the sum is made where it is no farther than the farthest offset. Assumes nothing.
+use mathlib.Core.Path.{sym, _∙_}
+use Prim.Native.Nat.{_+_, _≤_}
+use native.Mathlib.Omega.{arith}
+use borrow.Author.Needs.{needs}
+use borrow.Author.Tests.{leb-true, leb-false}
+use Rattle.byte_layout.specs.Laid.{farthest}
+use Rattle.byte_layout.proofs.Laws.Laid.{near-offset, far-offset}
+use Rattle.byte_layout.proofs.offset_after.Statement.{statement}
+use Rattle.byte_layout.proofs.offset_after.Tie as tie
+
+near : (c : tie.Then1) → c .before .before .args .at + c .before .before .args .bytes ≤ farthest
+near c = leb-true _ _ (sym (c .before .has-room .ensures) ∙ c .if1 .taken)
+
+has-room-requires : tie.Need-has-room-requires
+has-room-requires c κs = search needs
+
+add-result : tie.Need-add-result
+add-result c = omega (arith, near c)
+
+returns : tie.Need-returns
+returns c = near-offset _ _ (near c)
+
+returns-2 : tie.Need-returns-2
+returns-2 c = far-offset _ _ (leb-false _ _ (sym (c .before .has-room .ensures) ∙ c .if1 .left))
+
+pub offset-after-spec : {M : Type 1} → statement M
+offset-after-spec = tie.close (tie.spec has-room-requires add-result returns returns-2)

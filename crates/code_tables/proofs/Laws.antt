@@ -1,0 +1,5 @@
+pub mod Prefix
+pub mod Branch
+pub mod Table
+pub mod Rule
+pub mod Product

@@ -1,0 +1,46 @@
+-- A code read from bits: one definition, with the word list as a parameter.
+use mathlib.Core.Bool.{Bool, true, false, cond, _&&_}
+use mathlib.Core.List.{List, [], _∷_}
+use Prim.Native.Nat.{ℕ, zero, suc, _/_, _%_, _^_}
+use lib.Dec.{eqb, ltb}
+use lib.ListN.{length, drop}
+use Rattle.bits.specs.Bits.{numberOf}
+use Rattle.code_tables.specs.declared.code.Code.{Code}
+use Rattle.code_tables.specs.declared.code.Code.the-variants.{Value, NoCode, Short}
+
+-- a word of a table and what it stands for
+pub record Word : Type 0 where
+  pub bits : List ℕ
+  pub value : ℕ
+
+-- the n last decimal digits of a number
+unfoldable pub digitsOf : ℕ → ℕ → List ℕ
+digitsOf zero d = []
+digitsOf (suc n) d = d / 10 ^ n % 10 ∷ digitsOf n d
+
+-- a word as Annex B prints it: `word 5 00011 16` is 00011, five bits, with the value 16
+unfoldable pub word : ℕ → ℕ → ℕ → Word
+word n digits value = record { bits = digitsOf n digits; value = value }
+
+-- whether a is a prefix of b, b itself being one
+unfoldable pub isPrefix : List ℕ → List ℕ → Bool
+isPrefix [] b = true
+isPrefix (x ∷ a) [] = false
+isPrefix (x ∷ a) (y ∷ b) = eqb x y && isPrefix a b
+
+-- With b all the bits left: a word that is a prefix of b is the code, with its value and length; where b is a prefix of a word, b is short;
+-- and there is no code where "no code of this place is a prefix of b and b is a prefix of none".
+unfoldable pub codeOf : List Word → List ℕ → Code
+codeOf [] b = NoCode
+codeOf (w ∷ words) b = cond (isPrefix (w .bits) b) (Value (w .value) (length (w .bits))) (cond (isPrefix b (w .bits)) Short (codeOf words b))
+
+-- a number of n bits: every n bits are a code
+unfoldable pub fieldOf : ℕ → List ℕ → Code
+fieldOf n b = cond (ltb (length b) n) Short (Value (numberOf n b) n)
+
+-- A code of several parts: go on after a part with its value, its length and the bits after it. The whole is no code where the part is none, and
+-- short where the part is.
+abbrev pub afterCode : {A : Type 0} → A → A → Code → List ℕ → (ℕ → ℕ → List ℕ → A) → A
+afterCode none short (Value v n) b rest = rest v n (drop n b)
+afterCode none short NoCode b rest = none
+afterCode none short Short b rest = short

@@ -1,0 +1,4 @@
+pub mod Code
+pub mod AnnexB
+pub mod Table
+pub mod Rule

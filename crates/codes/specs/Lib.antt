@@ -1,0 +1,3 @@
+pub mod LookUp
+pub mod SliceStart
+pub mod Difference

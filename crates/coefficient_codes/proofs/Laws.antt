@@ -1,0 +1,5 @@
+pub mod Word
+pub mod Coefficient
+pub mod CoefficientRest
+pub mod CoefficientRange
+pub mod Whole

@@ -1,0 +1,2 @@
+// The codes of coefficients, read from bits.
+pub mod coefficient;

@@ -1,0 +1,52 @@
+-- A record that is laid out is shown whole, wherever it stands in a file. Assumes nothing.
+use mathlib.Core.Bool.{true}
+use mathlib.Core.List.{List, _++_}
+use mathlib.Core.Path.{_≡_, sym, ap, _∙_}
+use Prim.Native.Nat.{ℕ, _+_, _-_, _≤_}
+use native.Mathlib.Nat.{add-zero, add-sub-cancel-left}
+use native.Mathlib.Omega.{arith}
+use borrow.Author.Tests.{le-leb}
+use lib.ListN.{length, getD, take, drop, length-append, length-drop}
+use lib.Seq.{getD-drop, drop-drop, take-append-seam, drop-append-seam}
+use Rattle.format3.specs.Chain.{only}
+use Rattle.format3.specs.Record.{legalKind, lengthAt, kindAt, recordOf}
+use Rattle.format3.specs.declared.record.Record.the-variants.{Found}
+use Rattle.byte_layout.specs.Bytes.{wordBytes}
+use Rattle.record_layout.specs.Records.{recordHead, recordBytes}
+use Rattle.layout_reading.proofs.Fields.{word-back}
+
+module _ (file : List ℕ) (at kind : ℕ) (body after : List ℕ) (stands : drop at file ≡ recordBytes kind body ++ after) where
+  -- byte i of the record
+  byte-at : (i : ℕ) → getD file (at + i) 0 ≡ getD (recordBytes kind body ++ after) i 0
+  byte-at i = sym (getD-drop at file i 0) ∙ ap (λ (l : List ℕ). getD l i 0) stands
+
+  -- where it ends
+  size : length file - at ≡ 3 + length body + length after
+  unfolding recordBytes recordHead wordBytes
+  size = sym (length-drop at file) ∙ ap length stands ∙ omega (arith, length-append body after)
+
+  pub record-length : length body ≤ 65534 → lengthAt file at ≡ 1 + length body
+  unfolding lengthAt recordBytes recordHead wordBytes
+  record-length h = rw (rw (add-zero at) at (byte-at 0), byte-at 1) (word-back (1 + length body) (omega arith))
+
+  pub record-kind : kindAt file at ≡ kind
+  unfolding kindAt recordBytes recordHead wordBytes
+  record-kind = byte-at 2
+
+  pub record-shown : legalKind kind ≡ true → length body ≤ 65534 → recordOf file at ≡ Found kind (at + 3) (length body)
+  unfolding recordOf only
+  record-shown good h =
+      let told = record-length h in
+      let head = le-leb (at + 3) (length file) (omega (arith, size)) in
+      let whole = le-leb (at + 2 + (1 + length body)) (length file) (omega (arith, size)) in
+      rw (head, told, le-leb 1 (1 + length body) (omega arith), whole, record-kind, good, add-sub-cancel-left 1 (length body))
+
+  body-from : drop (at + 3) file ≡ body ++ after
+  unfolding recordBytes recordHead wordBytes
+  body-from = sym (drop-drop 3 at file) ∙ ap (drop 3) stands
+
+  pub record-body : take (length body) (drop (at + 3) file) ≡ body
+  record-body = rw (body-from) (take-append-seam body after)
+
+  pub record-after : drop (at + 3 + length body) file ≡ after
+  record-after = sym (drop-drop (length body) (at + 3) file) ∙ ap (drop (length body)) body-from ∙ drop-append-seam body after

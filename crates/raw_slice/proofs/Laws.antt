@@ -1,0 +1,4 @@
+pub mod Macroblocks
+pub mod Start
+pub mod Slice
+pub mod Answer

@@ -1,0 +1,127 @@
+-- The entry's answer, by what is measured; and the numbers that a header takes. Assumes nothing.
+use mathlib.Core.Bool.{Bool, true, false}
+use mathlib.Core.List.{List, [], _∷_, _++_}
+use mathlib.Core.Path.{_≡_, refl, sym, ap, _∙_}
+use Prim.Native.Nat.{ℕ, _+_, _*_, _<_, _≤_, min}
+use native.Mathlib.Omega.{arith}
+use lib.Dec.{leb}
+use lib.ListN.{length, drop}
+use borrow.Author.Tests.{leb-true, le-leb, lt-leb}
+use Rattle.refusals.specs.declared.Refusal.{Refusal}
+use Rattle.refusals.specs.declared.Refusal.the-variants as Refusal
+use Rattle.format3.specs.Chain.{only}
+use Rattle.format3.proofs.Laws.Chain.{both}
+use Rattle.picture_header.specs.Size.{legalSize}
+use Rattle.picture_header.specs.Header.{legalHeader, headerValue, headerWith}
+use Rattle.picture_header.specs.declared.header.Header.{Header}
+use Rattle.picture_header.specs.declared.header.HeaderFields.{HeaderFields}
+use Rattle.picture_header.specs.declared.header.HeaderAnswer.{HeaderAnswer}
+use Rattle.picture_header.specs.declared.header.HeaderAnswer.the-variants as Header
+use Rattle.picture_header.proofs.Laws.Header.{made-within}
+use Rattle.bits.specs.declared.Position.{Position}
+use Rattle.byte_layout.specs.Laid.{laid, farthest, offsetAfter}
+use Rattle.byte_layout.proofs.Laws.Laid.{laid-whole}
+use Rattle.code_tables.proofs.Laws.Prefix.{case}
+use Rattle.slice_syntax.specs.Read.{Read, read, refused}
+use Rattle.slice_syntax.specs.Slice.{SliceFields, firstBit, recordsOf}
+use Rattle.slice_records.specs.Laying.{LaidAt}
+use Rattle.slice_records.specs.declared.laying.Laying.{Laying}
+use Rattle.slice_records.specs.declared.laying.Laying.the-variants.{Done, Refused}
+use Rattle.raw_slice.specs.Laying.{endOf}
+use Rattle.raw_slice.specs.Answer.{Outcome, refusedAt, acceptedWith, fitted, readOutcome}
+
+pub empty-list : (l : List ℕ) → length l ≡ 0 → l ≡ []
+empty-list [] e = refl
+empty-list (x ∷ l) e = absurd (omega arith)
+
+-- ---- what is measured
+pub record Measured (x : Read SliceFields) (p : Position) (n : ℕ) : Type 0 where
+  pub slice : SliceFields
+  pub is : x ≡ read slice p
+  pub size : n ≡ offsetAfter 0 (length (recordsOf slice))
+
+pub measured : (x : Read SliceFields) {r : Laying} {p : Position} {n : ℕ} → r ≡ endOf recordsOf 0 x → r ≡ Done p n → Measured x p n
+measured (read a q) {r} {p} {n} e f =
+    let end : q ≡ p = cc in
+    let size : n ≡ offsetAfter 0 (length (recordsOf a)) = cc in
+    record { slice = a; is = ap (λ (y : Position). read a y) end; size = size }
+measured (refused refusal q) e f = let z : _≡_ {A = ℕ} 0 1 = cc in absurd (omega arith)
+
+pub unmeasured : (x : Read SliceFields) {r : Laying} {refusal : Refusal} {p : Position} → r ≡ endOf recordsOf 0 x → r ≡ Refused refusal p → x ≡ refused refusal p
+unmeasured (read a q) e f = let z : _≡_ {A = ℕ} 0 1 = cc in absurd (omega arith)
+unmeasured (refused refusal q) e f = cc
+
+past : {n k room : ℕ} → n ≡ offsetAfter 0 k → room < n → room < k
+unfolding offsetAfter
+past e h = omega (arith, e)
+
+not-past : {n k room : ℕ} → n ≡ offsetAfter 0 k → n ≤ room → room < farthest → k ≤ room
+unfolding offsetAfter
+not-past e h r = omega (arith, e)
+
+whole : {n k room : ℕ} → n ≡ offsetAfter 0 k → n ≤ room → room < farthest → n ≡ k
+unfolding offsetAfter
+whole e h r = omega (arith, e)
+
+module _ (x : Read SliceFields) {p : Position} {n : ℕ} (m : Measured x p n) (buffer : List ℕ) (room : length buffer < farthest) where
+  pub too-long : length buffer < n → readOutcome x buffer ≡ refusedAt Refusal.RecordsLength firstBit buffer
+  unfolding fitted only
+  too-long h = rw (m .is, lt-leb (length (recordsOf (m .slice))) (length buffer) longer)
+    where
+      longer : length buffer < length (recordsOf (m .slice))
+      longer = past (m .size) h
+
+  short-enough : n ≤ length buffer → length (recordsOf (m .slice)) ≤ length buffer
+  short-enough h = not-past (m .size) h room
+
+  pub whole-size : n ≤ length buffer → n ≡ length (recordsOf (m .slice))
+  whole-size h = whole (m .size) h room
+
+  pub it-fits : n ≤ length buffer → readOutcome x buffer ≡ acceptedWith (recordsOf (m .slice)) p buffer
+  unfolding fitted only
+  it-fits h = rw (m .is, le-leb (length (recordsOf (m .slice))) (length buffer) (short-enough h))
+
+  pub laid-there : {after : List ℕ} → n ≤ length buffer → LaidAt recordsOf 0 buffer after x → after ≡ recordsOf (m .slice) ++ drop (length (recordsOf (m .slice))) buffer
+  laid-there h l = l .whole (m .slice) p (m .is) ∙ laid-whole (recordsOf (m .slice)) buffer (short-enough h)
+
+-- ---- the numbers that a header takes
+pub record Small (f : HeaderFields) : Type 0 where
+  pub wide : f .width ≤ 48
+  pub high : f .height ≤ 36
+  pub type : f .«coding_type» ≤ 3
+  pub forward : f .«forward_f_code» ≤ 7
+  pub backward : f .«backward_f_code» ≤ 7
+
+size-small : (w h : ℕ) → legalSize w h ≡ true → (w ≤ 48) × (h ≤ 36)
+unfolding legalSize
+size-small w h e =
+    let all = both _ (leb (w * h) 396) e in
+    let high = both _ (leb h 36) (all .0) in
+    let low = both _ (leb 1 h) (high .0) in
+    let wide = both (leb 1 w) _ (low .0) in
+    (leb-true w 48 (wide .1), leb-true h 36 (high .1))
+
+legal-made : (f : HeaderFields) → legalHeader f ≡ true → headerWith f ≡ Header.Legal (headerValue f)
+unfolding headerWith only
+legal-made f e = rw e
+
+front : (f : HeaderFields) → legalHeader f ≡ true → legalSize (f .width) (f .height) ≡ true
+unfolding legalHeader
+front f e = both (legalSize (f .width) (f .height)) _ e .0
+
+pub legal-small : (f : HeaderFields) → legalHeader f ≡ true → Small f
+legal-small f e =
+    let size = size-small (f .width) (f .height) (front f e) in
+    let within = made-within f .within (headerValue f) (legal-made f e) in
+    record { wide = size .0; high = size .1; type = within .last-type; forward = within .forward .most; backward = within .backward .most }
+
+pub illegal : (f : HeaderFields) → (Small f → ⊥) → Header.Refused Refusal.Header ≡ headerWith f
+unfolding headerWith only
+illegal f large = case (legalHeader f) (λ t. absurd (large (legal-small f t))) (λ t. rw t)
+
+pub legal-height : (f : HeaderFields) {h : Header} → headerWith f ≡ Header.Legal h → h .size .height ≤ 36
+unfolding headerWith only
+legal-height f {h} e =
+    case (legalHeader f)
+    (λ t. let same : headerValue f ≡ h = cc (rw t at e) in omega (arith, ap (λ (x : Header). x .size .height) same, legal-small f t .high))
+    (λ t. let z : _≡_ {A = ℕ} 0 1 = cc (rw t at e) in absurd (omega arith))

@@ -1,0 +1,14 @@
+-- `refused` meets its contract: its number is the refusal's. Assumes nothing.
+use mathlib.Core.Path.{_≡_}
+use borrow.Author.Needs.{needs}
+use Rattle.raw_slice.proofs.entry.refused.Statement.{statement}
+use Rattle.raw_slice.proofs.entry.refused.Tie as tie
+
+number-requires : tie.Need-number-requires
+number-requires c κs = search needs
+
+returns : tie.Need-returns
+returns c = rw (c .number .ensures)
+
+pub refused-spec : {M : Type 1} → statement M
+refused-spec = tie.close (tie.spec number-requires returns)

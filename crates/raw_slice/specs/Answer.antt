@@ -1,0 +1,64 @@
+-- The entry's answer and the buffer at exit (request No. 2).
+use mathlib.Core.Bool.{Bool, true, false}
+use mathlib.Core.List.{List, _++_}
+use Prim.Native.Nat.{ℕ}
+use lib.Dec.{leb}
+use lib.ListN.{length, drop}
+use Rattle.refusals.specs.Refusal.{accepted, numberOf}
+use Rattle.refusals.specs.declared.Refusal.{Refusal}
+use Rattle.refusals.specs.declared.Refusal.the-variants as Refusal
+use Rattle.format3.specs.Chain.{only}
+use Rattle.picture_header.specs.Header.{headerWith}
+use Rattle.picture_header.specs.declared.header.HeaderFields.{HeaderFields}
+use Rattle.picture_header.specs.declared.header.HeaderAnswer.{HeaderAnswer}
+use Rattle.picture_header.specs.declared.header.HeaderAnswer.the-variants as Header
+use Rattle.bits.specs.declared.Position.{Position}
+use Rattle.slice_syntax.specs.Read.{Read, read, refused}
+use Rattle.slice_syntax.specs.Slice.{SliceFields, firstBit, sliceOf, recordsOf}
+use Rattle.raw_slice.specs.declared.entry.SliceAnswer.{SliceAnswer}
+
+-- "Five given numbers; the full-pel flags don't matter to reading": a header's numbers, its flags 0
+abbrev pub given : ℕ → ℕ → ℕ → ℕ → ℕ → HeaderFields
+given width height type forward backward = record {
+  width = width;
+  height = height;
+  «coding_type» = type;
+  «full_pel_forward» = 0;
+  «forward_f_code» = forward;
+  «full_pel_backward» = 0;
+  «backward_f_code» = backward;
+}
+
+pub record Outcome : Type 0 where
+  pub answer : SliceAnswer
+  pub buffer : List ℕ
+
+-- "On every refusal written is 0 and the buffer is untouched"
+abbrev pub refusedAnswer : Refusal → Position → SliceAnswer
+refusedAnswer refusal p = record { number = numberOf refusal; written = 0; byte = p .byte; bit = p .bit }
+
+abbrev pub refusedAt : Refusal → Position → List ℕ → Outcome
+refusedAt refusal p buffer = record { answer = refusedAnswer refusal p; buffer = buffer }
+
+-- "Accepted: byte and bit where the unread rest starts (byte = length, bit 0 if nothing is left)"; "accepted, what lies past the records is untouched"
+abbrev pub acceptedWith : List ℕ → Position → List ℕ → Outcome
+acceptedWith records p buffer = record {
+  answer = record { number = accepted; written = length records; byte = p .byte; bit = p .bit };
+  buffer = records ++ drop (length records) buffer;
+}
+
+-- "26 only for a slice that is otherwise accepted; byte and bit 0"
+unfoldable pub fitted : List ℕ → Position → List ℕ → Outcome
+fitted records p buffer = only (leb (length records) (length buffer)) (refusedAt Refusal.RecordsLength firstBit buffer) (acceptedWith records p buffer)
+
+abbrev pub readOutcome : Read SliceFields → List ℕ → Outcome
+readOutcome (read slice p) buffer = fitted (recordsOf slice) p buffer
+readOutcome (refused refusal p) buffer = refusedAt refusal p buffer
+
+-- "A wrong one is 8 (the header's own predicate, over numbers), tested first: written, byte, bit 0"
+abbrev pub headerOutcome : HeaderAnswer → List ℕ → List ℕ → Outcome
+headerOutcome (Header.Refused refusal) bytes buffer = refusedAt refusal firstBit buffer
+headerOutcome (Header.Legal h) bytes buffer = readOutcome (sliceOf h bytes) buffer
+
+unfoldable pub outcomeOf : HeaderFields → List ℕ → List ℕ → Outcome
+outcomeOf fields bytes buffer = headerOutcome (headerWith fields) bytes buffer

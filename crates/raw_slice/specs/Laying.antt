@@ -1,0 +1,20 @@
+-- What the functions answer that lay many records: where the last one ends, however far that is.
+use mathlib.Core.List.{List}
+use Prim.Native.Nat.{ℕ}
+use lib.ListN.{length}
+use Rattle.byte_layout.specs.Laid.{offsetAfter}
+use Rattle.slice_syntax.specs.Read.{Read, read, refused}
+use Rattle.slice_syntax.specs.Slice.{SliceHead}
+use Rattle.slice_records.specs.declared.laying.Laying.{Laying}
+use Rattle.slice_records.specs.declared.laying.Laying.the-variants.{Done, Refused}
+use Rattle.raw_slice.specs.declared.head.SliceStart.{SliceStart}
+use Rattle.raw_slice.specs.declared.head.SliceStart.the-variants as Start
+
+-- the position after the part, and the offset after its bytes, or the refusal and its place
+abbrev pub endOf : {A : Type 0} → (A → List ℕ) → ℕ → Read A → Laying
+endOf bytes place (read a p) = Done p (offsetAfter place (length (bytes a)))
+endOf bytes place (refused refusal p) = Refused refusal p
+
+abbrev pub startOf : Read SliceHead → SliceStart
+startOf (read head p) = Start.Read (head .row) (head .scale) p
+startOf (refused refusal p) = Start.Refused refusal p

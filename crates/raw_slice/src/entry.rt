@@ -1,0 +1,123 @@
+// The entry: a slice's bytes into records.
+use bits::Position;
+use picture_header::header::Header;
+use picture_header::header::HeaderAnswer;
+use picture_header::header::HeaderFields;
+use refusals::Refusal;
+use slice_records::laying::Laying;
+ghost use mathlib.Core.Path.{_≡_};
+ghost use Prim.Native.Nat.{_≤_};
+ghost use Rattle.picture_header.specs.Header.{headerWith, HeaderWithin};
+ghost use Rattle.code_tables.specs.Table.{codeTable};
+ghost use Rattle.slice_syntax.specs.Slice.{sliceOf, recordsOf};
+ghost use Rattle.raw_slice.specs.Laying.{endOf};
+ghost use Rattle.raw_slice.specs.Answer.{given, refusedAnswer, readOutcome, outcomeOf};
+
+const LARGEST: u32 = 255;
+
+// The number of the answer, the bytes written, and the byte and bit where the refused code or the unread rest starts.
+pub struct SliceAnswer {
+    pub number: u32,
+    pub written: usize,
+    pub byte: usize,
+    pub bit: usize,
+}
+
+fn refused(refusal: Refusal, at: Position) -> SliceAnswer
+    ensures { λ r. ⌜ r ≡ refusedAnswer refusal at ⌝ }
+{
+    SliceAnswer {
+        number: refusals::number(refusal),
+        written: 0,
+        byte: at.byte,
+        bit: at.bit,
+    }
+}
+
+// Where the slice ends and how long its records are, or its refusal: it is read over an empty part of the buffer, into which nothing can be laid.
+fn measure(codes: &[u16; 4608], bytes: &[u8], header: Header, buffer: &mut [u8]) -> Laying
+    requires { ⌜ (now codes ≡ codeTable) × HeaderWithin header × (header .size .height ≤ 36) ⌝ }
+    ensures { λ r. ⌜ r ≡ endOf recordsOf 0 (sliceOf header (now (bytes .entry))) ⌝ }
+    ensures { λ _. ⌜ now (buffer .exit) ≡ now (buffer .entry) ⌝ }
+{
+    crate::slice::lay_slice(codes, bytes, header, &mut buffer[0..0])
+}
+
+// The slice is read twice: first measured, and, if it is accepted and its records fit, once more over the buffer.
+fn read_into(bytes: &[u8], header: Header, buffer: &mut [u8]) -> SliceAnswer
+    requires { ⌜ HeaderWithin header × (header .size .height ≤ 36) ⌝ }
+    ensures { λ r. ⌜ r ≡ readOutcome (sliceOf header (now (bytes .entry))) (now (buffer .entry)) .answer ⌝ }
+    ensures { λ _. ⌜ now (buffer .exit) ≡ readOutcome (sliceOf header (now (bytes .entry))) (now (buffer .entry)) .buffer ⌝ }
+{
+    let codes = code_tables::table::code_table();
+    match measure(&codes, bytes, header, buffer) {
+        Laying::Refused(refusal, at) => refused(refusal, at),
+        Laying::Done(end, size) => {
+            if buffer.len() < size {
+                return refused(Refusal::RecordsLength, Position { byte: 0, bit: 0 });
+            }
+            crate::slice::lay_slice(&codes, bytes, header, buffer);
+            SliceAnswer {
+                number: refusals::ACCEPTED,
+                written: size,
+                byte: end.byte,
+                bit: end.bit,
+            }
+        }
+    }
+}
+
+// The header of the five numbers, its flags 0.
+fn header_given(
+    width: u32,
+    height: u32,
+    coding_type: u32,
+    forward: u32,
+    backward: u32,
+) -> HeaderAnswer
+    ensures { λ r. ⌜ r ≡ headerWith (given width height «coding_type» forward backward) ⌝ }
+{
+    if LARGEST < width {
+        return HeaderAnswer::Refused(Refusal::Header);
+    }
+    if LARGEST < height {
+        return HeaderAnswer::Refused(Refusal::Header);
+    }
+    if LARGEST < coding_type {
+        return HeaderAnswer::Refused(Refusal::Header);
+    }
+    if LARGEST < forward {
+        return HeaderAnswer::Refused(Refusal::Header);
+    }
+    if LARGEST < backward {
+        return HeaderAnswer::Refused(Refusal::Header);
+    }
+    picture_header::header::header_with(HeaderFields {
+        width: width as u8,
+        height: height as u8,
+        coding_type: coding_type as u8,
+        full_pel_forward: 0,
+        forward_f_code: forward as u8,
+        full_pel_backward: 0,
+        backward_f_code: backward as u8,
+    })
+}
+
+// The bytes of one slice, from its start code, turned into a slice record and macroblock records.
+pub fn read_slice(
+    bytes: &[u8],
+    width: u32,
+    height: u32,
+    coding_type: u32,
+    forward_f_code: u32,
+    backward_f_code: u32,
+    buffer: &mut [u8],
+) -> SliceAnswer
+    ensures { λ r. ⌜ r ≡ outcomeOf (given width height «coding_type» «forward_f_code» «backward_f_code») (now (bytes .entry)) (now (buffer .entry)) .answer ⌝ }
+    ensures { λ _. ⌜ now (buffer .exit) ≡ outcomeOf (given width height «coding_type» «forward_f_code» «backward_f_code») (now (bytes .entry)) (now (buffer .entry)) .buffer ⌝ }
+{
+    match header_given(width, height, coding_type, forward_f_code, backward_f_code) {
+        HeaderAnswer::Refused(refusal) => refused(refusal, Position { byte: 0, bit: 0 }),
+        HeaderAnswer::Legal(header) => read_into(bytes, header, buffer),
+    }
+}

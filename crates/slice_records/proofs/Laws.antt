@@ -1,0 +1,7 @@
+pub mod Laying
+pub mod Answers
+pub mod Lengths
+pub mod Pairs
+pub mod Few
+pub mod Blocks
+pub mod Macroblock

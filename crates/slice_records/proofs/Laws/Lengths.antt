@@ -1,0 +1,73 @@
+-- How many bytes the parts of a macroblock have. Assumes nothing.
+use mathlib.Core.Bool.{Bool, true, false, cond}
+use mathlib.Core.List.{List, [], _∷_, _++_}
+use mathlib.Core.Path.{_≡_, refl, sym, _∙_}
+use Prim.Native.Nat.{ℕ, _+_, _*_, _^_, _<_, _≤_}
+use native.Mathlib.Omega.{arith}
+use lib.IntN.{ℤ}
+use lib.ListN.{length, length-append}
+use Rattle.symbols.specs.declared.vector_codes.VectorCode.{VectorCode}
+use Rattle.symbols.specs.declared.vector_codes.VectorCodes.{VectorCodes}
+use Rattle.macroblock_symbols.specs.declared.vectors.Vectors.{Vectors}
+use Rattle.macroblock_symbols.specs.Vectors.{gives}
+use Rattle.byte_layout.specs.Bytes.{wordBytes}
+use Rattle.record_layout.specs.Records.{codeBytes, givenCodesBytes, headBytes, patternBytes}
+use Rattle.record_layout.proofs.Laws.Lengths.{codes-length}
+use Rattle.bits.specs.Bits.{bitsFrom}
+use Rattle.bits.specs.declared.Position.{Position}
+use Rattle.code_tables.specs.AnnexB.{patterns}
+use Rattle.code_tables.proofs.Laws.Prefix.{case}
+use Rattle.codes.proofs.Laws.Range.{pattern-read}
+use Rattle.slice_syntax.specs.Read.{read, wordAt, fieldAt}
+use Rattle.slice_syntax.specs.Macroblock.{scaleAt, patternAt}
+use Rattle.slice_syntax.proofs.Laws.Read.{word-below, field-below}
+use Rattle.slice_records.specs.Laying.{componentBytes, bothBytes, differenceBytes}
+
+pub component-length : (component : VectorCode) → length (componentBytes component) ≡ 2
+unfolding codeBytes
+component-length component = refl
+
+pub given-short : (given : Bool) (codes : VectorCodes) → length (givenCodesBytes given codes) ≤ 4
+given-short true codes = omega (arith, codes-length codes)
+given-short false codes = omega arith
+
+pub both-short : (flags : ℕ) (vectors : Vectors) → length (bothBytes flags vectors) ≤ 8
+both-short flags vectors =
+    omega (
+      arith,
+      length-append (givenCodesBytes (gives flags 2) (vectors .forward)) (givenCodesBytes (gives flags 4) (vectors .backward)),
+      given-short (gives flags 2) (vectors .forward),
+      given-short (gives flags 4) (vectors .backward),
+    )
+
+pub difference-short : (intra : Bool) (difference : ℤ) → length (differenceBytes intra difference) ≤ 2
+unfolding wordBytes
+difference-short true difference = omega arith
+difference-short false difference = omega arith
+
+byte-short : (given : Bool) (n : ℕ) → length (cond given (n ∷ []) []) ≤ 1
+byte-short true n = omega arith
+byte-short false n = omega arith
+
+pub pattern-short : (flags pattern : ℕ) → length (patternBytes flags pattern) ≤ 1
+unfolding patternBytes
+pattern-short flags pattern = byte-short (gives flags 8) pattern
+
+pub head-short : (flags increment scale : ℕ) → length (headBytes flags increment scale) ≤ 4
+unfolding headBytes wordBytes
+head-short flags increment scale = omega (arith, byte-short (gives flags 1) scale)
+
+-- ---- values that are read fit a byte
+pub scale-small : (flags : ℕ) (bytes : List ℕ) (at : Position) {v : ℕ} {p : Position} → scaleAt flags bytes at ≡ read v p → v < 256
+unfolding scaleAt
+scale-small flags bytes at {v} {p} e =
+    case (gives flags 1)
+    (λ g. let given : fieldAt 5 bytes at ≡ read v p = rw g at e in omega (arith, field-below bytes at 5 given))
+    (λ g. let none : v ≡ 0 = cc (rw g at e) in omega (arith, none))
+
+pub pattern-small : (flags : ℕ) (bytes : List ℕ) (at : Position) {v : ℕ} {p : Position} → patternAt flags bytes at ≡ read v p → v ≤ 63
+unfolding patternAt
+pattern-small flags bytes at {v} {p} e =
+    case (gives flags 8)
+    (λ g. let given : wordAt patterns bytes at ≡ read v p = rw g at e in word-below bytes at patterns (pattern-read (bitsFrom bytes at)) given)
+    (λ g. let none : v ≡ 0 = cc (rw g at e) in omega (arith, none))

@@ -1,0 +1,53 @@
+-- A record laid in three parts: its head, the rest of its body, and then its length and kind before them. Assumes nothing.
+use mathlib.Core.List.{List, _++_}
+use mathlib.Core.Path.{_≡_, refl, sym, ap, _∙_}
+use Prim.Native.Nat.{ℕ, _+_}
+use native.Mathlib.Omega.{arith}
+use lib.ListN.{length, length-append}
+use Rattle.picture_header.specs.declared.header.Header.{Header}
+use Rattle.refusals.specs.declared.Refusal.{Refusal}
+use Rattle.bits.specs.declared.Position.{Position}
+use Rattle.byte_layout.specs.Laid.{laid}
+use Rattle.byte_layout.proofs.Laws.Laid.{laid-append}
+use Rattle.record_layout.specs.Records.{recordHead, recordBytes, headBytes, vectorsBytes, residueBytes, macroblockBody}
+use Rattle.record_layout.proofs.Laws.Laying.{laid-record}
+use Rattle.record_layout.proofs.Laws.Lengths.{record-length}
+use Rattle.slice_syntax.specs.Read.{Read, read, refused}
+use Rattle.slice_syntax.specs.Macroblock.{HeadFields, RestFields, headAt, restAt, fieldsWith, macroblockAt}
+use Rattle.slice_records.specs.Laying.{restBytes}
+
+module _ (place kind : ℕ) (head rest : List ℕ) {n m size : ℕ} (h : n ≡ length head) (k : m ≡ length rest) (s : size ≡ 1 + n + m) where
+  whole-size : size ≡ 1 + length (head ++ rest)
+  whole-size = omega (arith, s, h, k, length-append head rest)
+
+  pub record-size : 2 + size ≡ length (recordBytes kind (head ++ rest))
+  record-size = omega (arith, whole-size, record-length kind (head ++ rest))
+
+  pub record-laid : (before : List ℕ) {first body last : List ℕ} → first ≡ laid (place + 3) head before → body ≡ laid (place + 3 + n) rest first → last ≡ laid place (recordHead size kind) body
+      → last ≡ laid place (recordBytes kind (head ++ rest)) before
+  record-laid before {first} {body} {last} e f g = g ∙ rw (whole-size, body-laid) (laid-record place kind (head ++ rest) before)
+    where
+      body-laid : body ≡ laid (place + 3) (head ++ rest) before
+      body-laid = f ∙ rw (e, h) (sym (laid-append (place + 3) head rest before))
+
+-- the body of a macroblock, from its head and the rest
+pub body-of : (increment : ℕ) (head : HeadFields) (rest : RestFields)
+    → macroblockBody (fieldsWith increment head rest) ≡ headBytes (head .flags) increment (head .scale) ++ restBytes (head .flags) rest
+unfolding macroblockBody vectorsBytes residueBytes
+body-of increment head rest = refl
+
+module _ (h : Header) (increment : ℕ) (bytes : List ℕ) (at : Position) where
+  pub head-refused : {refusal : Refusal} {p : Position} → headAt (h .«coding_type») bytes at ≡ refused refusal p → macroblockAt h increment bytes at ≡ refused refusal p
+  unfolding macroblockAt
+  head-refused e = rw e
+
+  module _ {head : HeadFields} {p : Position} (e : headAt (h .«coding_type») bytes at ≡ read head p) where
+    pub rest-refused : {refusal : Refusal} {q : Position} → restAt (head .flags) (h .forward .«f_code») (h .backward .«f_code») bytes p ≡ refused refusal q
+        → macroblockAt h increment bytes at ≡ refused refusal q
+    unfolding macroblockAt
+    rest-refused f = rw (e, f)
+
+    pub macroblock-read : {rest : RestFields} {q : Position} → restAt (head .flags) (h .forward .«f_code») (h .backward .«f_code») bytes p ≡ read rest q
+        → macroblockAt h increment bytes at ≡ read (fieldsWith increment head rest) q
+    unfolding macroblockAt
+    macroblock-read f = rw (e, f)

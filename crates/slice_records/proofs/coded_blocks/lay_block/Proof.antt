@@ -1,0 +1,144 @@
+-- `lay_block` meets its contract: the pairs behind the difference. Assumes nothing.
+use mathlib.Core.List.{List}
+use mathlib.Core.Path.{_≡_, refl}
+use Prim.Native.Nat.{ℕ, _≤_}
+use native.Mathlib.Omega.{arith}
+use borrow.Author.Needs.{needs}
+use lib.IntN.{ℤ}
+use Rattle.bits.specs.Bits.{InBytes}
+use Rattle.bits.specs.declared.Position.{Position}
+use Rattle.record_layout.specs.Records.{PairFields, BlockFields, levelsBytes, blockBytes}
+use Rattle.record_layout.proofs.Laws.Lengths.{levels-length}
+use Rattle.slice_syntax.specs.Read.{Read}
+use Rattle.slice_syntax.specs.Blocks.{givenDifferenceAt, pairsAt, blockAt}
+use Rattle.slice_syntax.proofs.Laws.Read.{reached}
+use Rattle.slice_syntax.proofs.Laws.Onward.{given-difference-onward}
+use Rattle.slice_records.specs.Laying.{differenceBytes}
+use Rattle.slice_records.proofs.Laws.Laying.{Part, part-done, part-refused, not-laid, first-refused, second-refused, both-laid}
+use Rattle.slice_records.proofs.Laws.Lengths.{difference-short}
+use Rattle.slice_records.proofs.Laws.Few.{of-read, pairs-few}
+use Rattle.slice_records.proofs.coded_blocks.lay_block.Statement.{statement}
+use Rattle.slice_records.proofs.coded_blocks.lay_block.Tie as tie
+
+module _ (s : tie.Start) where
+  abbrev dc : ℤ → List ℕ
+  dc = differenceBytes (s .args .intra)
+
+  abbrev both : BlockFields → List ℕ
+  both = blockBytes (s .args .intra)
+
+  abbrev difference : Read ℤ
+  difference = givenDifferenceAt (s .args .intra) (s .args .block) (s .args .bytes .now) (s .args .at)
+
+  abbrev pairs : ℤ → Position → Read (List PairFields)
+  pairs d p = pairsAt (s .args .intra) (s .args .bytes .now) p
+
+abbrev join : ℤ → List PairFields → BlockFields
+join d pairs = record { difference = d; pairs = pairs }
+
+lay-difference-requires : tie.Need-lay-difference-requires
+lay-difference-requires c κs = search needs
+
+enum-known-refusal : tie.Need-enum-known-refusal
+enum-known-refusal c = search needs
+
+enum-known-next : tie.Need-enum-known-next
+enum-known-next c = search needs
+
+module _ (c : tie.After-known-told2) where
+  abbrev called : tie.After-lay-difference
+  called = c .before .before .before .before .before
+
+  abbrev start : tie.Start
+  start = called .before .before .before .before
+
+  front : Part (dc start) (difference start) (c .before .next .given .0 .0) (c .before .next .given .0 .1 .0)
+  front = part-done (dc start) (difference start) (called .lay-difference .ensures .0) (c .before .next .given .1)
+
+  few : c .before .next .given .0 .1 .0 ≤ 2
+  few = omega (arith, front .size, difference-short (start .args .intra) (front .value))
+
+  inside : InBytes (start .args .bytes .now) (c .before .next .given .0 .0)
+  inside = reached (given-difference-onward (start .args .bytes .now) (start .args .intra) (start .args .block) (start .args .at) (start .pre .1)) (front .is) .inside
+
+add-lay-pairs : tie.Need-add-lay-pairs
+add-lay-pairs c = omega (arith, few (c .before), start (c .before) .pre .2)
+
+lay-pairs-requires : tie.Need-lay-pairs-requires
+lay-pairs-requires c κs = let t = c .before in (start t .pre .0, inside t, omega (arith, few t, start t .pre .2))
+
+enum-known-refusal-2 : tie.Need-enum-known-refusal-2
+enum-known-refusal-2 c = search needs
+
+enum-known-end : tie.Need-enum-known-end
+enum-known-end c = search needs
+
+module _ (c : tie.After-known-told4) where
+  abbrev second : tie.After-lay-pairs
+  second = c .before .before .before .before .before
+
+  abbrev told : tie.After-known-told2
+  told = second .before .before
+
+  back : Part levelsBytes (pairs (start told) (front told .value) (told .before .next .given .0 .0)) (c .before .end .given .0 .0) (c .before .end .given .0 .1 .0)
+  back = part-done levelsBytes (pairs (start told) (front told .value) (told .before .next .given .0 .0)) (second .lay-pairs .ensures .0) (c .before .end .given .1)
+
+add-both : tie.Need-add-both
+add-both c =
+    let t = told c in
+    omega (arith, few t, back c .size, levels-length (back c .value), of-read (pairs-few (start t .args .intra) (start t .args .bytes .now) (t .before .next .given .0 .0)) (back c .is))
+
+same-length : tie.Need-same-length
+same-length c = search needs
+
+returns : tie.Need-returns
+unfolding blockAt
+returns c =
+    let l = c .before .before .before .before .before in
+    let s = l .before .before .before .before in
+    let e = first-refused (dc s) levelsBytes (both s) (difference s) (pairs s) join (part-refused (dc s) (difference s) (l .lay-difference .ensures .0) (c .before .refusal .given .1)) in
+    (rw e refl, not-laid _ e)
+
+same-length-2 : tie.Need-same-length-2
+same-length-2 c = search needs
+
+returns-2 : tie.Need-returns-2
+unfolding blockAt
+returns-2 c =
+    let l = c .before .before .before .before .before in
+    let t = l .before .before in
+    let s = start t in
+    let e =
+    second-refused (dc s) levelsBytes (both s) (difference s) (pairs s) join (front t)
+    (part-refused levelsBytes (pairs s (front t .value) (t .before .next .given .0 .0)) (l .lay-pairs .ensures .0) (c .before .refusal2 .given .1))
+    in
+    (rw e refl, not-laid _ e)
+
+same-length-3 : tie.Need-same-length-3
+same-length-3 c = search needs
+
+returns-3 : tie.Need-returns-3
+unfolding blockAt blockBytes
+returns-3 c =
+    let t = told c in
+    let s = start t in
+    both-laid (dc s) levelsBytes (both s) (difference s) (pairs s) join (front t) (back c) (s .args .place) refl (called t .lay-difference .ensures .1) (second c .lay-pairs .ensures .1)
+
+pub lay-block-spec : {M : Type 1} → statement M
+lay-block-spec =
+    tie.close
+    (tie.spec
+    lay-difference-requires
+    enum-known-refusal
+    enum-known-next
+    add-lay-pairs
+    lay-pairs-requires
+    enum-known-refusal-2
+    enum-known-end
+    add-both
+    same-length
+    returns
+    same-length-2
+    returns-2
+    same-length-3
+    returns-3)

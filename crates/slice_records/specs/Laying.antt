@@ -1,0 +1,53 @@
+-- What a function answers that reads a part of a slice and lays its bytes into a buffer, and what the buffer then holds.
+use mathlib.Core.List.{List, [], _++_}
+use mathlib.Core.Path.{_≡_}
+use mathlib.Core.Bool.{Bool, cond}
+use Prim.Native.Nat.{ℕ}
+use lib.IntN.{ℤ}
+use lib.ListN.{length}
+use Rattle.symbols.specs.declared.vector_codes.VectorCode.{VectorCode}
+use Rattle.macroblock_symbols.specs.Vectors.{gives}
+use Rattle.macroblock_symbols.specs.declared.vectors.Vectors.{Vectors}
+use Rattle.byte_layout.specs.Bytes.{signedWordBytes}
+use Rattle.byte_layout.specs.Laid.{laid}
+use Rattle.record_layout.specs.Records.{codeBytes, givenCodesBytes, patternBytes, blocksBytes}
+use Rattle.bits.specs.declared.Position.{Position}
+use Rattle.slice_syntax.specs.Read.{Read, read, refused}
+use Rattle.slice_syntax.specs.Macroblock.{HeadFields, ResidueFields, RestFields}
+use Rattle.slice_records.specs.declared.laying.Laying.{Laying}
+use Rattle.slice_records.specs.declared.laying.Laying.the-variants.{Done, Refused}
+use Rattle.slice_records.specs.declared.head.Head.{Head}
+use Rattle.slice_records.specs.declared.head.Head.the-variants as Head
+
+-- the position after the part and the length of its bytes, or the refusal and its place
+abbrev pub layingOf : {A : Type 0} → (A → List ℕ) → Read A → Laying
+layingOf bytes (read a p) = Done p (length (bytes a))
+layingOf bytes (refused refusal p) = Refused refusal p
+
+-- where the part is read, its bytes are laid from a place on. Of a part that is refused, nothing is said but that the buffer's length stays
+pub record LaidAt {A : Type 0} (bytes : A → List ℕ) (place : ℕ) (before after : List ℕ) (part : Read A) : Type 0 where
+  pub whole : (a : A) (p : Position) → part ≡ read a p → after ≡ laid place (bytes a) before
+
+-- places in a macroblock's record, which starts no farther than an offset past every buffer's end: a little more than 2^63
+abbrev pub farthestPlace : ℕ
+farthestPlace = 9223372036854777808
+
+-- the bytes of the parts that have no definition of their own in document 01's layout
+abbrev pub componentBytes : VectorCode → List ℕ
+componentBytes component = codeBytes (component .code) (component .residual)
+
+abbrev pub bothBytes : ℕ → Vectors → List ℕ
+bothBytes flags vectors = givenCodesBytes (gives flags 2) (vectors .forward) ++ givenCodesBytes (gives flags 4) (vectors .backward)
+
+abbrev pub patternAndBlocks : ℕ → ResidueFields → List ℕ
+patternAndBlocks flags residue = patternBytes flags (residue .pattern) ++ blocksBytes (gives flags 16) (residue .blocks)
+
+abbrev pub restBytes : ℕ → RestFields → List ℕ
+restBytes flags rest = bothBytes flags (rest .vectors) ++ patternAndBlocks flags (rest .residue)
+
+abbrev pub differenceBytes : Bool → ℤ → List ℕ
+differenceBytes intra difference = cond intra (signedWordBytes difference) []
+
+abbrev pub headOf : Read HeadFields → Head
+headOf (read head p) = Head.Read (head .flags) (head .scale) p
+headOf (refused refusal p) = Head.Refused refusal p

@@ -1,0 +1,134 @@
+-- Stuffing dropped and escapes added in, code by code. Assumes nothing.
+use mathlib.Core.Bool.{Bool, true, false}
+use mathlib.Core.List.{List}
+use mathlib.Core.Path.{_≡_, refl, sym, _∙_}
+use Prim.Native.Nat.{ℕ, zero, suc, _+_, _*_, _<_, _≤_}
+use native.Mathlib.Omega.{arith}
+use lib.Dec.{eqb, leb}
+use lib.ListN.{length}
+use borrow.Author.Tests.{eq-eqb, ne-eqb, le-leb, lt-leb}
+use Rattle.refusals.specs.declared.Refusal.{Refusal}
+use Rattle.refusals.specs.declared.Refusal.the-variants.{SliceCode}
+use Rattle.format3.specs.Chain.{only}
+use Rattle.bits.specs.Bits.{InBytes, bitsFrom, offset}
+use Rattle.bits.specs.declared.Position.{Position}
+use Rattle.bits.proofs.Rest.{rest-length}
+use Rattle.code_tables.specs.AnnexB.{increments, incrementsAfterEscape, stuffing, incrementEscape}
+use Rattle.codes.proofs.Laws.Range.{increment-read, increment-after-escape-read}
+use Rattle.slice_syntax.specs.Read.{Read, read, refused, wordAt}
+use Rattle.slice_syntax.specs.Increment.{afterStuffing, amountOf, afterEscape}
+use Rattle.slice_syntax.proofs.Laws.Read.{Ahead, Onward, stopped, onward, reached, then-onward, no-further, word-onward}
+
+-- ---- stuffing: from here on, the same is read as from the start on
+pub record Stuffed (bytes : List ℕ) (whole : Read ℕ) (at : Position) : Type 0 where
+  pub fuel : ℕ
+  pub enough : length (bitsFrom bytes at) < fuel
+  pub inside : InBytes bytes at
+  pub same : afterStuffing fuel bytes at ≡ whole
+
+module _ (bytes : List ℕ) (at : Position) where
+  pub stuffed-start : InBytes bytes at → Stuffed bytes (afterStuffing (1 + length (bitsFrom bytes at)) bytes at) at
+  stuffed-start within = record { fuel = 1 + length (bitsFrom bytes at); enough = omega arith; inside = within; same = refl }
+
+  refused-from : (n : ℕ) {whole : Read ℕ} {refusal : Refusal} {p : Position} → length (bitsFrom bytes at) < n → afterStuffing n bytes at ≡ whole
+      → wordAt increments bytes at ≡ refused refusal p → whole ≡ refused refusal p
+  unfolding afterStuffing
+  refused-from zero h f e = absurd (omega arith)
+  refused-from (suc n) h f e = sym (rw e at f)
+
+  read-from : (n : ℕ) {whole : Read ℕ} {v : ℕ} {p : Position} → length (bitsFrom bytes at) < n → afterStuffing n bytes at ≡ whole
+      → wordAt increments bytes at ≡ read v p → (v ≡ stuffing → ⊥) → whole ≡ read v p
+  unfolding afterStuffing
+  read-from zero h f e g = absurd (omega arith)
+  read-from (suc n) {v = v} h f e g = sym (rw (e, ne-eqb v stuffing g) at f)
+
+  again-from : (n : ℕ) {whole : Read ℕ} {v : ℕ} {p : Position} → length (bitsFrom bytes at) < n → afterStuffing n bytes at ≡ whole
+      → wordAt increments bytes at ≡ read v p → v ≡ stuffing → Ahead bytes 1 at p → Stuffed bytes whole p
+  unfolding afterStuffing
+  again-from zero h f e g a = absurd (omega arith)
+  again-from (suc n) {v = v} {p = p} h f e g a = record {
+    fuel = n;
+    enough = omega (arith, rest-length bytes at, rest-length bytes p, a .further, a .inside .notPast);
+    inside = a .inside;
+    same = rw (e, eq-eqb v stuffing g) at f;
+  }
+
+  module _ {whole : Read ℕ} (s : Stuffed bytes whole at) where
+    pub stuffed-refused : {refusal : Refusal} {p : Position} → wordAt increments bytes at ≡ refused refusal p → whole ≡ refused refusal p
+    stuffed-refused e = refused-from (s .fuel) (s .enough) (s .same) e
+
+    pub stuffed-read : {v : ℕ} {p : Position} → wordAt increments bytes at ≡ read v p → (v ≡ stuffing → ⊥) → whole ≡ read v p
+    stuffed-read e g = read-from (s .fuel) (s .enough) (s .same) e g
+
+    pub increment-ahead : {v : ℕ} {p : Position} → wordAt increments bytes at ≡ read v p → Ahead bytes 1 at p
+    increment-ahead e = reached (word-onward bytes at (s .inside) increments (increment-read (bitsFrom bytes at))) e
+
+    pub stuffed-again : {v : ℕ} {p : Position} → wordAt increments bytes at ≡ read v p → v ≡ stuffing → Stuffed bytes whole p
+    stuffed-again e g = again-from (s .fuel) (s .enough) (s .same) e g (increment-ahead e)
+
+-- ---- escapes
+plain-amount : (v : ℕ) → (v ≡ incrementEscape → ⊥) → amountOf v ≡ v
+unfolding amountOf
+plain-amount v h = rw (ne-eqb v incrementEscape h)
+
+pub escape-amount : (v : ℕ) → v ≡ incrementEscape → amountOf v ≡ 33
+unfolding amountOf
+escape-amount v h = rw (eq-eqb v incrementEscape h)
+
+pub record Escaped (bytes : List ℕ) (whole : Read ℕ) (sum : ℕ) (at : Position) : Type 0 where
+  pub fuel : ℕ
+  pub left : sum + 33 * fuel ≡ 429
+  pub small : sum ≤ 396
+  pub inside : InBytes bytes at
+  pub same : afterEscape fuel sum bytes at ≡ whole
+
+module _ (bytes : List ℕ) (at : Position) where
+  pub escaped-start : InBytes bytes at → Escaped bytes (afterEscape 12 33 bytes at) 33 at
+  escaped-start within = record { fuel = 12; left = refl; small = omega arith; inside = within; same = refl }
+
+  module _ {whole : Read ℕ} (sum : ℕ) where
+    escape-refused-from : (n : ℕ) {refusal : Refusal} {p : Position} → sum + 33 * n ≡ 429 → sum ≤ 396 → afterEscape n sum bytes at ≡ whole
+        → wordAt incrementsAfterEscape bytes at ≡ refused refusal p → whole ≡ refused refusal p
+    unfolding afterEscape
+    escape-refused-from zero h k f e = absurd (omega arith)
+    escape-refused-from (suc n) h k f e = sym (rw e at f)
+
+    escape-past-from : (n : ℕ) {v : ℕ} {p : Position} → sum + 33 * n ≡ 429 → sum ≤ 396 → afterEscape n sum bytes at ≡ whole
+        → wordAt incrementsAfterEscape bytes at ≡ read v p → 396 < sum + amountOf v → whole ≡ refused SliceCode at
+    unfolding afterEscape only
+    escape-past-from zero h k f e g = absurd (omega arith)
+    escape-past-from (suc n) {v} h k f e g = sym (rw (e, lt-leb (sum + amountOf v) 396 g) at f)
+
+    escape-read-from : (n : ℕ) {v : ℕ} {p : Position} → sum + 33 * n ≡ 429 → sum ≤ 396 → afterEscape n sum bytes at ≡ whole
+        → wordAt incrementsAfterEscape bytes at ≡ read v p → sum + amountOf v ≤ 396 → (v ≡ incrementEscape → ⊥) → whole ≡ read (sum + amountOf v) p
+    unfolding afterEscape only
+    escape-read-from zero h k f e g i = absurd (omega arith)
+    escape-read-from (suc n) {v} h k f e g i = rw (plain-amount v i) (sym (rw (e, le-leb (sum + amountOf v) 396 g, ne-eqb v incrementEscape i) at f))
+
+    escape-again-from : (n : ℕ) {v : ℕ} {p : Position} → sum + 33 * n ≡ 429 → sum ≤ 396 → afterEscape n sum bytes at ≡ whole
+        → wordAt incrementsAfterEscape bytes at ≡ read v p → sum + amountOf v ≤ 396 → v ≡ incrementEscape → InBytes bytes p → Escaped bytes whole (sum + amountOf v) p
+    unfolding afterEscape only
+    escape-again-from zero h k f e g i w = absurd (omega arith)
+    escape-again-from (suc n) {v} h k f e g i w = record {
+      fuel = n;
+      left = rw (escape-amount v i) (omega arith);
+      small = g;
+      inside = w;
+      same = rw (escape-amount v i) (rw (e, le-leb (sum + amountOf v) 396 g, eq-eqb v incrementEscape i) at f);
+    }
+
+    module _ (s : Escaped bytes whole sum at) where
+      pub escaped-refused : {refusal : Refusal} {p : Position} → wordAt incrementsAfterEscape bytes at ≡ refused refusal p → whole ≡ refused refusal p
+      escaped-refused e = escape-refused-from (s .fuel) (s .left) (s .small) (s .same) e
+
+      pub escaped-past : {v : ℕ} {p : Position} → wordAt incrementsAfterEscape bytes at ≡ read v p → 396 < sum + amountOf v → whole ≡ refused SliceCode at
+      escaped-past e g = escape-past-from (s .fuel) (s .left) (s .small) (s .same) e g
+
+      pub escaped-read : {v : ℕ} {p : Position} → wordAt incrementsAfterEscape bytes at ≡ read v p → sum + amountOf v ≤ 396 → (v ≡ incrementEscape → ⊥) → whole ≡ read (sum + amountOf v) p
+      escaped-read e g i = escape-read-from (s .fuel) (s .left) (s .small) (s .same) e g i
+
+      pub after-escape-ahead : {v : ℕ} {p : Position} → wordAt incrementsAfterEscape bytes at ≡ read v p → Ahead bytes 1 at p
+      after-escape-ahead e = reached (word-onward bytes at (s .inside) incrementsAfterEscape (increment-after-escape-read (bitsFrom bytes at))) e
+
+      pub escaped-again : {v : ℕ} {p : Position} → wordAt incrementsAfterEscape bytes at ≡ read v p → sum + amountOf v ≤ 396 → v ≡ incrementEscape → Escaped bytes whole (sum + amountOf v) p
+      escaped-again e g i = escape-again-from (s .fuel) (s .left) (s .small) (s .same) e g i (after-escape-ahead e .inside)

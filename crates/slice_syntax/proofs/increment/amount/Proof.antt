@@ -1,0 +1,17 @@
+-- `amount` meets its contract: the test is that of `amountOf`. Assumes nothing.
+use mathlib.Core.Path.{_≡_}
+use borrow.Author.Tests.{eq-eqb, ne-eqb}
+use Rattle.slice_syntax.specs.Increment.{amountOf}
+use Rattle.slice_syntax.proofs.increment.amount.Statement.{statement}
+use Rattle.slice_syntax.proofs.increment.amount.Tie as tie
+
+returns : tie.Need-returns
+unfolding amountOf
+returns c = rw (eq-eqb _ _ (c .if1 .taken))
+
+returns-2 : tie.Need-returns-2
+unfolding amountOf
+returns-2 c = rw (ne-eqb _ _ (c .if1 .left))
+
+pub amount-spec : {M : Type 1} → statement M
+amount-spec = tie.close (tie.spec returns returns-2)

@@ -1,0 +1,64 @@
+-- `read_increment` meets its contract: after the stuffing stands a first increment, or a first escape. Assumes nothing.
+use mathlib.Core.Path.{_≡_}
+use Prim.Native.Nat.{_+_}
+use borrow.Author.Needs.{needs}
+use borrow.Author.Tests.{eq-eqb, ne-eqb}
+use lib.ListN.{length}
+use Rattle.bits.specs.Bits.{bitsFrom}
+use Rattle.slice_syntax.specs.Read.{read}
+use Rattle.slice_syntax.specs.Increment.{afterStuffing, incrementAt}
+use Rattle.slice_syntax.proofs.Laws.Read.{step-read, step-refused, reached}
+use Rattle.slice_syntax.proofs.Laws.Onward.{stuffed-onward}
+use Rattle.slice_syntax.proofs.increment.read_increment.Statement.{statement}
+use Rattle.slice_syntax.proofs.increment.read_increment.Tie as tie
+
+after-stuffing-requires : tie.Need-after-stuffing-requires
+after-stuffing-requires c κs = search needs
+
+enum-known-refusal : tie.Need-enum-known-refusal
+enum-known-refusal c = search needs
+
+enum-known-value : tie.Need-enum-known-value
+enum-known-value c = search needs
+
+module _ (c : tie.After-known-told2) where
+  abbrev start : tie.Start
+  start = c .before .before .before .before .before
+
+  first : afterStuffing (1 + length (bitsFrom (start .args .bytes .now) (start .args .at))) (start .args .bytes .now) (start .args .at) ≡ read (c .before .value .given .0 .0) (c .before .value .given .0 .1 .0)
+  first = step-read _ (c .before .before .before .after-stuffing .ensures) (c .before .value .given .1)
+
+after-escape-requires : tie.Need-after-escape-requires
+after-escape-requires c κs =
+    let s = start (c .before) in
+    (s .pre .0, reached (stuffed-onward (s .args .bytes .now) (s .args .at) (s .pre .1)) (first (c .before)) .inside)
+
+returns : tie.Need-returns
+unfolding incrementAt
+returns c = rw (first (c .before .before), eq-eqb _ _ (c .before .if1 .taken)) (c .after-escape .ensures)
+
+returns-2 : tie.Need-returns-2
+unfolding incrementAt
+returns-2 c =
+    let s = c .before .before .before .before .before in
+    rw
+    (
+    step-refused (afterStuffing (1 + length (bitsFrom (s .args .bytes .now) (s .args .at))) (s .args .bytes .now) (s .args .at)) (c .before .before .before .after-stuffing .ensures)
+    (c .before .refusal .given .1)
+    )
+
+returns-3 : tie.Need-returns-3
+unfolding incrementAt
+returns-3 c = rw (first (c .before), ne-eqb _ _ (c .if1 .left))
+
+pub read-increment-spec : {M : Type 1} → statement M
+read-increment-spec =
+    tie.close
+    (tie.spec
+    after-stuffing-requires
+    enum-known-refusal
+    enum-known-value
+    after-escape-requires
+    returns
+    returns-2
+    returns-3)

@@ -1,0 +1,46 @@
+-- `next_size` meets its contract: the test is that of `sizeWords`, and a code that is read ends within the bytes. Assumes nothing.
+use mathlib.Core.Path.{_≡_}
+use native.Mathlib.Omega.{arith}
+use borrow.Author.Needs.{needs}
+use borrow.Author.Tests.{lt-ltb, le-ltb}
+use Rattle.bits.specs.Bits.{bitsFrom}
+use Rattle.codes.proofs.Laws.Range.{luminance-size-read, chrominance-size-read}
+use Rattle.slice_syntax.specs.Blocks.{sizeWords}
+use Rattle.slice_syntax.proofs.Laws.Read.{word-fits}
+use Rattle.slice_syntax.proofs.step.next_size.Statement.{statement}
+use Rattle.slice_syntax.proofs.step.next_size.Tie as tie
+
+read-luminance-size-requires : tie.Need-read-luminance-size-requires
+read-luminance-size-requires c κs = search needs
+
+step-over-requires : tie.Need-step-over-requires
+step-over-requires c κs =
+    let s = c .before .before .before in
+    (s .pre .1 .bitSmall, rw (c .read-luminance-size .ensures) (word-fits (s .args .bytes .now) (s .args .at) (s .pre .1) _ (luminance-size-read (bitsFrom (s .args .bytes .now) (s .args .at))) (omega arith) (omega arith)))
+
+returns : tie.Need-returns
+unfolding sizeWords
+returns c = rw (lt-ltb _ _ (c .before .before .if1 .taken), ← c .before .read-luminance-size .ensures) (c .step-over .ensures)
+
+read-chrominance-size-requires : tie.Need-read-chrominance-size-requires
+read-chrominance-size-requires c κs = search needs
+
+step-over-requires-2 : tie.Need-step-over-requires-2
+step-over-requires-2 c κs =
+    let s = c .before .before .before in
+    (s .pre .1 .bitSmall, rw (c .read-chrominance-size .ensures) (word-fits (s .args .bytes .now) (s .args .at) (s .pre .1) _ (chrominance-size-read (bitsFrom (s .args .bytes .now) (s .args .at))) (omega arith) (omega arith)))
+
+returns-2 : tie.Need-returns-2
+unfolding sizeWords
+returns-2 c = rw (le-ltb _ _ (c .before .before .if1 .left), ← c .before .read-chrominance-size .ensures) (c .step-over2 .ensures)
+
+pub next-size-spec : {M : Type 1} → statement M
+next-size-spec =
+    tie.close
+    (tie.spec
+    read-luminance-size-requires
+    step-over-requires
+    returns
+    read-chrominance-size-requires
+    step-over-requires-2
+    returns-2)

@@ -1,0 +1,31 @@
+-- `next_start` meets its contract: a start code ends within the bytes. Assumes nothing.
+use mathlib.Core.Path.{_≡_}
+use native.Mathlib.Omega.{arith}
+use borrow.Author.Needs.{needs}
+use lib.ListN.{length}
+use Rattle.bits.specs.Bits.{InBytes, bitsFrom}
+use Rattle.bits.proofs.Rest.{rest-binary}
+use Rattle.codes.specs.SliceStart.{sliceStartOf}
+use Rattle.slice_syntax.specs.Slice.{firstBit}
+use Rattle.slice_syntax.proofs.Laws.Read.{first-inside, code-fits}
+use Rattle.slice_syntax.proofs.Laws.Words.{start-read}
+use Rattle.slice_syntax.proofs.step.next_start.Statement.{statement}
+use Rattle.slice_syntax.proofs.step.next_start.Tie as tie
+
+read-slice-start-requires : tie.Need-read-slice-start-requires
+read-slice-start-requires c κs = search needs
+
+step-over-requires : tie.Need-step-over-requires
+step-over-requires c κs =
+    let s = c .before .before in
+    let bytes = s .args .bytes .now in (
+      omega arith,
+      rw (c .read-slice-start .ensures) (code-fits bytes firstBit (first-inside bytes) (sliceStartOf (s .args .height) (bitsFrom bytes firstBit))
+          (λ v n e. let k = start-read (s .args .height) (rest-binary bytes firstBit) v n e in (k .few, k .inside)) (omega arith)),
+    )
+
+returns : tie.Need-returns
+returns c = rw (← c .before .read-slice-start .ensures) (c .step-over .ensures)
+
+pub next-start-spec : {M : Type 1} → statement M
+next-start-spec = tie.close (tie.spec read-slice-start-requires step-over-requires returns)

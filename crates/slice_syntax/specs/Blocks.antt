@@ -1,0 +1,84 @@
+-- A macroblock's blocks: "DC size and difference, first and next coefficients, escape with run and level as one code, end of block (needed even
+-- after position 63)".
+use mathlib.Core.Bool.{Bool, false, cond, not}
+use mathlib.Core.List.{List, [], _∷_, _++_}
+use Prim.Native.Nat.{ℕ, zero, suc, _+_}
+use lib.Dec.{eqb, ltb, leb}
+use lib.IntN.{ℤ, pos}
+use Rattle.refusals.specs.declared.Refusal.the-variants.{SliceCode, SliceCut}
+use Rattle.format3.specs.Chain.{only, _$_}
+use Rattle.blocks.specs.Blocks.{isCoded, firstPosition}
+use Rattle.record_layout.specs.Records.{PairFields, BlockFields}
+use Rattle.bits.specs.Bits.{bitsFrom, advanced}
+use Rattle.bits.specs.declared.Position.{Position}
+use Rattle.code_tables.specs.Code.{Word}
+use Rattle.code_tables.specs.AnnexB.{luminanceSizes, chrominanceSizes, firstCoefficients, nextCoefficients}
+use Rattle.codes.specs.Difference.{dcDifferenceOf}
+use Rattle.coefficient_codes.specs.Coefficient.{coefficientOf}
+use Rattle.coefficient_codes.specs.declared.coefficient.Coefficient.{Coefficient}
+use Rattle.coefficient_codes.specs.declared.coefficient.Coefficient.the-variants.{Pair, EndOfBlock, NoCode, Short}
+use Rattle.slice_syntax.specs.Read.{Read, read, refused, readThen, wordAt, fieldAt}
+
+-- dct_dc_size by the table of the block's component: blocks 0 to 3 are luminance
+unfoldable pub sizeWords : ℕ → List Word
+sizeWords block = cond (ltb block 4) luminanceSizes chrominanceSizes
+
+-- "DC size and difference"; a size of 0 is a difference of 0, with no bits
+unfoldable pub differenceAt : ℕ → List ℕ → Position → Read ℤ
+differenceAt block bytes at =
+    readThen (wordAt (sizeWords block) bytes at) λ size next.
+    cond (eqb size 0) (read (pos 0) next) $
+    readThen (fieldAt size bytes next) λ value end.
+    read (dcDifferenceOf size value) end
+
+-- what follows a coefficient's code, by what it is
+abbrev pub coefficientThen : {A : Type 0} → Coefficient → Position → (ℕ → ℤ → Position → Read A) → (Position → Read A) → Read A
+coefficientThen (Pair run level n) at pair end = pair run level (advanced at n)
+coefficientThen (EndOfBlock n) at pair end = end (advanced at n)
+coefficientThen NoCode at pair end = refused SliceCode at
+coefficientThen Short at pair end = refused SliceCut at
+
+-- the words of a block's first coefficient, or of a later one. An intra block's first is its DC, so that all it reads here are later ones
+unfoldable pub wordsOf : Bool → List Word
+wordsOf first = cond first firstCoefficients nextCoefficients
+
+-- a block's pairs to its end, where a run of 0 lands at the position `next`: "24 .. a whole code that takes .. a coefficient past 63". Each pair lands
+-- further on, so that with n + next at least 65 the first clause is never reached
+unfoldable pub pairsFrom : ℕ → Bool → ℕ → List ℕ → Position → Read (List PairFields)
+pairsFrom zero first next bytes at = refused SliceCut at
+pairsFrom (suc n) first next bytes at =
+    coefficientThen (coefficientOf (wordsOf first) (bitsFrom bytes at)) at
+    (λ run level after.
+    only (leb (next + run) 63) (refused SliceCode at) $
+    readThen (pairsFrom n false (next + run + 1) bytes after) λ pairs end.
+    read (record { run = run; level = level } ∷ pairs) end)
+    (λ after. read [] after)
+
+unfoldable pub pairsAt : Bool → List ℕ → Position → Read (List PairFields)
+pairsAt intra bytes at = pairsFrom 65 (not intra) (firstPosition intra) bytes at
+
+-- the difference is an intra block's alone
+unfoldable pub givenDifferenceAt : Bool → ℕ → List ℕ → Position → Read ℤ
+givenDifferenceAt intra block bytes at = cond intra (differenceAt block bytes at) (read (pos 0) at)
+
+unfoldable pub blockAt : Bool → ℕ → List ℕ → Position → Read BlockFields
+blockAt intra block bytes at =
+    readThen (givenDifferenceAt intra block bytes at) λ difference next.
+    readThen (pairsAt intra bytes next) λ pairs end.
+    read (record { difference = difference; pairs = pairs }) end
+
+-- a block, if it is coded
+unfoldable pub codedBlockAt : Bool → Bool → ℕ → List ℕ → Position → Read (List BlockFields)
+codedBlockAt coded intra block bytes at =
+    cond coded
+    (readThen (blockAt intra block bytes at) λ fields end.
+    read (fields ∷ []) end)
+    (read [] at)
+
+-- the coded ones of the n blocks from this one on
+unfoldable pub blocksFrom : Bool → ℕ → ℕ → ℕ → List ℕ → Position → Read (List BlockFields)
+blocksFrom intra pattern zero block bytes at = read [] at
+blocksFrom intra pattern (suc n) block bytes at =
+    readThen (codedBlockAt (isCoded pattern block) intra block bytes at) λ first next.
+    readThen (blocksFrom intra pattern n (block + 1) bytes next) λ rest end.
+    read (first ++ rest) end

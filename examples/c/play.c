@@ -1,0 +1,53 @@
+/* play STREAM FOLDER: decodes an MPEG-1 video stream, slices and all, and writes each picture as FOLDER/NNNN.ppm, to be
+ * looked at, numbered in coded order. A line is printed for each picture.
+ *
+ * A stream that cannot be decoded to its end is refused where it cannot: with a message that says why and at which byte, and
+ * after the pictures before it. */
+#include <stdbool.h>
+#include <stdio.h>
+#include <stdlib.h>
+
+#include "decoder.h"
+#include "show.h"
+#include "stream.h"
+
+static void print_problem(const char *path, const struct stream *stream)
+{
+    fprintf(stderr, "%s: at byte %zu: %s", path, stream->problem_at, stream->problem);
+    if (stream->number != FORMAT3_ACCEPTED)
+        fprintf(stderr, ": %u at its byte %zu, bit %zu", stream->number, stream->byte, stream->bit);
+    fprintf(stderr, "\n");
+}
+
+/* All pictures of the stream. Answers whether there was at least one, and every one was accepted and written. */
+static bool show_stream(struct decoder *decoder, const char *path, struct bytes bytes, const char *folder)
+{
+    static struct file file;
+    struct stream stream;
+    bool all = true;
+    int count = 0;
+    open_stream(&stream, bytes.data, bytes.length);
+    while (next_picture(&stream, &file)) {
+        bool shown = show_picture(decoder, ++count, file.bytes, file.length, folder);
+        all = all && shown;
+    }
+    if (stream.problem != NULL)
+        print_problem(path, &stream);
+    else if (count == 0)
+        fprintf(stderr, "%s: no picture\n", path);
+    return all && count > 0 && stream.problem == NULL;
+}
+
+int main(int argument_count, char **arguments)
+{
+    static struct decoder decoder;
+    struct bytes bytes = {NULL, 0};
+    if (argument_count != 3) {
+        fprintf(stderr, "usage: play STREAM FOLDER\n");
+        return 2;
+    }
+    start_decoder(&decoder);
+    bool shown = read_file(arguments[1], &bytes) && show_stream(&decoder, arguments[1], bytes, arguments[2]);
+    free(bytes.data);
+    return shown ? 0 : 1;
+}

@@ -1,0 +1,141 @@
+//! Compares an implementation's reader of raw slices with the other decoder's: answers and every byte of the buffer.
+
+use std::collections::{BTreeMap, BTreeSet};
+
+use crate::compare::{require_same, require_same_bytes};
+use crate::decoder::refusals::Refusal;
+use crate::decoder::{Entries, Given, ENTRIES};
+use crate::fixtures::{stream_fixtures, StreamFixture};
+use crate::generator::codes::{all_words, counted};
+use crate::generator::{damaged_bytes, edge_slices, slice_case, small_slice_cases, SliceCase};
+use crate::random::Random;
+use crate::stream;
+
+/// How often each answer to a raw slice was given.
+pub type SliceCounts = BTreeMap<u32, usize>;
+
+/// The answers that reading a slice has.
+const SLICE_ANSWERS: [u32; 5] = [
+    0,
+    Refusal::Header as u32,
+    Refusal::SliceCode as u32,
+    Refusal::SliceCut as u32,
+    Refusal::RecordsLength as u32,
+];
+
+/// Fails where an answer to a slice was never given, as `require_every_answer`.
+pub fn require_every_slice_answer(counts: &SliceCounts) -> Result<(), String> {
+    let missing = |answer: &&u32| !counts.contains_key(answer);
+    match SLICE_ANSWERS.iter().find(missing) {
+        Some(answer) => Err(format!("no slice was answered by {answer}")),
+        None => Ok(()),
+    }
+}
+
+/// Raw slices by their seed and number: the answer, and every byte of the buffer, of refused slices too. Fails as well where a
+/// word of Annex B stood in none of the accepted ones.
+pub fn slices(tested: &Entries, seed: u64, count: u64) -> Result<SliceCounts, String> {
+    let mut counts = SliceCounts::new();
+    let mut missing = all_words();
+    for number in 0..count {
+        let case = slice_case(seed, number);
+        let what = || format!("slice {number} of seed {seed}");
+        let answer = same_slice(tested, &case, what)?;
+        *counts.entry(answer).or_default() += 1;
+        if case.legal {
+            let words: BTreeSet<_> = case.codes.iter().flat_map(counted).collect();
+            missing.retain(|word| !words.contains(word));
+        }
+    }
+    match missing.first() {
+        Some(word) => Err(format!("{word:?} stood in no slice")),
+        None => Ok(counts),
+    }
+}
+
+/// Small slices with each bit flipped, cut at each byte, and with each number and length of the buffer that may matter.
+pub fn changed_slices(tested: &Entries, seed: u64) -> Result<usize, String> {
+    let mut compared = 0;
+    for (slice, case) in small_slice_cases(seed).into_iter().enumerate() {
+        for (number, changed) in case.each_change().iter().enumerate() {
+            let what = || format!("change {number} of small slice {slice} of seed {seed}");
+            same_slice(tested, changed, what)?;
+            compared += 1;
+        }
+    }
+    Ok(compared)
+}
+
+/// Slices that end in a code, at every place and after every bit of it.
+pub fn ended_slices(tested: &Entries) -> Result<usize, String> {
+    let cases = edge_slices();
+    for case in &cases {
+        same_slice(tested, case, || format!("slice {:02x?}", case.slice))?;
+    }
+    Ok(cases.len())
+}
+
+/// How often each slice of the streams is damaged.
+const DAMAGES: u64 = 20;
+
+/// The slices of the streams, each as it is and damaged.
+pub fn stream_slices(tested: &Entries, seed: u64) -> Result<usize, String> {
+    let mut compared = 0;
+    for fixture in stream_fixtures() {
+        for (number, (slice, given)) in slices_of(&fixture)?.into_iter().enumerate() {
+            let random = &mut Random::new(&[seed, number as u64, 5]);
+            for case in stream_cases(random, slice, given) {
+                let what = || format!("slice {number} of {} with seed {seed}", fixture.name);
+                same_slice(tested, &case, what)?;
+                compared += 1;
+            }
+        }
+    }
+    Ok(compared)
+}
+
+/// The slices of a stream, each with what it is read with.
+fn slices_of(fixture: &StreamFixture) -> Result<Vec<(&[u8], Given)>, String> {
+    let pictures = stream::pictures(&fixture.stream)?;
+    let slices = pictures.into_iter().flat_map(|picture| {
+        let given = picture.given;
+        picture.slices.into_iter().map(move |slice| (slice, given))
+    });
+    Ok(slices.collect())
+}
+
+/// A slice as it is, then damaged, in buffers that hold its records or nearly so.
+fn stream_cases(random: &mut Random, slice: &[u8], given: Given) -> Vec<SliceCase> {
+    let case = |damage| {
+        let slice = match damage {
+            0 => slice.to_vec(),
+            _ => damaged_bytes(random, slice.to_vec()),
+        };
+        let length = random.pick(&[2, 8, 16]) * slice.len();
+        SliceCase {
+            slice,
+            given,
+            buffer: random.bytes(length),
+            codes: Vec::new(),
+            legal: damage == 0,
+        }
+    };
+    (0..=DAMAGES).map(case).collect()
+}
+
+/// The answer's number, where both give the same answer and bytes.
+fn same_slice(
+    tested: &Entries,
+    case: &SliceCase,
+    what: impl Fn() -> String,
+) -> Result<u32, String> {
+    let run = |entries: &Entries| {
+        let mut buffer = case.buffer.clone();
+        let answer = (entries.read_slice)(&case.slice, case.given, &mut buffer);
+        (answer, buffer)
+    };
+    let (ours, theirs) = (run(&ENTRIES), run(tested));
+    require_same(&what, ours.0, theirs.0)?;
+    require_same_bytes(&what, &ours.1, &theirs.1)?;
+    Ok(ours.0.number)
+}
