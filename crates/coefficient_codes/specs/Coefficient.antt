@@ -1,16 +1,16 @@
 -- A coefficient read from bits: "a coefficient's sign belongs to its code", and "an escape with its run and level is one".
 use mathlib.Core.Path.{_≡_}
-use mathlib.Core.Bool.{cond}
+use mathlib.Core.Bool.{Bool, false, cond}
 use mathlib.Core.List.{List}
 use Prim.Native.Nat.{ℕ, _+_, _/_, _%_, _<_, _≤_}
-use lib.Dec.{eqb, ltb}
+use lib.Dec.{eqb, ltb, leb}
 use lib.IntN.{pos, _-ℤ_}
 use Rattle.bits.specs.declared.Window.{Window}
 use Rattle.code_tables.specs.declared.code.Code.{Code}
 use Rattle.coefficient_codes.specs.declared.coefficient.Coefficient.{Coefficient}
 use Rattle.coefficient_codes.specs.declared.coefficient.Coefficient.the-variants.{Pair, EndOfBlock, NoCode, Short}
 use Rattle.code_tables.specs.Code.{Word, codeOf, fieldOf, afterCode}
-use Rattle.code_tables.specs.AnnexB.{endOfBlock, coefficientEscape, largePositive, largeNegative}
+use Rattle.code_tables.specs.AnnexB.{endOfBlock, coefficientEscape, firstCoefficients, nextCoefficients, largePositive, largeNegative}
 
 -- go on after a part
 abbrev pub afterPart : Code → List ℕ → (ℕ → ℕ → List ℕ → Coefficient) → Coefficient
@@ -42,9 +42,17 @@ finishedOf value n b =
     cond (eqb value endOfBlock) (EndOfBlock n)
     (cond (eqb value coefficientEscape) (escapedOf n b) (signedOf value n b))
 
--- a coefficient's code, of `firstCoefficients` or `nextCoefficients`; the same as reading the list of all codes of the place (`first-listed`, `next-listed`)
+-- the words of a block's first coefficient, or of a later one. An intra block's first is its DC, so that all others of it are later ones
+unfoldable pub wordsOf : Bool → List Word
+wordsOf first = cond first firstCoefficients nextCoefficients
+
+-- a coefficient's code, of some words; the same as reading the list of all codes of the place (`first-listed`, `next-listed`)
 unfoldable pub coefficientOf : List Word → List ℕ → Coefficient
 coefficientOf words b = afterPart (codeOf words b) b finishedOf
+
+-- whether the next bits begin with the 1 that is a word of its own
+unfoldable pub isOneAlone : Bool → Window → Bool
+isOneAlone first next = cond first (cond (eqb (next .count) 0) false (leb 2147483648 (next .bits))) false
 
 -- what is known of a coefficient's word that was found among the next bits
 pub record WordIn (value n : ℕ) (next : Window) : Type 0 where

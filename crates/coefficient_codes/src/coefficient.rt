@@ -14,8 +14,8 @@ ghost use lib.IntN.{pos, _-ℤ_};
 ghost use lib.ListN.{drop};
 ghost use Rattle.bits.specs.Bits.{InBytes, bitsFrom, bitsIn};
 ghost use Rattle.code_tables.specs.Code.{codeOf};
-ghost use Rattle.code_tables.specs.AnnexB.{firstCoefficients, nextCoefficients};
-ghost use Rattle.coefficient_codes.specs.Coefficient.{WordIn, signedOf, largeOf, escapedOf, finishedOf, coefficientOf};
+ghost use Rattle.code_tables.specs.AnnexB.{nextCoefficients};
+ghost use Rattle.coefficient_codes.specs.Coefficient.{WordIn, isOneAlone, signedOf, largeOf, escapedOf, finishedOf, wordsOf, coefficientOf};
 ghost use Rattle.code_tables.specs.Table.{codeTable, rowAt};
 ghost use Rattle.codes.specs.LookUp.{isOneOf, shortRows};
 
@@ -158,32 +158,34 @@ fn next_coefficient(codes: &[u16; 4608], next: Window) -> Coefficient
     }
 }
 
-// The first coefficient of a non-intra block: a first bit of 1 is a word of its own, and all the other words are the same.
-fn first_coefficient(codes: &[u16; 4608], next: Window) -> Coefficient
-    requires { ⌜ (now codes ≡ codeTable) × (next .count ≤ 32) ⌝ }
-    ensures { λ r. ⌜ r ≡ coefficientOf firstCoefficients (bitsIn next) ⌝ }
+// Whether a 1 comes first where that is a word of its own, in the first coefficient of a non-intra block; all other words are the same there.
+fn is_one_alone(first: bool, next: Window) -> bool
+    ensures { λ r. ⌜ r ≡ isOneAlone first next ⌝ }
 {
-    if next.count == 0 {
-        return Coefficient::Short;
+    if !first {
+        return false;
     }
-    if 2147483648 <= next.bits {
+    if next.count == 0 {
+        return false;
+    }
+    2147483648 <= next.bits
+}
+
+fn coefficient_in(codes: &[u16; 4608], next: Window, first: bool) -> Coefficient
+    requires { ⌜ (now codes ≡ codeTable) × (next .count ≤ 32) ⌝ }
+    ensures { λ r. ⌜ r ≡ coefficientOf (wordsOf first) (bitsIn next) ⌝ }
+{
+    if is_one_alone(first, next) {
         return signed_pair(1, 1, next);
     }
     next_coefficient(codes, next)
 }
 
-pub fn read_first_coefficient(codes: &[u16; 4608], bytes: &[u8], at: Position) -> Coefficient
+// The first coefficient of a non-intra block, or any other.
+pub fn read_coefficient(codes: &[u16; 4608], bytes: &[u8], at: Position, first: bool) -> Coefficient
     requires { ⌜ (now codes ≡ codeTable) × InBytes (now bytes) at ⌝ }
-    ensures { λ r. ⌜ r ≡ coefficientOf firstCoefficients (bitsFrom (now (bytes .entry)) at) ⌝ }
+    ensures { λ r. ⌜ r ≡ coefficientOf (wordsOf first) (bitsFrom (now (bytes .entry)) at) ⌝ }
 {
     let next = next_bits(bytes, at);
-    first_coefficient(codes, next)
-}
-
-pub fn read_next_coefficient(codes: &[u16; 4608], bytes: &[u8], at: Position) -> Coefficient
-    requires { ⌜ (now codes ≡ codeTable) × InBytes (now bytes) at ⌝ }
-    ensures { λ r. ⌜ r ≡ coefficientOf nextCoefficients (bitsFrom (now (bytes .entry)) at) ⌝ }
-{
-    let next = next_bits(bytes, at);
-    next_coefficient(codes, next)
+    coefficient_in(codes, next, first)
 }

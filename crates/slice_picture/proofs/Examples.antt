@@ -15,12 +15,12 @@ use Rattle.byte_layout.specs.Bytes.{complement, wordBytes}
 use Rattle.record_layout.specs.Records.{joined, recordHead, recordBytes, sliceBody, sliceRecords, pairBytes, levelsBytes, blockBytes, headBytes, codeBytes, codesBytes, vectorsBytes, patternBytes, residueBytes, macroblockBody}
 use Rattle.code_tables.specs.Code.{digitsOf, word, isPrefix, codeOf, fieldOf}
 use Rattle.code_tables.specs.AnnexB.{incrementWords, increments, incrementsAfterEscape, intraTypes, predictedTypes, bidirectionalTypes, typesOf, patterns, motionCodes, luminanceSizes, chrominanceSizes, laterWords, firstCoefficients, nextCoefficients, byteWords, largePositive, largeNegative}
-use Rattle.coefficient_codes.specs.Coefficient.{signedOf, largeOf, levelOf, escapedOf, finishedOf, coefficientOf}
+use Rattle.coefficient_codes.specs.Coefficient.{signedOf, largeOf, levelOf, escapedOf, finishedOf, wordsOf, coefficientOf}
 use Rattle.codes.specs.Difference.{dcDifferenceOf}
 use Rattle.codes.specs.SliceStart.{startPrefix, sliceStartOf}
 use Rattle.slice_syntax.specs.Increment.{afterStuffing, amountOf, afterEscape, incrementAt}
 use Rattle.slice_syntax.specs.Vectors.{residualAt, motionAt, vectorAt, givenVectorAt}
-use Rattle.slice_syntax.specs.Blocks.{sizeWords, differenceAt, wordsOf, pairsFrom, pairsAt, givenDifferenceAt, blockAt, codedBlockAt, blocksFrom}
+use Rattle.slice_syntax.specs.Blocks.{sizeWords, differenceAt, pairsFrom, pairsAt, givenDifferenceAt, blockAt, codedBlockAt, blocksFrom}
 use Rattle.slice_syntax.specs.Macroblock.{scaleAt, headAt, vectorsAt, patternAt, residueAt, restAt, macroblockAt}
 use Rattle.slice_syntax.specs.Slice.{afterExtra, nextAt, macroblocksFrom, startAddress, sliceHeadOf, afterHeadAt, sliceOf}
 use Rattle.raw_slice.specs.Answer.{Outcome, given, fitted, outcomeOf}

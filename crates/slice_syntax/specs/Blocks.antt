@@ -12,9 +12,9 @@ use Rattle.record_layout.specs.Records.{PairFields, BlockFields}
 use Rattle.bits.specs.Bits.{bitsFrom, advanced}
 use Rattle.bits.specs.declared.Position.{Position}
 use Rattle.code_tables.specs.Code.{Word}
-use Rattle.code_tables.specs.AnnexB.{luminanceSizes, chrominanceSizes, firstCoefficients, nextCoefficients}
+use Rattle.code_tables.specs.AnnexB.{luminanceSizes, chrominanceSizes}
 use Rattle.codes.specs.Difference.{dcDifferenceOf}
-use Rattle.coefficient_codes.specs.Coefficient.{coefficientOf}
+use Rattle.coefficient_codes.specs.Coefficient.{wordsOf, coefficientOf}
 use Rattle.coefficient_codes.specs.declared.coefficient.Coefficient.{Coefficient}
 use Rattle.coefficient_codes.specs.declared.coefficient.Coefficient.the-variants.{Pair, EndOfBlock, NoCode, Short}
 use Rattle.slice_syntax.specs.Read.{Read, read, refused, readThen, wordAt, fieldAt}
@@ -37,10 +37,6 @@ coefficientThen (Pair run level n) at pair end = pair run level (advanced at n)
 coefficientThen (EndOfBlock n) at pair end = end (advanced at n)
 coefficientThen NoCode at pair end = refused SliceCode at
 coefficientThen Short at pair end = refused SliceCut at
-
--- the words of a block's first coefficient, or of a later one. An intra block's first is its DC, so that all it reads here are later ones
-unfoldable pub wordsOf : Bool → List Word
-wordsOf first = cond first firstCoefficients nextCoefficients
 
 -- a block's pairs to its end, where a run of 0 lands at the position `next`: "24 .. a whole code that takes .. a coefficient past 63". Each pair lands
 -- further on, so that with n + next at least 65 the first clause is never reached

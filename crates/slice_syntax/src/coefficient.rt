@@ -6,8 +6,7 @@ ghost use mathlib.Core.Path.{_≡_};
 ghost use Prim.Native.Nat.{_≤_};
 ghost use Rattle.bits.specs.Bits.{InBytes, bitsFrom};
 ghost use Rattle.code_tables.specs.Table.{codeTable};
-ghost use Rattle.coefficient_codes.specs.Coefficient.{coefficientOf};
-ghost use Rattle.slice_syntax.specs.Blocks.{wordsOf};
+ghost use Rattle.coefficient_codes.specs.Coefficient.{wordsOf, coefficientOf};
 ghost use Rattle.slice_syntax.specs.Answers.{turnOf};
 
 const LAST_POSITION: usize = 63;
@@ -18,23 +17,12 @@ pub enum Turn {
     Refused(Refusal, Position),
 }
 
-// The first coefficient of a non-intra block, or any other.
-fn read_coefficient(codes: &[u16; 4608], bytes: &[u8], at: Position, first: bool) -> Coefficient
-    requires { ⌜ (now codes ≡ codeTable) × InBytes (now bytes) at ⌝ }
-    ensures { λ r. ⌜ r ≡ coefficientOf (wordsOf first) (bitsFrom (now (bytes .entry)) at) ⌝ }
-{
-    if first {
-        return coefficient_codes::coefficient::read_first_coefficient(codes, bytes, at);
-    }
-    coefficient_codes::coefficient::read_next_coefficient(codes, bytes, at)
-}
-
 // The next pair of a block, where a run of 0 lands at the position `next`, or the block's end.
 pub fn read_turn(codes: &[u16; 4608], bytes: &[u8], at: Position, first: bool, next: usize) -> Turn
     requires { ⌜ (now codes ≡ codeTable) × InBytes (now bytes) at × (next ≤ 64) ⌝ }
     ensures { λ r. ⌜ r ≡ turnOf next (coefficientOf (wordsOf first) (bitsFrom (now (bytes .entry)) at)) at ⌝ }
 {
-    match read_coefficient(codes, bytes, at, first) {
+    match coefficient_codes::coefficient::read_coefficient(codes, bytes, at, first) {
         Coefficient::Pair(run, level, length) => {
             let position = next + run as usize;
             if LAST_POSITION < position {

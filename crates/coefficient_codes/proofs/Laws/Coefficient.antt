@@ -1,16 +1,16 @@
 -- A coefficient's parts in a window. Assumes nothing.
 use mathlib.Core.Path.{_≡_, refl, ap, _∙_, sym, subst}
-use mathlib.Core.Bool.{Bool, true, cond}
+use mathlib.Core.Bool.{Bool, true, false, cond}
 use mathlib.Core.List.{List, [], _∷_, _++_}
 use Prim.Native.Nat.{ℕ, _+_, _*_, _-_, _/_, _%_, _<_, _≤_}
 use native.Mathlib.Nat.{div-one}
 use native.Mathlib.Decide.{decLe}
 use native.Mathlib.Omega.{arith}
-use lib.Dec.{T, eqb, ltb, eqb→eq}
+use lib.Dec.{T, eqb, ltb, leb, eqb→eq}
 use lib.IntN.{pos, _-ℤ_}
 use lib.ListN.{length, drop, take-append-drop}
 use lib.Seq.{drop-drop}
-use borrow.Author.Tests.{eq-eqb}
+use borrow.Author.Tests.{eqb-true, eqb-false, leb-true, leb-false, eq-eqb}
 use Rattle.bits.specs.declared.Window.{Window}
 use Rattle.bits.specs.Bits.{bitsOf, bitsIn}
 use Rattle.bits.proofs.Rest.{window-take, window-length, window-drop}
@@ -18,7 +18,7 @@ use Rattle.code_tables.specs.declared.code.Code.the-variants.{Value}
 use Rattle.coefficient_codes.specs.declared.coefficient.Coefficient.the-variants.{Pair, Short}
 use Rattle.code_tables.specs.Code.{word, digitsOf, isPrefix, codeOf}
 use Rattle.code_tables.specs.AnnexB.{coefficientEscape, laterWords, firstCoefficients, nextCoefficients, largePositive, largeNegative}
-use Rattle.coefficient_codes.specs.Coefficient.{WordIn, signedOf, largeOf, levelOf, escapedOf, finishedOf, coefficientOf}
+use Rattle.coefficient_codes.specs.Coefficient.{WordIn, isOneAlone, signedOf, largeOf, levelOf, escapedOf, finishedOf, wordsOf, coefficientOf}
 use Rattle.code_tables.proofs.Laws.Prefix.{everyWord, code-tested, code-inside}
 use Rattle.code_tables.proofs.Laws.Table.{code-sized}
 use Rattle.codes.proofs.Laws.Field.{field-short, field-value}
@@ -81,6 +81,15 @@ first-is-zero : (l : List ℕ) → coefficientOf firstCoefficients (0 ∷ l) ≡
 unfolding coefficientOf codeOf firstCoefficients nextCoefficients word digitsOf isPrefix
 first-is-zero l = refl
 
+pub one-there : (next : Window) (first : Bool) → isOneAlone first next ≡ true → 1 ≤ next .count
+unfolding isOneAlone
+one-there next false e = absurd (subst T (sym e) tt)
+one-there next true e = go (eqb (next .count) 0) refl e
+  where
+    go : (b : Bool) → eqb (next .count) 0 ≡ b → cond b false (leb 2147483648 (next .bits)) ≡ true → 1 ≤ next .count
+    go true h t = absurd (subst T (sym t) tt)
+    go false h t = omega (arith, eqb-false (next .count) 0 h)
+
 module _ (next : Window) (most : next .count ≤ 32) (fits : next .bits < 4294967296) where
   head : 1 ≤ next .count → bitsIn next ≡ next .bits / 2147483648 % 2 ∷ drop 1 (bitsIn next)
   unfolding bitsOf
@@ -88,21 +97,39 @@ module _ (next : Window) (most : next .count ≤ 32) (fits : next .bits < 429496
       sym (take-append-drop 1 (bitsIn next))
       ∙ ap (λ (l : List ℕ). l ++ drop 1 (bitsIn next)) (window-take next 1 h most ∙ ap (λ (x : ℕ). x % 2 ∷ []) (div-one (next .bits / 2147483648)))
 
-  pub first-none : next .count ≡ 0 → coefficientOf firstCoefficients (bitsIn next) ≡ Short
-  unfolding coefficientOf codeOf firstCoefficients word digitsOf isPrefix bitsIn
-  first-none e = rw e refl
-
-  pub first-one : 1 ≤ next .count → 2147483648 ≤ next .bits → coefficientOf firstCoefficients (bitsIn next) ≡ signedOf 1 1 (drop 1 (bitsIn next))
-  first-one h g = ap (coefficientOf firstCoefficients) (head h ∙ ap (λ (x : ℕ). x ∷ drop 1 (bitsIn next)) one) ∙ first-is-one (drop 1 (bitsIn next))
+  first-one : (next .count ≡ 0 → ⊥) → 2147483648 ≤ next .bits → coefficientOf firstCoefficients (bitsIn next) ≡ signedOf 1 1 (drop 1 (bitsIn next))
+  first-one h g = ap (coefficientOf firstCoefficients) (head (omega (arith, h)) ∙ ap (λ (x : ℕ). x ∷ drop 1 (bitsIn next)) one) ∙ first-is-one (drop 1 (bitsIn next))
     where
       one : next .bits / 2147483648 % 2 ≡ 1
       one = omega (arith, g, fits)
 
-  pub first-zero : 1 ≤ next .count → next .bits < 2147483648 → coefficientOf firstCoefficients (bitsIn next) ≡ coefficientOf nextCoefficients (bitsIn next)
+  first-none : next .count ≡ 0 → coefficientOf firstCoefficients (bitsIn next) ≡ coefficientOf nextCoefficients (bitsIn next)
+  unfolding coefficientOf codeOf firstCoefficients nextCoefficients laterWords word digitsOf isPrefix bitsIn
+  first-none e = rw e refl
+
+  first-zero : (next .count ≡ 0 → ⊥) → next .bits < 2147483648 → coefficientOf firstCoefficients (bitsIn next) ≡ coefficientOf nextCoefficients (bitsIn next)
   first-zero h g = ap (coefficientOf firstCoefficients) begun ∙ first-is-zero (drop 1 (bitsIn next)) ∙ ap (coefficientOf nextCoefficients) (sym begun)
     where
       nought : next .bits / 2147483648 % 2 ≡ 0
       nought = omega (arith, g)
 
       begun : bitsIn next ≡ 0 ∷ drop 1 (bitsIn next)
-      begun = head h ∙ ap (λ (x : ℕ). x ∷ drop 1 (bitsIn next)) nought
+      begun = head (omega (arith, h)) ∙ ap (λ (x : ℕ). x ∷ drop 1 (bitsIn next)) nought
+
+  pub one-alone : (first : Bool) → isOneAlone first next ≡ true → coefficientOf (wordsOf first) (bitsIn next) ≡ signedOf 1 1 (drop 1 (bitsIn next))
+  unfolding isOneAlone wordsOf
+  one-alone false e = absurd (subst T (sym e) tt)
+  one-alone true e = go (eqb (next .count) 0) refl e
+    where
+      go : (b : Bool) → eqb (next .count) 0 ≡ b → cond b false (leb 2147483648 (next .bits)) ≡ true → coefficientOf firstCoefficients (bitsIn next) ≡ signedOf 1 1 (drop 1 (bitsIn next))
+      go true h t = absurd (subst T (sym t) tt)
+      go false h t = first-one (eqb-false (next .count) 0 h) (leb-true 2147483648 (next .bits) t)
+
+  pub words-shared : (first : Bool) → isOneAlone first next ≡ false → coefficientOf (wordsOf first) (bitsIn next) ≡ coefficientOf nextCoefficients (bitsIn next)
+  unfolding isOneAlone wordsOf
+  words-shared false e = refl
+  words-shared true e = go (eqb (next .count) 0) refl e
+    where
+      go : (b : Bool) → eqb (next .count) 0 ≡ b → cond b false (leb 2147483648 (next .bits)) ≡ false → coefficientOf firstCoefficients (bitsIn next) ≡ coefficientOf nextCoefficients (bitsIn next)
+      go true h t = first-none (eqb-true (next .count) 0 h)
+      go false h t = first-zero (eqb-false (next .count) 0 h) (leb-false 2147483648 (next .bits) t)

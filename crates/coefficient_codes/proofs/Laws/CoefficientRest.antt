@@ -1,6 +1,6 @@
 -- A coefficient has at most 28 bits, so the next 32 say as much as all. Assumes nothing.
 use mathlib.Core.Path.{_≡_, refl, ap, ap₂, _∙_, sym}
-use mathlib.Core.Bool.{cond}
+use mathlib.Core.Bool.{Bool, true, false, cond}
 use mathlib.Core.List.{List}
 use Prim.Native.Nat.{ℕ, _+_, _-_, _≤_}
 use native.Mathlib.Omega.{arith}
@@ -19,7 +19,7 @@ use Rattle.coefficient_codes.specs.declared.coefficient.Coefficient.{Coe
 use Rattle.coefficient_codes.specs.declared.coefficient.Coefficient.the-variants.{Pair, EndOfBlock, NoCode, Short}
 use Rattle.code_tables.specs.Code.{Word, word, digitsOf, codeOf, fieldOf}
 use Rattle.code_tables.specs.AnnexB.{coefficientEscape, endOfBlock, laterWords, firstCoefficients, nextCoefficients, byteWords, largePositive, largeNegative}
-use Rattle.coefficient_codes.specs.Coefficient.{signedOf, largeOf, levelOf, escapedOf, finishedOf, coefficientOf}
+use Rattle.coefficient_codes.specs.Coefficient.{signedOf, largeOf, levelOf, escapedOf, finishedOf, wordsOf, coefficientOf}
 use Rattle.code_tables.proofs.Laws.Prefix.{case, everyWord, every-other, noLonger, code-take, code-tested}
 use Rattle.code_tables.proofs.Laws.Table.{sized, row-sized, sized-length}
 use Rattle.codes.proofs.Laws.Field.{after-same, drop-of-take, field-take, field-length}
@@ -103,8 +103,7 @@ module _ (bytes : List ℕ) (p : Position) (next : Window) (e : next ≡ windowO
       ∙ ap (coefficientOf words) (window-bits (rest-binary bytes p))
       ∙ coefficient-take words (bitsFrom bytes p) t s
 
-  pub rest-first : coefficientOf firstCoefficients (bitsIn next) ≡ coefficientOf firstCoefficients (bitsFrom bytes p)
-  rest-first = rest-coefficient firstCoefficients first-sized first-escapes
-
-  pub rest-next : coefficientOf nextCoefficients (bitsIn next) ≡ coefficientOf nextCoefficients (bitsFrom bytes p)
-  rest-next = rest-coefficient nextCoefficients (row-sized 13 (omega arith)) escapes-have-six
+  pub rest-words : (first : Bool) → coefficientOf (wordsOf first) (bitsIn next) ≡ coefficientOf (wordsOf first) (bitsFrom bytes p)
+  unfolding wordsOf
+  rest-words true = rest-coefficient firstCoefficients first-sized first-escapes
+  rest-words false = rest-coefficient nextCoefficients (row-sized 13 (omega arith)) escapes-have-six

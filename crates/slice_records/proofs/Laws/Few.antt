@@ -19,11 +19,11 @@ use Rattle.record_layout.specs.Records.{joined, PairFields, BlockFields, blockB
 use Rattle.record_layout.proofs.Laws.Laying.{joined-append}
 use Rattle.record_layout.proofs.Laws.Lengths.{intra-length, inter-length}
 use Rattle.code_tables.proofs.Laws.Prefix.{case}
-use Rattle.coefficient_codes.specs.Coefficient.{coefficientOf}
+use Rattle.coefficient_codes.specs.Coefficient.{wordsOf, coefficientOf}
 use Rattle.coefficient_codes.specs.declared.coefficient.Coefficient.{Coefficient}
 use Rattle.coefficient_codes.specs.declared.coefficient.Coefficient.the-variants.{Pair, EndOfBlock, NoCode, Short}
 use Rattle.slice_syntax.specs.Read.{Read, read, refused, readThen}
-use Rattle.slice_syntax.specs.Blocks.{wordsOf, coefficientThen, pairsFrom, pairsAt, givenDifferenceAt, blockAt, codedBlockAt, blocksFrom}
+use Rattle.slice_syntax.specs.Blocks.{coefficientThen, pairsFrom, pairsAt, givenDifferenceAt, blockAt, codedBlockAt, blocksFrom}
 use Rattle.slice_syntax.specs.Macroblock.{ResidueFields, RestFields, vectorsAt, patternAt, residueAt, restAt}
 use Rattle.slice_records.specs.Laying.{bothBytes, patternAndBlocks, restBytes}
 use Rattle.slice_records.proofs.Laws.Lengths.{both-short, pattern-short}

@@ -21,11 +21,11 @@ use Rattle.record_layout.specs.Records.{joined, PairFields, pairBytes, pairsByt
 use Rattle.record_layout.proofs.Laws.Laying.{laid-count, laid-more}
 use Rattle.record_layout.proofs.Laws.Lengths.{pairs-length, levels-length}
 use Rattle.code_tables.proofs.Laws.Prefix.{case}
-use Rattle.coefficient_codes.specs.Coefficient.{coefficientOf}
+use Rattle.coefficient_codes.specs.Coefficient.{wordsOf, coefficientOf}
 use Rattle.coefficient_codes.specs.declared.coefficient.Coefficient.{Coefficient}
 use Rattle.coefficient_codes.specs.declared.coefficient.Coefficient.the-variants.{Pair, EndOfBlock, NoCode, Short}
 use Rattle.slice_syntax.specs.Read.{Read, read, refused, readThen}
-use Rattle.slice_syntax.specs.Blocks.{wordsOf, coefficientThen, pairsFrom, pairsAt}
+use Rattle.slice_syntax.specs.Blocks.{coefficientThen, pairsFrom, pairsAt}
 use Rattle.slice_syntax.specs.Answers.{turnOf}
 use Rattle.slice_syntax.specs.declared.coefficient.Turn.{Turn}
 use Rattle.slice_syntax.specs.declared.coefficient.Turn.the-variants as Turn

@@ -8,11 +8,10 @@ use lib.ListN.{length}
 use Rattle.bits.specs.Bits.{bitsFrom}
 use Rattle.bits.specs.declared.Position.{Position}
 use Rattle.bits.proofs.Rest.{rest-binary}
-use Rattle.coefficient_codes.specs.Coefficient.{coefficientOf}
+use Rattle.coefficient_codes.specs.Coefficient.{wordsOf, coefficientOf}
 use Rattle.coefficient_codes.specs.declared.coefficient.Coefficient.{Coefficient}
 use Rattle.coefficient_codes.specs.declared.coefficient.Coefficient.the-variants.{Pair, EndOfBlock}
 use Rattle.coefficient_codes.proofs.Laws.CoefficientRange.{PairRead, EndRead, Sound, first-coefficient-sound, next-coefficient-sound}
-use Rattle.slice_syntax.specs.Blocks.{wordsOf}
 
 pub coefficient-sound : (first : Bool) (bytes : List ℕ) (at : Position) → Sound (length (bitsFrom bytes at)) (coefficientOf (wordsOf first) (bitsFrom bytes at))
 unfolding wordsOf

@@ -16,7 +16,7 @@ use Rattle.blocks.specs.Blocks.{isCoded, firstPosition}
 use Rattle.macroblock_symbols.specs.Vectors.{gives}
 use Rattle.layout_reading.specs.Matching.{codedPattern}
 use Rattle.code_tables.specs.AnnexB.{increments, incrementsAfterEscape, stuffing, incrementEscape, motionCodes, patterns, typesOf}
-use Rattle.coefficient_codes.specs.Coefficient.{coefficientOf}
+use Rattle.coefficient_codes.specs.Coefficient.{wordsOf, coefficientOf}
 use Rattle.coefficient_codes.specs.declared.coefficient.Coefficient.{Coefficient}
 use Rattle.coefficient_codes.specs.declared.coefficient.Coefficient.the-variants.{Pair, EndOfBlock, NoCode, Short}
 use Rattle.coefficient_codes.proofs.Laws.CoefficientRange.{Sound}
@@ -24,7 +24,7 @@ use Rattle.codes.proofs.Laws.Range.{increment-read, increment-after-escape-read
 use Rattle.slice_syntax.specs.Read.{Read, read, refused, wordAt, fieldAt}
 use Rattle.slice_syntax.specs.Increment.{afterStuffing, amountOf, afterEscape, incrementAt}
 use Rattle.slice_syntax.specs.Vectors.{residualAt, motionAt, vectorAt, givenVectorAt}
-use Rattle.slice_syntax.specs.Blocks.{sizeWords, differenceAt, coefficientThen, wordsOf, pairsFrom, pairsAt, givenDifferenceAt, blockAt, codedBlockAt, blocksFrom}
+use Rattle.slice_syntax.specs.Blocks.{sizeWords, differenceAt, coefficientThen, pairsFrom, pairsAt, givenDifferenceAt, blockAt, codedBlockAt, blocksFrom}
 use Rattle.slice_syntax.specs.Macroblock.{scaleAt, headAt, vectorsAt, patternAt, residueAt, restAt, macroblockAt}
 use Rattle.slice_syntax.specs.Slice.{afterExtra, nextAt}
 use Rattle.slice_syntax.proofs.Laws.Read.{Ahead, Onward, onward, stopped, onward-after, then-onward, no-further, word-onward, field-onward}

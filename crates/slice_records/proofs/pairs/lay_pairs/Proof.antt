@@ -10,9 +10,9 @@ use mir.Val.{toZ, ofZ}
 use mir.ValLaws.{toZ-ofZ}
 use Rattle.bits.specs.Bits.{bitsFrom}
 use Rattle.byte_layout.proofs.Laws.Laid.{laid-length}
-use Rattle.coefficient_codes.specs.Coefficient.{coefficientOf}
+use Rattle.coefficient_codes.specs.Coefficient.{wordsOf, coefficientOf}
 use Rattle.record_layout.specs.Records.{pairBytes, levelsBytes}
-use Rattle.slice_syntax.specs.Blocks.{wordsOf, pairsAt}
+use Rattle.slice_syntax.specs.Blocks.{pairsAt}
 use Rattle.slice_syntax.specs.Answers.{turnOf}
 use Rattle.slice_syntax.specs.declared.coefficient.Turn.the-variants as Turn
 use Rattle.slice_records.specs.declared.laying.Laying.the-variants.{Done}

@@ -9,9 +9,8 @@ use mir.ValLaws.{toZ-ofZ}
 use Rattle.format3.specs.Chain.{only}
 use Rattle.bits.specs.Bits.{bitsFrom}
 use Rattle.bits.proofs.Rest.{rest-length}
-use Rattle.coefficient_codes.specs.Coefficient.{coefficientOf}
+use Rattle.coefficient_codes.specs.Coefficient.{wordsOf, coefficientOf}
 use Rattle.coefficient_codes.specs.declared.coefficient.Coefficient.the-variants.{Pair, EndOfBlock}
-use Rattle.slice_syntax.specs.Blocks.{wordsOf}
 use Rattle.slice_syntax.specs.Answers.{turnOf}
 use Rattle.slice_syntax.proofs.Laws.Coefficient.{pair-read, end-read}
 use Rattle.slice_syntax.proofs.coefficient.read_turn.Statement.{statement}
