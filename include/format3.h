@@ -60,7 +60,7 @@ enum format3_answer {
 
     /* the writer of a raw slice */
     FORMAT3_SLICE_CODE = 24,         /* bits that begin no code, a row outside the picture, or a code that leads too far */
-    FORMAT3_SLICE_CUT = 25,         /* the slice ends before its first macroblock, or one that it begins, is whole */
+    FORMAT3_SLICE_CUT = 25,          /* the slice ends before its first macroblock, or one that it begins, is whole */
 
     /* the caller */
     FORMAT3_RECORDS_LENGTH = 26      /* the slice's records do not fit the buffer */
@@ -139,7 +139,7 @@ uint32_t format3_show_record(
  * after another from the start of `records`. Behind the version, a header of the same numbers and the matrices, the records
  * of all slices of a picture are a file for `format3_reconstruct`.
  *
- * Width and height are in macroblocks, the coding type is 1 I, 2 P or 3 B, and both with the f_codes are as a header has
+ * Width and height are in macroblocks, the coding type is 1 I, 2 P or 3 B, and these and the f_codes are as a header has
  * them: at most 48 wide, 36 high and 396 in all; an f_code of 1..7 for a direction that the type uses (P forward, B both),
  * else 0.
  *
