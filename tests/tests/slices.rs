@@ -155,16 +155,6 @@ fn records_of_accepted_slices_are_whole() {
 
 /// A version and the header of these numbers.
 fn file_start(given: Given) -> Vec<u8> {
-    let [forward, backward] = given.f_codes;
-    let fields = [
-        given.width,
-        given.height,
-        given.picture_type,
-        0,
-        forward,
-        0,
-        backward,
-    ];
-    let header = fields.map(|field| field as u8);
+    let header = given.fields().map(|field| field as u8);
     [&[3, 0, 8, 1][..], &header].concat()
 }

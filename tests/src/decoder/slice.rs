@@ -31,10 +31,10 @@ pub struct SliceAnswer {
 pub type ReadSlice = fn(&[u8], Given, &mut [u8]) -> SliceAnswer;
 
 impl Given {
-    /// "A wrong given number is 8": the header of these numbers, its flags 0.
-    pub fn header(self) -> Result<Header, Refusal> {
+    /// The fields of a header of these numbers, its flags 0.
+    pub fn fields(self) -> [u32; 7] {
         let [forward, backward] = self.f_codes;
-        let fields = [
+        [
             self.width,
             self.height,
             self.picture_type,
@@ -42,9 +42,13 @@ impl Given {
             forward,
             0,
             backward,
-        ];
+        ]
+    }
+
+    /// "A wrong given number is 8": the header of these numbers.
+    pub fn header(self) -> Result<Header, Refusal> {
         let mut body = Vec::new();
-        for field in fields {
+        for field in self.fields() {
             body.push(u8::try_from(field).map_err(|_| Refusal::Header)?);
         }
         file::header(&body)

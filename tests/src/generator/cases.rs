@@ -2,8 +2,8 @@
 
 use super::damage::damaged;
 use super::file::File;
-use super::picture::{picture, random_header, Style};
-use super::{small_size, TYPES};
+use super::picture::{numbered_header, picture, random_header, Style};
+use super::TYPES;
 use crate::decoder::file::{Header, PictureType};
 use crate::decoder::size::{Size, MACROBLOCK_BYTES};
 use crate::random::Random;
@@ -39,19 +39,16 @@ const FAULTS: [Fault; 12] = {
     ]
 };
 
-/// A case by its seed and number. One in four takes its size from all that fit, in turn.
+/// A case by its seed and number.
 pub fn case(seed: u64, number: u64) -> Case {
     let random = &mut Random::new(&[seed, number]);
-    let size = if number.is_multiple_of(4) {
-        let sizes = Size::all();
-        sizes[number as usize / 4 % sizes.len()]
-    } else {
-        small_size(random)
-    };
-    let picture_type = random.pick(&TYPES);
-    let header = random_header(random, picture_type, size);
+    let header = numbered_header(random, number);
     // Large pictures have short blocks, for the time that they take.
-    let most_pairs = if size.macroblocks() > 60 { 5 } else { 64 };
+    let most_pairs = if header.size.macroblocks() > 60 {
+        5
+    } else {
+        64
+    };
     let mut style = Style::random(random, most_pairs);
     let fault = random.pick(&FAULTS);
     if fault == Fault::Stray {

@@ -1,6 +1,7 @@
 //! Legal pictures: a file of random symbols that no rule refuses, with extremes more often than chance would have them.
 
 use super::file::File;
+use super::{small_size, TYPES};
 use crate::decoder::file::{
     Direction, Header, PictureType, HEADER, INTRA, MACROBLOCK, MATRIX, NON_INTRA, SLICE,
 };
@@ -33,6 +34,18 @@ impl Style {
             stray_once_in: 0,
         }
     }
+}
+
+/// The header of a case by its number: one in four takes its size from all that fit, in turn.
+pub fn numbered_header(random: &mut Random, number: u64) -> Header {
+    let size = if number.is_multiple_of(4) {
+        let sizes = Size::all();
+        sizes[number as usize / 4 % sizes.len()]
+    } else {
+        small_size(random)
+    };
+    let picture_type = random.pick(&TYPES);
+    random_header(random, picture_type, size)
 }
 
 /// A legal header of a type and size; each used direction has a random flag and f_code.

@@ -1,9 +1,9 @@
 //! Raw slices: one call of `read_slice` each.
 
 use super::codes::{bytes_of, slice, Code, SliceStyle};
-use super::picture::random_header;
+use super::picture::{numbered_header, random_header};
 use super::slice_damage::damaged;
-use super::{small_size, TYPES};
+use super::TYPES;
 use crate::decoder::file::Header;
 use crate::decoder::size::Size;
 use crate::decoder::slice::read_slice;
@@ -42,10 +42,10 @@ const FAULTS: [Fault; 12] = {
     ]
 };
 
-/// A case by its seed and number. One in four takes its size from all that fit, in turn.
+/// A case by its seed and number.
 pub fn slice_case(seed: u64, number: u64) -> SliceCase {
     let random = &mut Random::new(&[seed, number, 3]);
-    let header = slice_header(random, number);
+    let header = numbered_header(random, number);
     let style = SliceStyle::random(random);
     let mut case = written(random, header, style);
     let fault = random.pick(&FAULTS);
@@ -67,17 +67,6 @@ pub fn slice_case(seed: u64, number: u64) -> SliceCase {
         case.buffer.truncate(length);
     }
     case
-}
-
-fn slice_header(random: &mut Random, number: u64) -> Header {
-    let size = if number.is_multiple_of(4) {
-        let sizes = Size::all();
-        sizes[number as usize / 4 % sizes.len()]
-    } else {
-        small_size(random)
-    };
-    let picture_type = random.pick(&TYPES);
-    random_header(random, picture_type, size)
 }
 
 /// A legal slice in a buffer that holds its records. It may have zeros after its last code.
