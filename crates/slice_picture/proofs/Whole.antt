@@ -5,7 +5,9 @@ use mathlib.Core.Path.{_≡_, refl}
 use Prim.Native.Nat.{ℕ, zero, suc, _+_, _≤_}
 use native.Mathlib.Omega.{arith}
 use lib.IntN.{ℤ}
-use lib.ListN.{length, length-append}
+use lib.ListN.{length, take, drop, length-append}
+use lib.Seq.{take-append-seam}
+use Rattle.refusals.specs.Refusal.{accepted}
 use Rattle.picture_header.specs.declared.header.Header.{Header}
 use Rattle.picture_header.specs.declared.header.HeaderFields.{HeaderFields}
 use Rattle.bits.specs.Bits.{allZeros, bitsFrom}
@@ -28,6 +30,8 @@ use Rattle.slice_syntax.specs.Increment.{incrementAt}
 use Rattle.slice_syntax.specs.Macroblock.{headAt, vectorsAt, patternAt, residueAt, restAt, fieldsWith, ResidueFields, RestFields, macroblockAt}
 use Rattle.slice_syntax.specs.Slice.{SliceFields, nextAt, macroblocksFrom, macroblocksAt, sliceHeadOf, afterHeadAt, sliceOf, recordsOf}
 use Rattle.slice_records.proofs.Laws.Few.{Of, of, none, of-read, of-then, of-any, block-few}
+use Rattle.raw_slice.specs.Answer.{Outcome, outcomeOf}
+use Rattle.slice_picture.proofs.Ended.{Written, accepted-written}
 
 -- ---- blocks: as many as are coded, each with few pairs
 record Coded (count : ℕ) (blocks : List BlockFields) : Type 0 where
@@ -110,3 +114,19 @@ pub slice-framed : (h : Header) (bytes : List ℕ) {slice : SliceFields} {end : 
     → Framed (pictureOf transform (fileOf fields (recordsOf slice)) forward backward output .number)
 slice-framed h bytes {slice} e transform fields forward backward output seven =
     picture-framed fields (recordsOf slice) seven transform forward backward output (slice-whole (slice .scale) (slice .start) (of-read (slice-of h bytes) e .whole))
+
+-- the file of what the entry wrote, behind a header with these bytes
+abbrev fileWritten : List ℕ → Outcome → List ℕ
+fileWritten fields o = fileOf fields (take (o .answer .written) (o .buffer))
+
+-- The same of what the entry wrote into the buffer: rules out an entry that tells too many bytes or too few, or lays the records elsewhere.
+pub accepted-framed : (given : HeaderFields) (bytes buffer : List ℕ) → outcomeOf given bytes buffer .answer .number ≡ accepted
+    → (transform : List ℤ → ℕ → ℤ) (fields forward backward output : List ℕ) → length fields ≡ 7
+    → Framed (pictureOf transform (fileWritten fields (outcomeOf given bytes buffer)) forward backward output .number)
+accepted-framed given bytes buffer number transform fields forward backward output seven =
+    go (outcomeOf given bytes buffer) (accepted-written given bytes buffer number)
+  where
+    go : (o : Outcome) → Written given bytes buffer o → Framed (pictureOf transform (fileWritten fields o) forward backward output .number)
+    go o w =
+        rw (w .counted, w .there, take-append-seam (recordsOf (w .taken .slice)) (drop (length (recordsOf (w .taken .slice))) buffer))
+        (slice-framed (w .taken .header) bytes (w .taken .is) transform fields forward backward output seven)
