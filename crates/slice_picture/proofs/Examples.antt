@@ -1,4 +1,4 @@
--- Slices worked by the definition, a dozen of the cases that the tests run. Assumes nothing.
+-- Slices worked by the definition, some of the cases that the tests run. Assumes nothing.
 use mathlib.Core.List.{List, [], _∷_}
 use mathlib.Core.Path.{_≡_, refl}
 use Prim.Native.Nat.{ℕ}
@@ -54,8 +54,8 @@ cases =
     ∷ example (given 1 1 1 0 0) (0 ∷ 0 ∷ 1 ∷ 1 ∷ 71 ∷ 195 ∷ 224 ∷ 0 ∷ []) [] 24 0 7 0 []
     -- an intra macroblock, and four zero bits left
     ∷ example (given 1 1 1 0 0) (0 ∷ 0 ∷ 1 ∷ 1 ∷ 67 ∷ 148 ∷ 165 ∷ 34 ∷ 32 ∷ []) (replicate 30 255) 0 30 8 4 (0 ∷ 4 ∷ 3 ∷ 8 ∷ 0 ∷ 0 ∷ 0 ∷ 22 ∷ 4 ∷ 16 ∷ 0 ∷ 1 ∷ 0 ∷ 0 ∷ 0 ∷ 0 ∷ 0 ∷ 0 ∷ 0 ∷ 0 ∷ 0 ∷ 0 ∷ 0 ∷ 0 ∷ 0 ∷ 0 ∷ 0 ∷ 0 ∷ 0 ∷ 0 ∷ [])
-    -- a second macroblock is begun
-    ∷ example (given 1 1 1 0 0) (0 ∷ 0 ∷ 1 ∷ 1 ∷ 67 ∷ 148 ∷ 165 ∷ 34 ∷ 33 ∷ []) [] 25 0 8 4 []
+    -- a second macroblock is begun: the buffer is untouched
+    ∷ example (given 1 1 1 0 0) (0 ∷ 0 ∷ 1 ∷ 1 ∷ 67 ∷ 148 ∷ 165 ∷ 34 ∷ 33 ∷ []) (replicate 60 255) 25 0 8 4 (replicate 60 255)
     -- seven zero bits after stuffing
     ∷ example (given 1 1 1 0 0) (0 ∷ 0 ∷ 1 ∷ 1 ∷ 71 ∷ 195 ∷ 224 ∷ 229 ∷ 41 ∷ 72 ∷ 136 ∷ 7 ∷ 128 ∷ []) [] 25 0 12 1 []
     -- stuffing, and then an escape
