@@ -252,8 +252,8 @@ abbrev pub coefficientEscape : ℕ
 coefficientEscape = pair 1 0
 
 -- B.5c to B.5f, dct_coeff_first and dct_coeff_next, without the sign: the words that both have
-unfoldable pub laterWords : List Word
-laterWords =
+unfoldable pub sharedWords : List Word
+sharedWords =
     word 3 011 (pair 1 1)
     ∷ word 4 0100 (pair 0 2)
     ∷ word 4 0101 (pair 2 1)
@@ -369,11 +369,11 @@ laterWords =
 
 -- "in the first coefficient of a non-intra block run 0 level 1 is `1` (and there is no end of block)"
 unfoldable pub firstCoefficients : List Word
-firstCoefficients = word 1 1 (pair 0 1) ∷ laterWords
+firstCoefficients = word 1 1 (pair 0 1) ∷ sharedWords
 
 -- "in every later one it is `11` and `10` is end of block"
 unfoldable pub nextCoefficients : List Word
-nextCoefficients = word 2 10 endOfBlock ∷ word 2 11 (pair 0 1) ∷ laterWords
+nextCoefficients = word 2 10 endOfBlock ∷ word 2 11 (pair 0 1) ∷ sharedWords
 
 -- the words of eight bits of the numbers from low on, n of them, each with its number as value
 unfoldable pub byteWords : ℕ → ℕ → List Word

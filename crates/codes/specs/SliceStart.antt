@@ -11,7 +11,7 @@ use Rattle.code_tables.specs.Code.{Word, word, codeOf, fieldOf, afterCode}
 unfoldable pub startPrefix : List Word
 startPrefix = word 24 000000000000000000000001 0 ∷ []
 
--- the row and the length of the code
+-- the row and the length of the code. A slice's bytes are whole, so that the row is never cut: its eight bits are all there, or none of them
 unfoldable pub sliceStartOf : ℕ → List ℕ → Code
 sliceStartOf height b =
     afterCode NoCode Short (codeOf startPrefix b) b λ v n rest.

@@ -24,7 +24,7 @@ abbrev pub layingOf : {A : Type 0} → (A → List ℕ) → Read A → Laying
 layingOf bytes (read a p) = Done p (length (bytes a))
 layingOf bytes (refused refusal p) = Refused refusal p
 
--- where the part is read, its bytes are laid from a place on. Of a part that is refused, nothing is said but that the buffer's length stays
+-- where the part is read, its bytes are laid from a place on. Of a part that is refused, nothing is said
 pub record LaidAt {A : Type 0} (bytes : A → List ℕ) (place : ℕ) (before after : List ℕ) (part : Read A) : Type 0 where
   pub whole : (a : A) (p : Position) → part ≡ read a p → after ≡ laid place (bytes a) before
 

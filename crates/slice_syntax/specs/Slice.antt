@@ -15,8 +15,7 @@ use Rattle.slice_syntax.specs.Read.{Read, read, refused, readThen, readC
 use Rattle.slice_syntax.specs.Increment.{incrementAt}
 use Rattle.slice_syntax.specs.Macroblock.{macroblockAt}
 
--- "extra information dropped": a bit 1 and eight bits, again and again, and a bit 0. With more bits to
--- read than are left the first clause is never reached
+-- "extra information dropped": a bit 1 and eight bits, again and again, and a bit 0. With more rounds than bits left the first clause is never reached
 unfoldable pub afterExtra : ℕ → List ℕ → Position → Read (Unit {0})
 afterExtra zero bytes at = refused SliceCut at
 afterExtra (suc n) bytes at =

@@ -25,7 +25,7 @@ motionAt fCode bytes at =
     readThen (residualAt fCode value bytes next) λ residual end.
     read (codeWith value residual) end
 
--- across, then down
+-- horizontal, then vertical
 unfoldable pub vectorAt : ℕ → List ℕ → Position → Read VectorCodes
 vectorAt fCode bytes at =
     readThen (motionAt fCode bytes at) λ horizontal next.

@@ -12,12 +12,12 @@ use Rattle.lists.proofs.Test.{and-left, and-right}
 use Rattle.bits.specs.Bits.{bitsOf}
 use Rattle.code_tables.specs.declared.code.Code.the-variants.{Value, NoCode, Short}
 use Rattle.code_tables.specs.Code.{Word, word, digitsOf, isPrefix, codeOf}
-use Rattle.code_tables.specs.AnnexB.{incrementWords, increments, incrementsAfterEscape, intraTypes, predictedTypes, bidirectionalTypes, patterns, motionCodes, luminanceSizes, chrominanceSizes, laterWords, firstCoefficients, nextCoefficients, byteWords, largePositive, largeNegative}
+use Rattle.code_tables.specs.AnnexB.{incrementWords, increments, incrementsAfterEscape, intraTypes, predictedTypes, bidirectionalTypes, patterns, motionCodes, luminanceSizes, chrominanceSizes, sharedWords, firstCoefficients, nextCoefficients, byteWords, largePositive, largeNegative}
 use Rattle.code_tables.specs.Rule.{Rule, rule, rules, apartFrom, prefixFree, beginNoCode, allHold}
 use Rattle.code_tables.proofs.Laws.Prefix.{case, clash, refuted, and-true, code-found, code-short, code-later}
 
 rules-hold : T (allHold rules)
-unfolding allHold prefixFree apartFrom beginNoCode codeOf isPrefix word digitsOf incrementWords increments incrementsAfterEscape intraTypes predictedTypes bidirectionalTypes patterns motionCodes luminanceSizes chrominanceSizes laterWords firstCoefficients nextCoefficients byteWords largePositive largeNegative tab bitsOf
+unfolding allHold prefixFree apartFrom beginNoCode codeOf isPrefix word digitsOf incrementWords increments incrementsAfterEscape intraTypes predictedTypes bidirectionalTypes patterns motionCodes luminanceSizes chrominanceSizes sharedWords firstCoefficients nextCoefficients byteWords largePositive largeNegative tab bitsOf
 rules-hold = tt
 
 free-at : (rs : List Rule) (d : Rule) (k : ℕ) → T (allHold rs) → k < length rs → T (prefixFree (getD rs k d .words))

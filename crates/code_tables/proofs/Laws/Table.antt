@@ -16,7 +16,7 @@ use Rattle.lists.proofs.Test.{and-left, and-right}
 use Rattle.bits.specs.Bits.{bitsOf}
 use Rattle.code_tables.specs.declared.code.Code.the-variants.{Value, Short}
 use Rattle.code_tables.specs.Code.{Word, word, digitsOf, isPrefix, codeOf}
-use Rattle.code_tables.specs.AnnexB.{incrementWords, increments, incrementsAfterEscape, intraTypes, predictedTypes, bidirectionalTypes, patterns, motionCodes, luminanceSizes, chrominanceSizes, laterWords, nextCoefficients, byteWords, largePositive, largeNegative}
+use Rattle.code_tables.specs.AnnexB.{incrementWords, increments, incrementsAfterEscape, intraTypes, predictedTypes, bidirectionalTypes, patterns, motionCodes, luminanceSizes, chrominanceSizes, sharedWords, nextCoefficients, byteWords, largePositive, largeNegative}
 use Rattle.code_tables.specs.Table.{Row, row, rows, rowAt, packed, unpackedOf, entryOf, upTo, joined, codeTable, endTable}
 use Rattle.code_tables.proofs.Laws.Prefix.{case, and-both, code-found, code-short, code-later, everyWord, every-other, code-tested}
 
@@ -96,7 +96,7 @@ abbrev pub sized : ℕ → ℕ → Bool
 sized v n = ltb v 2048 && (ltb 0 n && ltb n 17)
 
 rows-sized : T (everyRow (λ r. everyWord sized (r .words)) rows)
-unfolding everyRow everyWord word digitsOf incrementWords increments incrementsAfterEscape intraTypes predictedTypes bidirectionalTypes patterns motionCodes luminanceSizes chrominanceSizes laterWords nextCoefficients byteWords largePositive largeNegative tab bitsOf
+unfolding everyRow everyWord word digitsOf incrementWords increments incrementsAfterEscape intraTypes predictedTypes bidirectionalTypes patterns motionCodes luminanceSizes chrominanceSizes sharedWords nextCoefficients byteWords largePositive largeNegative tab bitsOf
 rows-sized = tt
 
 pub row-sized : (r : ℕ) → r < 18 → T (everyWord sized (rowAt r .words))

@@ -17,7 +17,7 @@ use Rattle.bits.proofs.Rest.{window-take, window-length, window-drop}
 use Rattle.code_tables.specs.declared.code.Code.the-variants.{Value}
 use Rattle.coefficient_codes.specs.declared.coefficient.Coefficient.the-variants.{Pair, Short}
 use Rattle.code_tables.specs.Code.{word, digitsOf, isPrefix, codeOf}
-use Rattle.code_tables.specs.AnnexB.{coefficientEscape, laterWords, firstCoefficients, nextCoefficients, largePositive, largeNegative}
+use Rattle.code_tables.specs.AnnexB.{coefficientEscape, sharedWords, firstCoefficients, nextCoefficients, largePositive, largeNegative}
 use Rattle.coefficient_codes.specs.Coefficient.{WordIn, isOneAlone, signedOf, largeOf, levelOf, escapedOf, finishedOf, wordsOf, coefficientOf}
 use Rattle.code_tables.proofs.Laws.Prefix.{everyWord, code-tested, code-inside}
 use Rattle.code_tables.proofs.Laws.Table.{code-sized}
@@ -55,7 +55,7 @@ unfoldable pub escape-length : ℕ → ℕ → Bool
 escape-length v n = cond (eqb v coefficientEscape) (eqb n 6) true
 
 pub escapes-have-six : T (everyWord escape-length nextCoefficients)
-unfolding everyWord escape-length word digitsOf laterWords nextCoefficients
+unfolding everyWord escape-length word digitsOf sharedWords nextCoefficients
 escapes-have-six = tt
 
 pub six : (v n : ℕ) → T (escape-length v n) → v ≡ coefficientEscape → n ≡ 6
@@ -104,7 +104,7 @@ module _ (next : Window) (most : next .count ≤ 32) (fits : next .bits < 429496
       one = omega (arith, g, fits)
 
   first-none : next .count ≡ 0 → coefficientOf firstCoefficients (bitsIn next) ≡ coefficientOf nextCoefficients (bitsIn next)
-  unfolding coefficientOf codeOf firstCoefficients nextCoefficients laterWords word digitsOf isPrefix bitsIn
+  unfolding coefficientOf codeOf firstCoefficients nextCoefficients sharedWords word digitsOf isPrefix bitsIn
   first-none e = rw e refl
 
   first-zero : (next .count ≡ 0 → ⊥) → next .bits < 2147483648 → coefficientOf firstCoefficients (bitsIn next) ≡ coefficientOf nextCoefficients (bitsIn next)

@@ -18,7 +18,7 @@ use Rattle.code_tables.specs.declared.code.Code.the-variants as C
 use Rattle.coefficient_codes.specs.declared.coefficient.Coefficient.{Coefficient}
 use Rattle.coefficient_codes.specs.declared.coefficient.Coefficient.the-variants.{Pair, EndOfBlock, NoCode, Short}
 use Rattle.code_tables.specs.Code.{Word, word, digitsOf, codeOf, fieldOf}
-use Rattle.code_tables.specs.AnnexB.{coefficientEscape, endOfBlock, laterWords, firstCoefficients, nextCoefficients, byteWords, largePositive, largeNegative}
+use Rattle.code_tables.specs.AnnexB.{coefficientEscape, endOfBlock, sharedWords, firstCoefficients, nextCoefficients, byteWords, largePositive, largeNegative}
 use Rattle.coefficient_codes.specs.Coefficient.{signedOf, largeOf, levelOf, escapedOf, finishedOf, wordsOf, coefficientOf}
 use Rattle.code_tables.proofs.Laws.Prefix.{case, everyWord, every-other, noLonger, code-take, code-tested}
 use Rattle.code_tables.proofs.Laws.Table.{sized, row-sized, sized-length}
@@ -89,11 +89,11 @@ coefficient-take words b t s = rw (code-take words 32 b fits) (after-same NoCode
         ∙ finished-take (drop n b) v n (32 - n) (λ q. omega (arith, six v n (code-tested escape-length words b v n s e) q)) (omega (arith, long))
 
 pub first-sized : T (everyWord sized firstCoefficients)
-unfolding everyWord word digitsOf laterWords firstCoefficients
+unfolding everyWord word digitsOf sharedWords firstCoefficients
 first-sized = tt
 
 pub first-escapes : T (everyWord escape-length firstCoefficients)
-unfolding everyWord escape-length word digitsOf laterWords firstCoefficients
+unfolding everyWord escape-length word digitsOf sharedWords firstCoefficients
 first-escapes = tt
 
 module _ (bytes : List ℕ) (p : Position) (next : Window) (e : next ≡ windowOf (bitsFrom bytes p)) where

@@ -3,7 +3,7 @@ use mathlib.Core.Path.{_≡_, refl, _∙_, sym}
 use Rattle.lists.specs.Tab.{tab}
 use Rattle.bits.specs.Bits.{bitsOf}
 use Rattle.code_tables.specs.Code.{word, digitsOf, isPrefix}
-use Rattle.code_tables.specs.AnnexB.{incrementWords, increments, incrementsAfterEscape, intraTypes, predictedTypes, bidirectionalTypes, patterns, motionCodes, luminanceSizes, chrominanceSizes, laterWords, nextCoefficients, byteWords, largePositive, largeNegative}
+use Rattle.code_tables.specs.AnnexB.{incrementWords, increments, incrementsAfterEscape, intraTypes, predictedTypes, bidirectionalTypes, patterns, motionCodes, luminanceSizes, chrominanceSizes, sharedWords, nextCoefficients, byteWords, largePositive, largeNegative}
 use Rattle.code_tables.specs.Table.{codeTable, entryOf, packed, joined, rows}
 use Rattle.code_tables.proofs.Laws.Branch.{branchOf, branches, grown, after, descended, split, splitRow, row-entries, joined-same}
 use Rattle.code_tables.proofs.table.code_table.Statement.{statement}
@@ -14,7 +14,7 @@ unfolding codeTable
 by-splitting = joined-same (λ r. tab 256 (entryOf r 8)) (λ r. splitRow r 8) rows (λ r. row-entries r 8)
 
 returns : tie.Need-returns
-unfolding joined splitRow split descended after grown branches branchOf isPrefix packed word digitsOf incrementWords increments incrementsAfterEscape intraTypes predictedTypes bidirectionalTypes patterns motionCodes luminanceSizes chrominanceSizes laterWords nextCoefficients byteWords largePositive largeNegative tab bitsOf
+unfolding joined splitRow split descended after grown branches branchOf isPrefix packed word digitsOf incrementWords increments incrementsAfterEscape intraTypes predictedTypes bidirectionalTypes patterns motionCodes luminanceSizes chrominanceSizes sharedWords nextCoefficients byteWords largePositive largeNegative tab bitsOf
 returns c = refl ∙ sym by-splitting
 
 pub code-table-spec : {M : Type 1} → statement M
