@@ -10,7 +10,7 @@ use lib.ListN.{length, take, drop, getD, length-drop, List·getD-eq-default}
 use lib.Seq.{drop-drop, take-take, take-nil, length-take-le}
 use Rattle.bits.specs.declared.Position.{Position}
 use Rattle.bits.specs.declared.Window.{Window}
-use Rattle.bits.specs.Bits.{bits, bitsOf, numberOf, offset, InBytes, bitsFrom, advanced, windowOf, bitsIn}
+use Rattle.bits.specs.Bits.{bits, bitsOf, numberOf, offset, bitLimit, InBytes, bitsFrom, advanced, windowOf, bitsIn}
 use Rattle.bits.proofs.Number.{Binary, binary-drop, number-split, number-below, number-take, bits-number, bits-take, bits-drop, bits-part, bits-mod, bits-length}
 use Rattle.bits.proofs.Bytes.{binary-bits, length-bits, drop-bits, number-forty, four}
 
@@ -34,7 +34,7 @@ pub in-bytes-advanced : {l : List ℕ} {p : Position} (n : ℕ) → InBytes l p 
 in-bytes-advanced {l} {p} n w h = record { bitSmall = omega arith; notPast = omega (arith, rest-length l p, w .notPast) }
 
 -- what `advance` asks is known of bits that are left of a slice
-pub advance-fits : {l : List ℕ} {p : Position} (n : ℕ) → InBytes l p → n ≤ length (bitsFrom l p) → length l < 18446744073709551616 → offset p + n < 147573952589676412928
+pub advance-fits : {l : List ℕ} {p : Position} (n : ℕ) → InBytes l p → n ≤ length (bitsFrom l p) → length l < 18446744073709551616 → offset p + n < bitLimit
 advance-fits {l} {p} n w h f = omega (arith, rest-length l p, w .notPast)
 
 -- the first position

@@ -32,6 +32,10 @@ allZeros (x ∷ b) = eqb x 0 && allZeros b
 abbrev pub offset : Position → ℕ
 offset p = 8 * p .byte + p .bit
 
+-- 8 × 2^64, more than the bits before any position in a slice of bytes
+abbrev pub bitLimit : ℕ
+bitLimit = 147573952589676412928
+
 -- a position in the bytes, or at their end
 pub record InBytes (bytes : List ℕ) (p : Position) : Type 0 where
   pub bitSmall : p .bit < 8

@@ -4,7 +4,7 @@
 ghost use mathlib.Core.Path.{_≡_};
 ghost use Prim.Native.Nat.{_+_, _*_, _/_, _%_, _^_, _-_, _<_, _≤_};
 ghost use lib.ListN.{length, getD, drop};
-ghost use Rattle.bits.specs.Bits.{bits, allZeros, InBytes, bitsFrom, advanced, windowOf, offset};
+ghost use Rattle.bits.specs.Bits.{bits, allZeros, InBytes, bitsFrom, advanced, windowOf, offset, bitLimit};
 
 // The bit `bit` of the byte `byte`, 0 the most significant.
 pub struct Position {
@@ -90,7 +90,7 @@ pub fn next_bits(bytes: &[u8], at: Position) -> Window
 
 // The position n bits further on.
 pub fn advance(at: Position, n: usize) -> Position
-    requires { ⌜ (n < 64) × (at .bit < 8) × (offset at + n < 147573952589676412928) ⌝ }
+    requires { ⌜ (n < 64) × (at .bit < 8) × (offset at + n < bitLimit) ⌝ }
     ensures { λ r. ⌜ r ≡ advanced at n ⌝ }
 {
     let next = at.bit + n;

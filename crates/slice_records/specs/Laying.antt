@@ -2,14 +2,14 @@
 use mathlib.Core.List.{List, [], _++_}
 use mathlib.Core.Path.{_≡_}
 use mathlib.Core.Bool.{Bool, cond}
-use Prim.Native.Nat.{ℕ}
+use Prim.Native.Nat.{ℕ, _+_}
 use lib.IntN.{ℤ}
 use lib.ListN.{length}
 use Rattle.symbols.specs.declared.vector_codes.VectorCode.{VectorCode}
 use Rattle.macroblock_symbols.specs.Vectors.{gives}
 use Rattle.macroblock_symbols.specs.declared.vectors.Vectors.{Vectors}
 use Rattle.byte_layout.specs.Bytes.{signedWordBytes}
-use Rattle.byte_layout.specs.Laid.{laid}
+use Rattle.byte_layout.specs.Laid.{laid, farthest}
 use Rattle.record_layout.specs.Records.{codeBytes, givenCodesBytes, patternBytes, blocksBytes}
 use Rattle.bits.specs.declared.Position.{Position}
 use Rattle.slice_syntax.specs.Read.{Read, read, refused}
@@ -28,9 +28,30 @@ layingOf bytes (refused refusal p) = Refused refusal p
 pub record LaidAt {A : Type 0} (bytes : A → List ℕ) (place : ℕ) (before after : List ℕ) (part : Read A) : Type 0 where
   pub whole : (a : A) (p : Position) → part ≡ read a p → after ≡ laid place (bytes a) before
 
--- places in a macroblock's record, which starts no farther than an offset past every buffer's end: a little more than 2^63
-abbrev pub farthestPlace : ℕ
-farthestPlace = 9223372036854777808
+-- The farthest places of a macroblock's parts, whose record starts no farther than an offset past every buffer's end.
+-- Before what follows its head there are a length, a kind, a type, an increment and a scale: 7 bytes
+abbrev pub farthestRest : ℕ
+farthestRest = farthest + 7
+
+-- before the backward codes, also the forward ones: 4 bytes
+abbrev pub farthestCodes : ℕ
+farthestCodes = farthest + 11
+
+-- before the pattern and the blocks, both
+abbrev pub farthestResidue : ℕ
+farthestResidue = farthest + 15
+
+-- before the blocks, also the pattern
+abbrev pub farthestBlocks : ℕ
+farthestBlocks = farthest + 16
+
+-- before the last block, also five blocks, each of a difference, a count and 64 pairs: 195 bytes
+abbrev pub farthestBlock : ℕ
+farthestBlock = farthest + 991
+
+-- before its pairs, also its difference
+abbrev pub farthestPairs : ℕ
+farthestPairs = farthest + 993
 
 -- the bytes of the parts that have no definition of their own in document 01's layout
 abbrev pub componentBytes : VectorCode → List ℕ

@@ -9,7 +9,7 @@ ghost use Rattle.blocks.specs.Blocks.{isCoded};
 ghost use Rattle.code_tables.specs.Table.{codeTable};
 ghost use Rattle.record_layout.specs.Records.{blockBytes, blocksBytes};
 ghost use Rattle.slice_syntax.specs.Blocks.{givenDifferenceAt, blockAt, codedBlockAt, blocksFrom};
-ghost use Rattle.slice_records.specs.Laying.{layingOf, LaidAt, farthestPlace, differenceBytes};
+ghost use Rattle.slice_records.specs.Laying.{layingOf, LaidAt, farthestBlocks, farthestBlock, differenceBytes};
 
 // The DC difference of an intra block.
 fn lay_difference(
@@ -46,7 +46,7 @@ fn lay_block(
     buffer: &mut [u8],
     place: usize,
 ) -> Laying
-    requires { ⌜ (now codes ≡ codeTable) × InBytes (now bytes) at × (place ≤ 9223372036854777800) ⌝ }
+    requires { ⌜ (now codes ≡ codeTable) × InBytes (now bytes) at × (place ≤ farthestBlock) ⌝ }
     ensures { λ r. ⌜ r ≡ layingOf (blockBytes intra) (blockAt intra block (now (bytes .entry)) at) ⌝ }
     ensures { λ _. ⌜ LaidAt (blockBytes intra) place (now (buffer .entry)) (now (buffer .exit)) (blockAt intra block (now (bytes .entry)) at) ⌝ }
 {
@@ -75,7 +75,7 @@ fn lay_coded_block(
     buffer: &mut [u8],
     place: usize,
 ) -> Laying
-    requires { ⌜ (now codes ≡ codeTable) × InBytes (now bytes) at × (place ≤ 9223372036854777800) × (block < 6) ⌝ }
+    requires { ⌜ (now codes ≡ codeTable) × InBytes (now bytes) at × (place ≤ farthestBlock) × (block < 6) ⌝ }
     ensures { λ r. ⌜ r ≡ layingOf (blocksBytes intra) (codedBlockAt (isCoded pattern block) intra block (now (bytes .entry)) at) ⌝ }
     ensures { λ _. ⌜ LaidAt (blocksBytes intra) place (now (buffer .entry)) (now (buffer .exit)) (codedBlockAt (isCoded pattern block) intra block (now (bytes .entry)) at) ⌝ }
 {
@@ -95,7 +95,7 @@ pub fn lay_blocks(
     buffer: &mut [u8],
     place: usize,
 ) -> Laying
-    requires { ⌜ (now codes ≡ codeTable) × InBytes (now bytes) from × (place ≤ 9223372036854776000) ⌝ }
+    requires { ⌜ (now codes ≡ codeTable) × InBytes (now bytes) from × (place ≤ farthestBlocks) ⌝ }
     ensures { λ r. ⌜ r ≡ layingOf (blocksBytes intra) (blocksFrom intra pattern 6 0 (now (bytes .entry)) from) ⌝ }
     ensures { λ _. ⌜ LaidAt (blocksBytes intra) place (now (buffer .entry)) (now (buffer .exit)) (blocksFrom intra pattern 6 0 (now (bytes .entry)) from) ⌝ }
 {

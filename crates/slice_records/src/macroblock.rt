@@ -15,7 +15,7 @@ ghost use Rattle.layout_reading.specs.Matching.{codedPattern};
 ghost use Rattle.record_layout.specs.Records.{patternBytes, macroblockRecord};
 ghost use Rattle.slice_syntax.specs.Answers.{stepOf};
 ghost use Rattle.slice_syntax.specs.Macroblock.{patternAt, residueAt, restAt, macroblockAt};
-ghost use Rattle.slice_records.specs.Laying.{layingOf, LaidAt, patternAndBlocks, restBytes};
+ghost use Rattle.slice_records.specs.Laying.{layingOf, LaidAt, farthestRest, farthestResidue, patternAndBlocks, restBytes};
 
 fn read_pattern(codes: &[u16; 4608], bytes: &[u8], at: Position, flags: u8) -> Step
     requires { ⌜ (now codes ≡ codeTable) × InBytes (now bytes) at ⌝ }
@@ -61,7 +61,7 @@ fn lay_residue(
     buffer: &mut [u8],
     place: usize,
 ) -> Laying
-    requires { ⌜ (now codes ≡ codeTable) × InBytes (now bytes) at × (place ≤ 9223372036854775950) ⌝ }
+    requires { ⌜ (now codes ≡ codeTable) × InBytes (now bytes) at × (place ≤ farthestResidue) ⌝ }
     ensures { λ r. ⌜ r ≡ layingOf (patternAndBlocks flags) (residueAt flags (now (bytes .entry)) at) ⌝ }
     ensures { λ _. ⌜ LaidAt (patternAndBlocks flags) place (now (buffer .entry)) (now (buffer .exit)) (residueAt flags (now (bytes .entry)) at) ⌝ }
 {
@@ -102,7 +102,7 @@ fn lay_rest(
     buffer: &mut [u8],
     place: usize,
 ) -> Laying
-    requires { ⌜ (now codes ≡ codeTable) × InBytes (now bytes) at × (forward ≤ 7) × (backward ≤ 7) × (place ≤ 9223372036854775900) ⌝ }
+    requires { ⌜ (now codes ≡ codeTable) × InBytes (now bytes) at × (forward ≤ 7) × (backward ≤ 7) × (place ≤ farthestRest) ⌝ }
     ensures { λ r. ⌜ r ≡ layingOf (restBytes flags) (restAt flags forward backward (now (bytes .entry)) at) ⌝ }
     ensures { λ _. ⌜ LaidAt (restBytes flags) place (now (buffer .entry)) (now (buffer .exit)) (restAt flags forward backward (now (bytes .entry)) at) ⌝ }
 {

@@ -9,7 +9,7 @@ ghost use Rattle.blocks.specs.Blocks.{firstPosition};
 ghost use Rattle.code_tables.specs.Table.{codeTable};
 ghost use Rattle.record_layout.specs.Records.{levelsBytes};
 ghost use Rattle.slice_syntax.specs.Blocks.{pairsAt};
-ghost use Rattle.slice_records.specs.Laying.{layingOf, LaidAt, farthestPlace};
+ghost use Rattle.slice_records.specs.Laying.{layingOf, LaidAt, farthestPairs};
 
 // Where a run of 0 lands first.
 fn first_position(intra: bool) -> usize
@@ -26,7 +26,7 @@ pub fn lay_pairs(
     buffer: &mut [u8],
     place: usize,
 ) -> Laying
-    requires { ⌜ (now codes ≡ codeTable) × InBytes (now bytes) from × (place ≤ farthestPlace) ⌝ }
+    requires { ⌜ (now codes ≡ codeTable) × InBytes (now bytes) from × (place ≤ farthestPairs) ⌝ }
     ensures { λ r. ⌜ r ≡ layingOf levelsBytes (pairsAt intra (now (bytes .entry)) from) ⌝ }
     ensures { λ _. ⌜ LaidAt levelsBytes place (now (buffer .entry)) (now (buffer .exit)) (pairsAt intra (now (bytes .entry)) from) ⌝ }
 {

@@ -10,7 +10,7 @@ ghost use Rattle.code_tables.specs.Table.{codeTable};
 ghost use Rattle.record_layout.specs.Records.{codesBytes, givenCodesBytes};
 ghost use Rattle.slice_syntax.specs.Vectors.{motionAt, vectorAt, givenVectorAt};
 ghost use Rattle.slice_syntax.specs.Macroblock.{vectorsAt};
-ghost use Rattle.slice_records.specs.Laying.{layingOf, LaidAt, farthestPlace, componentBytes, bothBytes};
+ghost use Rattle.slice_records.specs.Laying.{layingOf, LaidAt, farthestRest, farthestCodes, componentBytes, bothBytes};
 
 // The code and the residual of a component.
 fn lay_motion(
@@ -43,7 +43,7 @@ fn lay_vector(
     buffer: &mut [u8],
     place: usize,
 ) -> Laying
-    requires { ⌜ (now codes ≡ codeTable) × InBytes (now bytes) at × («f_code» ≤ 7) × (place ≤ farthestPlace) ⌝ }
+    requires { ⌜ (now codes ≡ codeTable) × InBytes (now bytes) at × («f_code» ≤ 7) × (place ≤ farthestCodes) ⌝ }
     ensures { λ r. ⌜ r ≡ layingOf codesBytes (vectorAt «f_code» (now (bytes .entry)) at) ⌝ }
     ensures { λ _. ⌜ LaidAt codesBytes place (now (buffer .entry)) (now (buffer .exit)) (vectorAt «f_code» (now (bytes .entry)) at) ⌝ }
 {
@@ -72,7 +72,7 @@ fn lay_given_vector(
     buffer: &mut [u8],
     place: usize,
 ) -> Laying
-    requires { ⌜ (now codes ≡ codeTable) × InBytes (now bytes) at × («f_code» ≤ 7) × (place ≤ farthestPlace) × (0 < part) ⌝ }
+    requires { ⌜ (now codes ≡ codeTable) × InBytes (now bytes) at × («f_code» ≤ 7) × (place ≤ farthestCodes) × (0 < part) ⌝ }
     ensures { λ r. ⌜ r ≡ layingOf (givenCodesBytes (gives flags part)) (givenVectorAt (gives flags part) «f_code» (now (bytes .entry)) at) ⌝ }
     ensures { λ _. ⌜ LaidAt (givenCodesBytes (gives flags part)) place (now (buffer .entry)) (now (buffer .exit)) (givenVectorAt (gives flags part) «f_code» (now (bytes .entry)) at) ⌝ }
 {
@@ -93,7 +93,7 @@ pub fn lay_vectors(
     buffer: &mut [u8],
     place: usize,
 ) -> Laying
-    requires { ⌜ (now codes ≡ codeTable) × InBytes (now bytes) at × (forward ≤ 7) × (backward ≤ 7) × (place ≤ 9223372036854775900) ⌝ }
+    requires { ⌜ (now codes ≡ codeTable) × InBytes (now bytes) at × (forward ≤ 7) × (backward ≤ 7) × (place ≤ farthestRest) ⌝ }
     ensures { λ r. ⌜ r ≡ layingOf (bothBytes flags) (vectorsAt flags forward backward (now (bytes .entry)) at) ⌝ }
     ensures { λ _. ⌜ LaidAt (bothBytes flags) place (now (buffer .entry)) (now (buffer .exit)) (vectorsAt flags forward backward (now (bytes .entry)) at) ⌝ }
 {

@@ -7,7 +7,7 @@ use Rattle.refusals.specs.declared.Refusal.{Refusal}
 use Rattle.refusals.specs.declared.Refusal.the-variants.{SliceCode, SliceCut}
 use Rattle.format3.specs.Chain.{only}
 use Rattle.symbols.specs.declared.vector_codes.VectorCode.{VectorCode}
-use Rattle.bits.specs.Bits.{offset, advanced}
+use Rattle.bits.specs.Bits.{offset, advanced, bitLimit}
 use Rattle.bits.specs.declared.Position.{Position}
 use Rattle.code_tables.specs.declared.code.Code.{Code}
 use Rattle.code_tables.specs.declared.code.Code.the-variants as Code
@@ -50,6 +50,6 @@ turnOf next Coefficient.Short at = Turn.Refused SliceCut at
 
 -- a code that ends where bytes can
 abbrev pub CodeFits : Position → Code → Type 0
-CodeFits at (Code.Value v n) = (n < 64) × (offset at + n < 147573952589676412928)
+CodeFits at (Code.Value v n) = (n < 64) × (offset at + n < bitLimit)
 CodeFits at Code.NoCode = Unit {0}
 CodeFits at Code.Short = Unit {0}
