@@ -6,7 +6,7 @@ use native.Mathlib.Nat.{mul-suc, add-comm, mod-lt, mod-eq-of-lt, div-one, zero-d
 use native.Mathlib.Omega.{arith}
 use lib.ListN.{length, drop, getD, length-append, List·getD-append}
 use lib.Seq.{drop-append-add, drop-drop, drop-nil, drop-at, take-at, getD-drop}
-use Rattle.bits.specs.Bits.{bitsOf, bits, numberOf}
+use Rattle.bits.specs.Bits.{bitsOf, bits, leadingNumber}
 use Rattle.bits.proofs.Number.{Binary, none, binary-append, bits-binary, bits-length, number-nil, number-take, number-split, number-bits, bit-of}
 
 pub binary-bits : (l : List ℕ) → Binary (bits l)
@@ -27,17 +27,17 @@ drop-bits (suc i) [] = drop-nil (8 * suc i)
 drop-bits (suc i) (x ∷ l) = rw (mul-suc, add-comm (8 * i) 8) (rw bits-length at (drop-append-add (bitsOf 8 x) (bits l) (8 * i))) ∙ drop-bits i l
 
 -- the first byte's bits are the highest
-pub number-byte : (m : ℕ) (l : List ℕ) → getD l 0 0 < 256 → numberOf (8 + m) (bits l) ≡ getD l 0 0 * 2 ^ m + numberOf m (bits (drop 1 l))
+pub number-byte : (m : ℕ) (l : List ℕ) → getD l 0 0 < 256 → leadingNumber (8 + m) (bits l) ≡ getD l 0 0 * 2 ^ m + leadingNumber m (bits (drop 1 l))
 unfolding bits
 number-byte m [] h = omega (arith, number-nil (8 + m), number-nil m)
 number-byte m (x ∷ l) h =
     number-split 8 m (bitsOf 8 x ++ bits l)
-    ∙ ap₂ (λ (n : ℕ) (b : List ℕ). n * 2 ^ m + numberOf m b) high (drop-at (bitsOf 8 x) (bits l) 8 (bits-length 8 x))
+    ∙ ap₂ (λ (n : ℕ) (b : List ℕ). n * 2 ^ m + leadingNumber m b) high (drop-at (bitsOf 8 x) (bits l) 8 (bits-length 8 x))
   where
-    high : numberOf 8 (bitsOf 8 x ++ bits l) ≡ x
+    high : leadingNumber 8 (bitsOf 8 x ++ bits l) ≡ x
     high =
         sym (number-take 8 8 (bitsOf 8 x ++ bits l) (omega arith))
-        ∙ ap (numberOf 8) (take-at (bitsOf 8 x) (bits l) 8 (bits-length 8 x))
+        ∙ ap (leadingNumber 8) (take-at (bitsOf 8 x) (bits l) 8 (bits-length 8 x))
         ∙ number-bits 8 0 x ∙ ap (λ (n : ℕ). n % 256) (div-one x) ∙ mod-eq-of-lt h
 
 -- four bytes from a place on, with zeros past the end
@@ -45,13 +45,13 @@ abbrev pub four : List ℕ → ℕ → ℕ
 four l i = 16777216 * getD l i 0 + 65536 * getD l (i + 1) 0 + 256 * getD l (i + 2) 0 + getD l (i + 3) 0
 
 module _ (l : List ℕ) (small : (i : ℕ) → getD l i 0 < 256) where
-  from-byte : (m i j : ℕ) → i + 1 ≡ j → numberOf (8 + m) (bits (drop i l)) ≡ getD l i 0 * 2 ^ m + numberOf m (bits (drop j l))
+  from-byte : (m i j : ℕ) → i + 1 ≡ j → leadingNumber (8 + m) (bits (drop i l)) ≡ getD l i 0 * 2 ^ m + leadingNumber m (bits (drop j l))
   from-byte m i j e =
       number-byte m (drop i l) (rw (getD-drop, add-zero) (small i))
       ∙ rw (getD-drop, add-zero, drop-drop, e) refl
 
-  pub number-forty : (i : ℕ) → numberOf 40 (bits (drop i l)) ≡ 256 * four l i + getD l (i + 4) 0
-  unfolding numberOf
+  pub number-forty : (i : ℕ) → leadingNumber 40 (bits (drop i l)) ≡ 256 * four l i + getD l (i + 4) 0
+  unfolding leadingNumber
   number-forty i =
       omega (
         arith,

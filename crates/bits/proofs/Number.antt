@@ -7,7 +7,7 @@ use native.Mathlib.Omega.{arith}
 use lib.Pow.{pow-add, pow-pos}
 use lib.Arith.{digits-div, digits-mod, mod-mul}
 use lib.ListN.{length, take, drop, getD}
-use Rattle.bits.specs.Bits.{bitsOf, numberOf}
+use Rattle.bits.specs.Bits.{bitsOf, leadingNumber}
 
 -- each is 0 or 1
 pub data Binary : List ℕ → Type 0 where
@@ -38,28 +38,28 @@ unfolding bitsOf
 bits-length zero v = refl
 bits-length (suc n) v = ap suc (bits-length n v)
 
-pub number-nil : (n : ℕ) → numberOf n [] ≡ 0
-unfolding numberOf
+pub number-nil : (n : ℕ) → leadingNumber n [] ≡ 0
+unfolding leadingNumber
 number-nil zero = refl
 number-nil (suc n) = refl
 
 -- only the first k bits matter
-pub number-take : (k c : ℕ) (b : List ℕ) → k ≤ c → numberOf k (take c b) ≡ numberOf k b
-unfolding numberOf
+pub number-take : (k c : ℕ) (b : List ℕ) → k ≤ c → leadingNumber k (take c b) ≡ leadingNumber k b
+unfolding leadingNumber
 number-take zero c b h = refl
 number-take (suc k) zero b h = absurd (omega arith)
 number-take (suc k) (suc c) [] h = refl
 number-take (suc k) (suc c) (x ∷ b) h = ap (λ (n : ℕ). x * 2 ^ k + n) (number-take k c b (omega arith))
 
 -- the first i bits are the higher part, the m after them the lower
-pub number-split : (i m : ℕ) (b : List ℕ) → numberOf (i + m) b ≡ numberOf i b * 2 ^ m + numberOf m (drop i b)
-unfolding numberOf
+pub number-split : (i m : ℕ) (b : List ℕ) → leadingNumber (i + m) b ≡ leadingNumber i b * 2 ^ m + leadingNumber m (drop i b)
+unfolding leadingNumber
 number-split zero m b = rw zero-add (omega arith)
 number-split (suc i) m [] = rw suc-add (omega (arith, number-nil m))
 number-split (suc i) m (x ∷ b) = rw (suc-add, number-split i m b, pow-add) (omega arith)
 
-pub number-below : (n : ℕ) {b : List ℕ} → Binary b → numberOf n b < 2 ^ n
-unfolding numberOf
+pub number-below : (n : ℕ) {b : List ℕ} → Binary b → leadingNumber n b < 2 ^ n
+unfolding leadingNumber
 number-below zero p = suc-le-suc zero-le
 number-below (suc n) none = pow-pos (suc n)
 number-below (suc n) (more {x = x} {b = b} h p) = rw pow-suc (omega (arith, number-below n p, mul-le-mul-right (2 ^ n) h))
@@ -77,19 +77,19 @@ bits-low (suc n) m q r = ap₂ _∷_ (ap (λ (x : ℕ). x % 2) front ∙ mul-add
     front = rw high (mul-add-div-right (pow-pos n) (q * 2 ^ m * 2) r)
 
 -- the first bits of the number that some bits are
-pub bits-number : (n m : ℕ) {b : List ℕ} → Binary b → n ≤ m → n ≤ length b → take n (bitsOf m (numberOf m b)) ≡ take n b
-unfolding bitsOf numberOf
+pub bits-number : (n m : ℕ) {b : List ℕ} → Binary b → n ≤ m → n ≤ length b → take n (bitsOf m (leadingNumber m b)) ≡ take n b
+unfolding bitsOf leadingNumber
 bits-number zero m p g h = refl
 bits-number (suc n) zero p g h = absurd (omega arith)
 bits-number (suc n) (suc m) none g h = absurd (omega arith)
 bits-number (suc n) (suc m) (more {x = x} {b = b} s p) g h = ap₂ _∷_ (ap (λ (y : ℕ). y % 2) (digits-div x (number-below m p)) ∙ mod-eq-of-lt s) (rest ∙ bits-number n m p (omega arith) (omega arith))
   where
-    rest : take n (bitsOf m (x * 2 ^ m + numberOf m b)) ≡ take n (bitsOf m (numberOf m b))
-    rest = ap (take n) (ap (λ (e : ℕ). bitsOf m (x * 2 ^ e + numberOf m b)) (sym (add-zero m)) ∙ bits-low m 0 x (numberOf m b))
+    rest : take n (bitsOf m (x * 2 ^ m + leadingNumber m b)) ≡ take n (bitsOf m (leadingNumber m b))
+    rest = ap (take n) (ap (λ (e : ℕ). bitsOf m (x * 2 ^ e + leadingNumber m b)) (sym (add-zero m)) ∙ bits-low m 0 x (leadingNumber m b))
 
 -- the number that the first k bits of a number's are
-pub number-bits : (k m v : ℕ) → numberOf k (bitsOf (k + m) v) ≡ v / 2 ^ m % 2 ^ k
-unfolding bitsOf numberOf
+pub number-bits : (k m v : ℕ) → leadingNumber k (bitsOf (k + m) v) ≡ v / 2 ^ m % 2 ^ k
+unfolding bitsOf leadingNumber
 number-bits zero m v = sym (mod-one (v / 2 ^ m))
 number-bits (suc k) m v = rw (suc-add, number-bits k m v) (sym whole)
   where
@@ -109,8 +109,8 @@ bits-take (suc k) m v = rw suc-add (ap₂ _∷_ (ap (λ (x : ℕ). x % 2) (sym (
     power = mul-comm (2 ^ m) (2 ^ k) ∙ sym (pow-add 2 k m)
 
 -- n bits after the first ones, as digits of the number
-pub number-drop : (from n : ℕ) {b : List ℕ} → Binary b → numberOf n (drop from b) ≡ numberOf (from + n) b % 2 ^ n
-number-drop from n {b} p = sym (ap (λ (x : ℕ). x % 2 ^ n) (number-split from n b) ∙ digits-mod (numberOf from b) (number-below n (binary-drop from p)))
+pub number-drop : (from n : ℕ) {b : List ℕ} → Binary b → leadingNumber n (drop from b) ≡ leadingNumber (from + n) b % 2 ^ n
+number-drop from n {b} p = sym (ap (λ (x : ℕ). x % 2 ^ n) (number-split from n b) ∙ digits-mod (leadingNumber from b) (number-below n (binary-drop from p)))
 
 low-of-low : (x a n : ℕ) → x % 2 ^ (a + n) % 2 ^ n ≡ x % 2 ^ n
 low-of-low x a n =
@@ -118,7 +118,7 @@ low-of-low x a n =
     ∙ ap (λ (y : ℕ). y % 2 ^ n) (mod-mul x (pow-pos a) (pow-pos n))
     ∙ digits-mod (x / 2 ^ n % 2 ^ a) (mod-lt x (pow-pos n))
 
-pub bits-part : (from n m v : ℕ) → numberOf n (drop from (bitsOf (from + n + m) v)) ≡ v / 2 ^ m % 2 ^ n
+pub bits-part : (from n m v : ℕ) → leadingNumber n (drop from (bitsOf (from + n + m) v)) ≡ v / 2 ^ m % 2 ^ n
 bits-part from n m v =
     number-drop from n (bits-binary (from + n + m) v)
     ∙ ap (λ (x : ℕ). x % 2 ^ n) (number-bits (from + n) m v)
@@ -152,7 +152,7 @@ bit-of (suc n) (suc i) v h = bit-of n i v (omega arith) ∙ ap (λ (m : ℕ). v 
 
 -- numbers of as many bits are those that their bits are
 pub bits-same : (n x y : ℕ) → x < 2 ^ n → y < 2 ^ n → bitsOf n x ≡ bitsOf n y → x ≡ y
-bits-same n x y h g e = sym (number n x h) ∙ ap (numberOf n) e ∙ number n y g
+bits-same n x y h g e = sym (number n x h) ∙ ap (leadingNumber n) e ∙ number n y g
   where
-    number : (n x : ℕ) → x < 2 ^ n → numberOf n (bitsOf n x) ≡ x
-    number n x h = ap (λ (k : ℕ). numberOf n (bitsOf k x)) (sym (add-zero n)) ∙ number-bits n 0 x ∙ ap (λ (v : ℕ). v % 2 ^ n) (div-one x) ∙ mod-eq-of-lt h
+    number : (n x : ℕ) → x < 2 ^ n → leadingNumber n (bitsOf n x) ≡ x
+    number n x h = ap (λ (k : ℕ). leadingNumber n (bitsOf k x)) (sym (add-zero n)) ∙ number-bits n 0 x ∙ ap (λ (v : ℕ). v % 2 ^ n) (div-one x) ∙ mod-eq-of-lt h

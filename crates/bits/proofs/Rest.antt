@@ -10,7 +10,7 @@ use lib.ListN.{length, take, drop, getD, length-drop, List·getD-eq-default}
 use lib.Seq.{drop-drop, take-take, take-nil, length-take-le}
 use Rattle.bits.specs.declared.Position.{Position}
 use Rattle.bits.specs.declared.Window.{Window}
-use Rattle.bits.specs.Bits.{bits, bitsOf, numberOf, offset, bitLimit, InBytes, bitsFrom, advanced, windowOf, bitsIn}
+use Rattle.bits.specs.Bits.{bits, bitsOf, leadingNumber, offset, bitLimit, InBytes, bitsFrom, advanced, windowOf, bitsIn}
 use Rattle.bits.proofs.Number.{Binary, binary-drop, number-split, number-below, number-take, bits-number, bits-take, bits-drop, bits-part, bits-mod, bits-length}
 use Rattle.bits.proofs.Bytes.{binary-bits, length-bits, drop-bits, number-forty, four}
 
@@ -49,29 +49,29 @@ unfolding bitsFrom
 rest-start l = refl
 
 -- of 40 bits, the 32 after the first few
-pub number-within : (b : List ℕ) (bit : ℕ) → Binary b → bit < 8 → numberOf 40 b / 2 ^ (8 - bit) % 4294967296 ≡ numberOf 32 (drop bit b)
-number-within b bit p h = rw (whole, digits-div (numberOf bit b * 2 ^ 32 + numberOf 32 d) (number-below (8 - bit) (binary-drop 32 (binary-drop bit p)))) (digits-mod (numberOf bit b) (number-below 32 (binary-drop bit p)))
+pub number-within : (b : List ℕ) (bit : ℕ) → Binary b → bit < 8 → leadingNumber 40 b / 2 ^ (8 - bit) % 4294967296 ≡ leadingNumber 32 (drop bit b)
+number-within b bit p h = rw (whole, digits-div (leadingNumber bit b * 2 ^ 32 + leadingNumber 32 d) (number-below (8 - bit) (binary-drop 32 (binary-drop bit p)))) (digits-mod (leadingNumber bit b) (number-below 32 (binary-drop bit p)))
   where
     d : List ℕ
     d = drop bit b
 
-    parts : numberOf (bit + (32 + (8 - bit))) b ≡ numberOf bit b * 2 ^ (32 + (8 - bit)) + (numberOf 32 d * 2 ^ (8 - bit) + numberOf (8 - bit) (drop 32 d))
-    parts = number-split bit (32 + (8 - bit)) b ∙ ap (λ (n : ℕ). numberOf bit b * 2 ^ (32 + (8 - bit)) + n) (number-split 32 (8 - bit) d)
+    parts : leadingNumber (bit + (32 + (8 - bit))) b ≡ leadingNumber bit b * 2 ^ (32 + (8 - bit)) + (leadingNumber 32 d * 2 ^ (8 - bit) + leadingNumber (8 - bit) (drop 32 d))
+    parts = number-split bit (32 + (8 - bit)) b ∙ ap (λ (n : ℕ). leadingNumber bit b * 2 ^ (32 + (8 - bit)) + n) (number-split 32 (8 - bit) d)
 
     forty : bit + (32 + (8 - bit)) ≡ 40
     forty = omega arith
 
-    whole : numberOf 40 b ≡ (numberOf bit b * 2 ^ 32 + numberOf 32 d) * 2 ^ (8 - bit) + numberOf (8 - bit) (drop 32 d)
+    whole : leadingNumber 40 b ≡ (leadingNumber bit b * 2 ^ 32 + leadingNumber 32 d) * 2 ^ (8 - bit) + leadingNumber (8 - bit) (drop 32 d)
     whole = rw forty at parts ∙ rw pow-add (omega arith)
 
 -- what five bytes say of the next 32 bits
-pub bits-of-five : (l : List ℕ) (p : Position) → ((i : ℕ) → getD l i 0 < 256) → p .bit < 8 → (256 * four l (p .byte) + getD l (p .byte + 4) 0) / 2 ^ (8 - p .bit) % 4294967296 ≡ numberOf 32 (bitsFrom l p)
+pub bits-of-five : (l : List ℕ) (p : Position) → ((i : ℕ) → getD l i 0 < 256) → p .bit < 8 → (256 * four l (p .byte) + getD l (p .byte + 4) 0) / 2 ^ (8 - p .bit) % 4294967296 ≡ leadingNumber 32 (bitsFrom l p)
 unfolding bitsFrom
 bits-of-five l p small h =
     ap (λ (n : ℕ). n / 2 ^ (8 - p .bit) % 4294967296) (sym (number-forty l small (p .byte)))
     ∙ number-within (bits (drop (p .byte) l)) (p .bit) (binary-bits (drop (p .byte) l)) h
-    ∙ ap (λ (b : List ℕ). numberOf 32 (drop (p .bit) b)) (sym (drop-bits (p .byte) l))
-    ∙ ap (numberOf 32) (drop-drop (p .bit) (8 * p .byte) (bits l))
+    ∙ ap (λ (b : List ℕ). leadingNumber 32 (drop (p .bit) b)) (sym (drop-bits (p .byte) l))
+    ∙ ap (leadingNumber 32) (drop-drop (p .bit) (8 * p .byte) (bits l))
 
 take-min : (n : ℕ) (b : List ℕ) → take (min n (length b)) b ≡ take n b
 take-min zero b = rw zero-min refl
@@ -104,13 +104,13 @@ drop-take (suc a) c [] = rw suc-add (sym (take-nil c))
 drop-take (suc a) c (x ∷ l) = rw suc-add (drop-take a c l)
 
 -- n bits in a window, as digits of its number
-pub window-part : (w : Window) (from n : ℕ) → from + n ≤ w .count → w .count ≤ 32 → numberOf n (drop from (bitsIn w)) ≡ w .bits / 2 ^ (32 - (from + n)) % 2 ^ n
+pub window-part : (w : Window) (from n : ℕ) → from + n ≤ w .count → w .count ≤ 32 → leadingNumber n (drop from (bitsIn w)) ≡ w .bits / 2 ^ (32 - (from + n)) % 2 ^ n
 unfolding bitsIn
 window-part w from n h m =
-    ap (λ (c : ℕ). numberOf n (drop from (take c (bitsOf 32 (w .bits))))) counted
-    ∙ ap (numberOf n) (drop-take from (w .count - from) (bitsOf 32 (w .bits)))
+    ap (λ (c : ℕ). leadingNumber n (drop from (take c (bitsOf 32 (w .bits))))) counted
+    ∙ ap (leadingNumber n) (drop-take from (w .count - from) (bitsOf 32 (w .bits)))
     ∙ number-take n (w .count - from) (drop from (bitsOf 32 (w .bits))) (omega (arith, h))
-    ∙ ap (λ (c : ℕ). numberOf n (drop from (bitsOf c (w .bits)))) whole
+    ∙ ap (λ (c : ℕ). leadingNumber n (drop from (bitsOf c (w .bits)))) whole
     ∙ bits-part from n (32 - (from + n)) (w .bits)
   where
     counted : w .count ≡ from + (w .count - from)

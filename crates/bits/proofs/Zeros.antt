@@ -12,7 +12,7 @@ use lib.Pow.{pow-pos}
 use lib.Seq.{drop-cons, drop-append-le, drop-drop, take-append-seam}
 use borrow.Author.Tests.{eqb-true, eq-eqb, ne-eqb}
 use Rattle.bits.specs.declared.Position.{Position}
-use Rattle.bits.specs.Bits.{bits, bitsOf, numberOf, allZeros, bitsFrom, offset}
+use Rattle.bits.specs.Bits.{bits, bitsOf, leadingNumber, allZeros, bitsFrom, offset}
 use Rattle.bits.proofs.Number.{number-bits, number-split, bits-length}
 use Rattle.bits.proofs.Bytes.{drop-bits, length-bits}
 
@@ -33,8 +33,8 @@ and-true false q e = (e, absurd (false-not-true e))
     false-not-true e = let z : _≡_ {A = ℕ} 0 1 = cc in omega arith
 
 -- zeros are the number 0
-zeros-number : (n : ℕ) (b : List ℕ) → allZeros b ≡ true → numberOf n b ≡ 0
-unfolding allZeros numberOf
+zeros-number : (n : ℕ) (b : List ℕ) → allZeros b ≡ true → leadingNumber n b ≡ 0
+unfolding allZeros leadingNumber
 zeros-number zero b e = refl
 zeros-number (suc n) [] e = refl
 zeros-number (suc n) (x ∷ b) e =
@@ -46,12 +46,12 @@ first-zero zero m y e = refl
 first-zero (suc x) m y e = absurd (omega (arith, pow-pos m, e))
 
 -- and the number 0 is zeros
-number-zeros : (n : ℕ) (b : List ℕ) → numberOf n b ≡ 0 → allZeros (take n b) ≡ true
-unfolding allZeros numberOf
+number-zeros : (n : ℕ) (b : List ℕ) → leadingNumber n b ≡ 0 → allZeros (take n b) ≡ true
+unfolding allZeros leadingNumber
 number-zeros zero b e = refl
 number-zeros (suc n) [] e = refl
 number-zeros (suc n) (x ∷ b) e =
-    let z = first-zero x n (numberOf n b) e in
+    let z = first-zero x n (leadingNumber n b) e in
     ap₂ _&&_ (eq-eqb x 0 z) (number-zeros n b (omega (arith, rw z at e)))
 
 same-bool : (p q : Bool) → (p ≡ true → q ≡ true) → (q ≡ true → p ≡ true) → p ≡ q
@@ -82,14 +82,14 @@ unfolding bits allZeros
 zero-end l i h = rw (drop-of-length-le l h)
 
 -- ---- from a position on
-pub not-zeros : (l : List ℕ) (p : Position) → (numberOf 32 (bitsFrom l p) ≡ 0 → ⊥) → allZeros (bitsFrom l p) ≡ false
+pub not-zeros : (l : List ℕ) (p : Position) → (leadingNumber 32 (bitsFrom l p) ≡ 0 → ⊥) → allZeros (bitsFrom l p) ≡ false
 not-zeros l p f = same-bool (allZeros (bitsFrom l p)) false (λ e. absurd (f (zeros-number 32 (bitsFrom l p) e))) (λ e. absurd (let z : _≡_ {A = ℕ} 0 1 = cc in omega arith))
 
 pub zeros-past : (l : List ℕ) (p : Position) → length l ≤ p .byte → allZeros (bitsFrom l p) ≡ true
 unfolding bitsFrom allZeros
 zeros-past l p h = rw (drop-of-length-le (bits l) {i = offset p} (omega (arith, length-bits l)))
 
-pub rest-zeros : (l : List ℕ) (p : Position) → p .bit < 8 → p .byte < length l → numberOf 32 (bitsFrom l p) ≡ 0 → allZeros (bitsFrom l p) ≡ allZeros (bits (drop (p .byte + 1) l))
+pub rest-zeros : (l : List ℕ) (p : Position) → p .bit < 8 → p .byte < length l → leadingNumber 32 (bitsFrom l p) ≡ 0 → allZeros (bitsFrom l p) ≡ allZeros (bits (drop (p .byte + 1) l))
 unfolding bitsFrom bits
 rest-zeros l p b h e = ap allZeros split ∙ zeros-append front rest ∙ rw front-zero
   where
@@ -120,4 +120,4 @@ rest-zeros l p b h e = ap allZeros split ∙ zeros-append front rest ∙ rw fron
     front-zero : allZeros front ≡ true
     front-zero =
         ap allZeros (sym (take-append-seam front rest))
-        ∙ number-zeros (length front) (front ++ rest) (first-zero (numberOf (length front) (front ++ rest)) (32 - length front) (numberOf (32 - length front) (drop (length front) (front ++ rest))) (sym (number-split (length front) (32 - length front) (front ++ rest)) ∙ ap (λ (n : ℕ). numberOf n (front ++ rest)) whole ∙ ap (numberOf 32) (sym split) ∙ e))
+        ∙ number-zeros (length front) (front ++ rest) (first-zero (leadingNumber (length front) (front ++ rest)) (32 - length front) (leadingNumber (32 - length front) (drop (length front) (front ++ rest))) (sym (number-split (length front) (32 - length front) (front ++ rest)) ∙ ap (λ (n : ℕ). leadingNumber n (front ++ rest)) whole ∙ ap (leadingNumber 32) (sym split) ∙ e))

@@ -18,10 +18,10 @@ bits [] = []
 bits (byte ∷ bytes) = bitsOf 8 byte ++ bits bytes
 
 -- the number that the first n bits are, with zeros past the end
-unfoldable pub numberOf : ℕ → List ℕ → ℕ
-numberOf zero b = 0
-numberOf (suc n) [] = 0
-numberOf (suc n) (x ∷ b) = x * 2 ^ n + numberOf n b
+unfoldable pub leadingNumber : ℕ → List ℕ → ℕ
+leadingNumber zero b = 0
+leadingNumber (suc n) [] = 0
+leadingNumber (suc n) (x ∷ b) = x * 2 ^ n + leadingNumber n b
 
 -- whether all bits are zeros
 unfoldable pub allZeros : List ℕ → Bool
@@ -51,7 +51,7 @@ advanced p n = record { byte = p .byte + (p .bit + n) / 8; bit = (p .bit + n) % 
 
 -- the next 32 of some bits, as a number with zeros past the end, and how many of them there are
 abbrev pub windowOf : List ℕ → Window
-windowOf b = record { bits = numberOf 32 b; count = min 32 (length b) }
+windowOf b = record { bits = leadingNumber 32 b; count = min 32 (length b) }
 
 -- the bits that a window has
 unfoldable pub bitsIn : Window → List ℕ

@@ -4,7 +4,7 @@ use mathlib.Core.List.{List, [], _∷_}
 use Prim.Native.Nat.{ℕ, zero, suc, _/_, _%_, _^_}
 use lib.Dec.{eqb, ltb}
 use lib.ListN.{length, drop}
-use Rattle.bits.specs.Bits.{numberOf}
+use Rattle.bits.specs.Bits.{leadingNumber}
 use Rattle.code_tables.specs.declared.code.Code.{Code}
 use Rattle.code_tables.specs.declared.code.Code.the-variants.{Value, NoCode, Short}
 
@@ -36,7 +36,7 @@ codeOf (w ∷ words) b = cond (isPrefix (w .bits) b) (Value (w .value) (length (
 
 -- a number of n bits: every n bits are a code
 unfoldable pub fieldOf : ℕ → List ℕ → Code
-fieldOf n b = cond (ltb (length b) n) Short (Value (numberOf n b) n)
+fieldOf n b = cond (ltb (length b) n) Short (Value (leadingNumber n b) n)
 
 -- A code of several parts: go on after a part with its value, its length and the bits after it. The whole is no code where the part is none, and
 -- short where the part is.

@@ -8,7 +8,7 @@ ghost use Rattle.coefficient.specs.Answer.{coefficientNumber, coefficientValue}
 ghost use Rattle.motion.specs.Vector.{decodedNumber, decodedVector};
 ghost use Rattle.format3.specs.Record.{recordOf, answerOf, kindOf, startOf, bodyLengthOf};
 ghost use Rattle.picture.specs.Picture.{pictureOf};
-ghost use Rattle.raw_slice.specs.Answer.{given, outcomeOf};
+ghost use Rattle.raw_slice.specs.Answer.{given, rawSliceOutcome};
 use format3::record;
 use format3::record::Record;
 use motion::vector;
@@ -148,11 +148,11 @@ pub extern "C" fn format3_read_slice(
     byte: &mut usize,
     bit: &mut usize,
 ) -> u32
-    ensures number { λ r. ⌜ r ≡ outcomeOf (given width height «coding_type» «forward_f_code» «backward_f_code») (now (slice .entry)) (now (records .entry)) .answer .number ⌝ }
-    ensures records { λ _. ⌜ now (records .exit) ≡ outcomeOf (given width height «coding_type» «forward_f_code» «backward_f_code») (now (slice .entry)) (now (records .entry)) .buffer ⌝ }
-    ensures written { λ _. ⌜ now (written .exit) ≡ outcomeOf (given width height «coding_type» «forward_f_code» «backward_f_code») (now (slice .entry)) (now (records .entry)) .answer .written ⌝ }
-    ensures byte { λ _. ⌜ now (byte .exit) ≡ outcomeOf (given width height «coding_type» «forward_f_code» «backward_f_code») (now (slice .entry)) (now (records .entry)) .answer .byte ⌝ }
-    ensures bit { λ _. ⌜ now (bit .exit) ≡ outcomeOf (given width height «coding_type» «forward_f_code» «backward_f_code») (now (slice .entry)) (now (records .entry)) .answer .bit ⌝ }
+    ensures number { λ r. ⌜ r ≡ rawSliceOutcome (given width height «coding_type» «forward_f_code» «backward_f_code») (now (slice .entry)) (now (records .entry)) .answer .number ⌝ }
+    ensures records { λ _. ⌜ now (records .exit) ≡ rawSliceOutcome (given width height «coding_type» «forward_f_code» «backward_f_code») (now (slice .entry)) (now (records .entry)) .buffer ⌝ }
+    ensures written { λ _. ⌜ now (written .exit) ≡ rawSliceOutcome (given width height «coding_type» «forward_f_code» «backward_f_code») (now (slice .entry)) (now (records .entry)) .answer .written ⌝ }
+    ensures byte { λ _. ⌜ now (byte .exit) ≡ rawSliceOutcome (given width height «coding_type» «forward_f_code» «backward_f_code») (now (slice .entry)) (now (records .entry)) .answer .byte ⌝ }
+    ensures bit { λ _. ⌜ now (bit .exit) ≡ rawSliceOutcome (given width height «coding_type» «forward_f_code» «backward_f_code») (now (slice .entry)) (now (records .entry)) .answer .bit ⌝ }
 {
     let answer = entry::read_slice(
         slice,

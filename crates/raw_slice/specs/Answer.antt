@@ -14,8 +14,8 @@ use Rattle.picture_header.specs.declared.header.HeaderAnswer.{HeaderAnswer}
 use Rattle.picture_header.specs.declared.header.HeaderAnswer.the-variants as Header
 use Rattle.bits.specs.declared.Position.{Position}
 use Rattle.slice_syntax.specs.Read.{Read, read, refused}
-use Rattle.slice_syntax.specs.Slice.{SliceFields, firstBit, sliceOf, recordsOf}
-use Rattle.raw_slice.specs.declared.entry.SliceAnswer.{SliceAnswer}
+use Rattle.slice_syntax.specs.Slice.{SliceFields, firstBit, rawSliceOf, recordsOf}
+use Rattle.raw_slice.specs.declared.entry.RawSliceAnswer.{RawSliceAnswer}
 
 -- "Five given numbers; the full-pel flags don't matter to reading": a header's numbers, its flags 0
 abbrev pub given : ℕ → ℕ → ℕ → ℕ → ℕ → HeaderFields
@@ -30,15 +30,15 @@ given width height type forward backward = record {
 }
 
 pub record Outcome : Type 0 where
-  pub answer : SliceAnswer
+  pub answer : RawSliceAnswer
   pub buffer : List ℕ
 
 -- "On every refusal written is 0 and the buffer is untouched"
-abbrev pub refusedAnswer : Refusal → Position → SliceAnswer
+abbrev pub refusedAnswer : Refusal → Position → RawSliceAnswer
 refusedAnswer refusal p = record { number = numberOf refusal; written = 0; byte = p .byte; bit = p .bit }
 
-abbrev pub refusedAt : Refusal → Position → List ℕ → Outcome
-refusedAt refusal p buffer = record { answer = refusedAnswer refusal p; buffer = buffer }
+abbrev pub refusedOutcome : Refusal → Position → List ℕ → Outcome
+refusedOutcome refusal p buffer = record { answer = refusedAnswer refusal p; buffer = buffer }
 
 -- "Accepted: byte and bit where the unread rest starts (byte = length, bit 0 if nothing is left)"; "accepted, what lies past the records is untouched"
 abbrev pub acceptedWith : List ℕ → Position → List ℕ → Outcome
@@ -49,16 +49,16 @@ acceptedWith records p buffer = record {
 
 -- "26 only for a slice that is otherwise accepted; byte and bit 0"
 unfoldable pub fitted : List ℕ → Position → List ℕ → Outcome
-fitted records p buffer = only (leb (length records) (length buffer)) (refusedAt Refusal.RecordsLength firstBit buffer) (acceptedWith records p buffer)
+fitted records p buffer = only (leb (length records) (length buffer)) (refusedOutcome Refusal.RecordsLength firstBit buffer) (acceptedWith records p buffer)
 
 abbrev pub readOutcome : Read SliceFields → List ℕ → Outcome
 readOutcome (read slice p) buffer = fitted (recordsOf slice) p buffer
-readOutcome (refused refusal p) buffer = refusedAt refusal p buffer
+readOutcome (refused refusal p) buffer = refusedOutcome refusal p buffer
 
 -- "A wrong one is 8 (the header's own predicate, over numbers), tested first: written, byte, bit 0"
 abbrev pub headerOutcome : HeaderAnswer → List ℕ → List ℕ → Outcome
-headerOutcome (Header.Refused refusal) bytes buffer = refusedAt refusal firstBit buffer
-headerOutcome (Header.Legal h) bytes buffer = readOutcome (sliceOf h bytes) buffer
+headerOutcome (Header.Refused refusal) bytes buffer = refusedOutcome refusal firstBit buffer
+headerOutcome (Header.Legal h) bytes buffer = readOutcome (rawSliceOf h bytes) buffer
 
-unfoldable pub outcomeOf : HeaderFields → List ℕ → List ℕ → Outcome
-outcomeOf fields bytes buffer = headerOutcome (headerWith fields) bytes buffer
+unfoldable pub rawSliceOutcome : HeaderFields → List ℕ → List ℕ → Outcome
+rawSliceOutcome fields bytes buffer = headerOutcome (headerWith fields) bytes buffer

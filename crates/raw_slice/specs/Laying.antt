@@ -7,14 +7,14 @@ use Rattle.slice_syntax.specs.Read.{Read, read, refused}
 use Rattle.slice_syntax.specs.Slice.{SliceHead}
 use Rattle.slice_records.specs.declared.laying.Laying.{Laying}
 use Rattle.slice_records.specs.declared.laying.Laying.the-variants.{Done, Refused}
-use Rattle.raw_slice.specs.declared.head.SliceStart.{SliceStart}
-use Rattle.raw_slice.specs.declared.head.SliceStart.the-variants as Start
+use Rattle.raw_slice.specs.declared.head.SliceHeadAnswer.{SliceHeadAnswer}
+use Rattle.raw_slice.specs.declared.head.SliceHeadAnswer.the-variants as Head
 
 -- the position after the part, and the offset after its bytes, or the refusal and its place
 abbrev pub endOf : {A : Type 0} → (A → List ℕ) → ℕ → Read A → Laying
 endOf bytes place (read a p) = Done p (offsetAfter place (length (bytes a)))
 endOf bytes place (refused refusal p) = Refused refusal p
 
-abbrev pub startOf : Read SliceHead → SliceStart
-startOf (read head p) = Start.Read (head .row) (head .scale) p
-startOf (refused refusal p) = Start.Refused refusal p
+abbrev pub sliceHeadAnswer : Read SliceHead → SliceHeadAnswer
+sliceHeadAnswer (read head p) = Head.Read (head .row) (head .scale) p
+sliceHeadAnswer (refused refusal p) = Head.Refused refusal p

@@ -9,24 +9,24 @@ ghost use mathlib.Core.Path.{_≡_};
 ghost use Prim.Native.Nat.{_≤_};
 ghost use Rattle.picture_header.specs.Header.{headerWith, HeaderWithin};
 ghost use Rattle.code_tables.specs.Table.{codeTable};
-ghost use Rattle.slice_syntax.specs.Slice.{sliceOf, recordsOf};
+ghost use Rattle.slice_syntax.specs.Slice.{rawSliceOf, recordsOf};
 ghost use Rattle.raw_slice.specs.Laying.{endOf};
-ghost use Rattle.raw_slice.specs.Answer.{given, refusedAnswer, readOutcome, outcomeOf};
+ghost use Rattle.raw_slice.specs.Answer.{given, refusedAnswer, readOutcome, rawSliceOutcome};
 
 const LARGEST: u32 = 255;
 
 // The number of the answer, the bytes written, and the byte and bit where the refused code or the unread rest starts.
-pub struct SliceAnswer {
+pub struct RawSliceAnswer {
     pub number: u32,
     pub written: usize,
     pub byte: usize,
     pub bit: usize,
 }
 
-fn refused(refusal: Refusal, at: Position) -> SliceAnswer
+fn refused(refusal: Refusal, at: Position) -> RawSliceAnswer
     ensures { λ r. ⌜ r ≡ refusedAnswer refusal at ⌝ }
 {
-    SliceAnswer {
+    RawSliceAnswer {
         number: refusals::number(refusal),
         written: 0,
         byte: at.byte,
@@ -37,17 +37,17 @@ fn refused(refusal: Refusal, at: Position) -> SliceAnswer
 // Where the slice ends and how long its records are, or its refusal: it is read over an empty part of the buffer, into which nothing can be laid.
 fn measure(codes: &[u16; 4608], bytes: &[u8], header: Header, buffer: &mut [u8]) -> Laying
     requires { ⌜ (now codes ≡ codeTable) × HeaderWithin header × (header .size .height ≤ 36) ⌝ }
-    ensures { λ r. ⌜ r ≡ endOf recordsOf 0 (sliceOf header (now (bytes .entry))) ⌝ }
+    ensures { λ r. ⌜ r ≡ endOf recordsOf 0 (rawSliceOf header (now (bytes .entry))) ⌝ }
     ensures { λ _. ⌜ now (buffer .exit) ≡ now (buffer .entry) ⌝ }
 {
     crate::slice::lay_slice(codes, bytes, header, &mut buffer[0..0])
 }
 
 // The slice is read twice: first measured, and, if it is accepted and its records fit, once more over the buffer.
-fn read_into(bytes: &[u8], header: Header, buffer: &mut [u8]) -> SliceAnswer
+fn read_into(bytes: &[u8], header: Header, buffer: &mut [u8]) -> RawSliceAnswer
     requires { ⌜ HeaderWithin header × (header .size .height ≤ 36) ⌝ }
-    ensures { λ r. ⌜ r ≡ readOutcome (sliceOf header (now (bytes .entry))) (now (buffer .entry)) .answer ⌝ }
-    ensures { λ _. ⌜ now (buffer .exit) ≡ readOutcome (sliceOf header (now (bytes .entry))) (now (buffer .entry)) .buffer ⌝ }
+    ensures { λ r. ⌜ r ≡ readOutcome (rawSliceOf header (now (bytes .entry))) (now (buffer .entry)) .answer ⌝ }
+    ensures { λ _. ⌜ now (buffer .exit) ≡ readOutcome (rawSliceOf header (now (bytes .entry))) (now (buffer .entry)) .buffer ⌝ }
 {
     let codes = code_tables::table::code_table();
     match measure(&codes, bytes, header, buffer) {
@@ -57,7 +57,7 @@ fn read_into(bytes: &[u8], header: Header, buffer: &mut [u8]) -> SliceAnswer
                 return refused(Refusal::RecordsLength, Position { byte: 0, bit: 0 });
             }
             crate::slice::lay_slice(&codes, bytes, header, buffer);
-            SliceAnswer {
+            RawSliceAnswer {
                 number: refusals::ACCEPTED,
                 written: size,
                 byte: end.byte,
@@ -112,9 +112,9 @@ pub fn read_slice(
     forward_f_code: u32,
     backward_f_code: u32,
     buffer: &mut [u8],
-) -> SliceAnswer
-    ensures { λ r. ⌜ r ≡ outcomeOf (given width height «coding_type» «forward_f_code» «backward_f_code») (now (bytes .entry)) (now (buffer .entry)) .answer ⌝ }
-    ensures { λ _. ⌜ now (buffer .exit) ≡ outcomeOf (given width height «coding_type» «forward_f_code» «backward_f_code») (now (bytes .entry)) (now (buffer .entry)) .buffer ⌝ }
+) -> RawSliceAnswer
+    ensures { λ r. ⌜ r ≡ rawSliceOutcome (given width height «coding_type» «forward_f_code» «backward_f_code») (now (bytes .entry)) (now (buffer .entry)) .answer ⌝ }
+    ensures { λ _. ⌜ now (buffer .exit) ≡ rawSliceOutcome (given width height «coding_type» «forward_f_code» «backward_f_code») (now (bytes .entry)) (now (buffer .entry)) .buffer ⌝ }
 {
     match header_given(width, height, coding_type, forward_f_code, backward_f_code) {
         HeaderAnswer::Refused(refusal) => refused(refusal, Position { byte: 0, bit: 0 }),

@@ -5,23 +5,23 @@ use slice_syntax::extra::Skipped;
 use slice_syntax::step::Step;
 ghost use mathlib.Core.Path.{_≡_};
 ghost use Rattle.slice_syntax.specs.Slice.{sliceHeadOf};
-ghost use Rattle.raw_slice.specs.Laying.{startOf};
+ghost use Rattle.raw_slice.specs.Laying.{sliceHeadAnswer};
 
-pub enum SliceStart {
+pub enum SliceHeadAnswer {
     Read(u8, u8, Position),
     Refused(Refusal, Position),
 }
 
-pub fn read_slice_start(bytes: &[u8], height: u8) -> SliceStart
-    ensures { λ r. ⌜ r ≡ startOf (sliceHeadOf height (now (bytes .entry))) ⌝ }
+pub fn read_slice_head(bytes: &[u8], height: u8) -> SliceHeadAnswer
+    ensures { λ r. ⌜ r ≡ sliceHeadAnswer (sliceHeadOf height (now (bytes .entry))) ⌝ }
 {
     match slice_syntax::step::next_start(bytes, height) {
-        Step::Refused(refusal, refused) => SliceStart::Refused(refusal, refused),
+        Step::Refused(refusal, refused) => SliceHeadAnswer::Refused(refusal, refused),
         Step::Value(row, next) => match slice_syntax::step::next_field(bytes, next, 5) {
-            Step::Refused(refusal, refused) => SliceStart::Refused(refusal, refused),
+            Step::Refused(refusal, refused) => SliceHeadAnswer::Refused(refusal, refused),
             Step::Value(scale, after) => match slice_syntax::extra::skip_extra(bytes, after) {
-                Skipped::Refused(refusal, refused) => SliceStart::Refused(refusal, refused),
-                Skipped::To(end) => SliceStart::Read(row as u8, scale as u8, end),
+                Skipped::Refused(refusal, refused) => SliceHeadAnswer::Refused(refusal, refused),
+                Skipped::To(end) => SliceHeadAnswer::Read(row as u8, scale as u8, end),
             },
         },
     }

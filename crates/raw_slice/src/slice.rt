@@ -1,5 +1,5 @@
 // A slice's records, laid.
-use crate::head::SliceStart;
+use crate::head::SliceHeadAnswer;
 use bits::Position;
 use picture_header::header::Header;
 use slice_records::laying::Laying;
@@ -9,7 +9,7 @@ ghost use Prim.Native.Nat.{_<_, _≤_};
 ghost use Rattle.picture_header.specs.Header.{HeaderWithin};
 ghost use Rattle.bits.specs.Bits.{InBytes};
 ghost use Rattle.code_tables.specs.Table.{codeTable};
-ghost use Rattle.slice_syntax.specs.Slice.{startAddress, recordsOf, afterHeadAt, sliceOf};
+ghost use Rattle.slice_syntax.specs.Slice.{startAddress, recordsOf, afterHeadAt, rawSliceOf};
 ghost use Rattle.slice_records.specs.Laying.{LaidAt};
 ghost use Rattle.raw_slice.specs.Laying.{endOf};
 
@@ -70,14 +70,14 @@ fn lay_records(
 
 pub fn lay_slice(codes: &[u16; 4608], bytes: &[u8], header: Header, buffer: &mut [u8]) -> Laying
     requires { ⌜ (now codes ≡ codeTable) × HeaderWithin header × (header .size .height ≤ 36) ⌝ }
-    ensures { λ r. ⌜ r ≡ endOf recordsOf 0 (sliceOf header (now (bytes .entry))) ⌝ }
-    ensures { λ _. ⌜ LaidAt recordsOf 0 (now (buffer .entry)) (now (buffer .exit)) (sliceOf header (now (bytes .entry))) ⌝ }
+    ensures { λ r. ⌜ r ≡ endOf recordsOf 0 (rawSliceOf header (now (bytes .entry))) ⌝ }
+    ensures { λ _. ⌜ LaidAt recordsOf 0 (now (buffer .entry)) (now (buffer .exit)) (rawSliceOf header (now (bytes .entry))) ⌝ }
 {
     let size = header.size;
     let height = size.height as u8;
-    match crate::head::read_slice_start(bytes, height) {
-        SliceStart::Refused(refusal, refused) => Laying::Refused(refusal, refused),
-        SliceStart::Read(row, scale, at) => lay_records(
+    match crate::head::read_slice_head(bytes, height) {
+        SliceHeadAnswer::Refused(refusal, refused) => Laying::Refused(refusal, refused),
+        SliceHeadAnswer::Read(row, scale, at) => lay_records(
             codes,
             bytes,
             at,

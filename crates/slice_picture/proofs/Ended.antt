@@ -20,13 +20,13 @@ use Rattle.picture_laws.proofs.AcceptanceLaws.{number-not-accepted}
 use Rattle.bits.specs.declared.Position.{Position}
 use Rattle.code_tables.proofs.Laws.Prefix.{case}
 use Rattle.slice_syntax.specs.Read.{Read, read, refused}
-use Rattle.slice_syntax.specs.Slice.{SliceFields, firstBit, sliceOf, recordsOf}
-use Rattle.raw_slice.specs.Answer.{Outcome, acceptedWith, refusedAt, fitted, readOutcome, headerOutcome, outcomeOf}
+use Rattle.slice_syntax.specs.Slice.{SliceFields, firstBit, rawSliceOf, recordsOf}
+use Rattle.raw_slice.specs.Answer.{Outcome, acceptedWith, refusedOutcome, fitted, readOutcome, headerOutcome, rawSliceOutcome}
 use Rattle.slice_picture.specs.Ended.{Taken, Ended}
 use Rattle.slice_picture.specs.Ended as Ended
 
 module _ (fields : HeaderFields) (bytes buffer : List ℕ) where
-  read-ended : (h : Header) → headerWith fields ≡ Header.Legal h → (x : Read SliceFields) → sliceOf h bytes ≡ x → Ended fields bytes buffer (readOutcome x buffer)
+  read-ended : (h : Header) → headerWith fields ≡ Header.Legal h → (x : Read SliceFields) → rawSliceOf h bytes ≡ x → Ended fields bytes buffer (readOutcome x buffer)
   unfolding fitted only
   read-ended h legal (refused refusal p) e = Ended.refused refusal p
   read-ended h legal (read slice p) e =
@@ -36,10 +36,10 @@ module _ (fields : HeaderFields) (bytes buffer : List ℕ) where
 
   header-ended : (a : HeaderAnswer) → headerWith fields ≡ a → Ended fields bytes buffer (headerOutcome a bytes buffer)
   header-ended (Header.Refused refusal) e = Ended.refused refusal firstBit
-  header-ended (Header.Legal h) e = read-ended h e (sliceOf h bytes) refl
+  header-ended (Header.Legal h) e = read-ended h e (rawSliceOf h bytes) refl
 
-  pub ended : Ended fields bytes buffer (outcomeOf fields bytes buffer)
-  unfolding outcomeOf
+  pub ended : Ended fields bytes buffer (rawSliceOutcome fields bytes buffer)
+  unfolding rawSliceOutcome
   ended = header-ended (headerWith fields) refl
 
   -- a refused slice leaves the buffer as it was, and nothing is written: rules out an entry that lays records as it reads
@@ -47,8 +47,8 @@ module _ (fields : HeaderFields) (bytes buffer : List ℕ) where
     pub buffer-same : o .buffer ≡ buffer
     pub none-written : o .answer .written ≡ 0
 
-  pub refused-untouched : (outcomeOf fields bytes buffer .answer .number ≡ Refusals.accepted → ⊥) → Untouched (outcomeOf fields bytes buffer)
-  refused-untouched other = go (outcomeOf fields bytes buffer) ended other
+  pub refused-untouched : (rawSliceOutcome fields bytes buffer .answer .number ≡ Refusals.accepted → ⊥) → Untouched (rawSliceOutcome fields bytes buffer)
+  refused-untouched other = go (rawSliceOutcome fields bytes buffer) ended other
     where
       go : (o : Outcome) → Ended fields bytes buffer o → (o .answer .number ≡ Refusals.accepted → ⊥) → Untouched o
       go o (Ended.refused refusal p) n = record { buffer-same = refl; none-written = refl }
@@ -60,8 +60,8 @@ module _ (fields : HeaderFields) (bytes buffer : List ℕ) where
     pub counted : o .answer .written ≡ length (recordsOf (taken .slice))
     pub there : o .buffer ≡ recordsOf (taken .slice) ++ drop (length (recordsOf (taken .slice))) buffer
 
-  pub accepted-written : outcomeOf fields bytes buffer .answer .number ≡ Refusals.accepted → Written (outcomeOf fields bytes buffer)
-  accepted-written number = go (outcomeOf fields bytes buffer) ended number
+  pub accepted-written : rawSliceOutcome fields bytes buffer .answer .number ≡ Refusals.accepted → Written (rawSliceOutcome fields bytes buffer)
+  accepted-written number = go (rawSliceOutcome fields bytes buffer) ended number
     where
       go : (o : Outcome) → Ended fields bytes buffer o → o .answer .number ≡ Refusals.accepted → Written o
       go o (Ended.refused refusal p) n = absurd (number-not-accepted refusal n)

@@ -8,7 +8,7 @@ use Rattle.format3.specs.Chain.{only}
 use Rattle.picture_header.specs.Size.{legalSize}
 use Rattle.picture_header.specs.Header.{legalCodings, legalHeader, headerWith}
 use Rattle.picture_header.specs.declared.header.HeaderFields.{HeaderFields}
-use Rattle.bits.specs.Bits.{bitsOf, bits, numberOf, allZeros, bitsFrom}
+use Rattle.bits.specs.Bits.{bitsOf, bits, leadingNumber, allZeros, bitsFrom}
 use Rattle.blocks.specs.Blocks.{isCoded, firstPosition}
 use Rattle.layout_reading.specs.Matching.{codedPattern}
 use Rattle.byte_layout.specs.Bytes.{complement, wordBytes}
@@ -22,8 +22,8 @@ use Rattle.slice_syntax.specs.Increment.{afterStuffing, amountOf, afterEscape, 
 use Rattle.slice_syntax.specs.Vectors.{residualAt, motionAt, vectorAt, givenVectorAt}
 use Rattle.slice_syntax.specs.Blocks.{sizeWords, differenceAt, pairsFrom, pairsAt, givenDifferenceAt, blockAt, codedBlockAt, blocksFrom}
 use Rattle.slice_syntax.specs.Macroblock.{scaleAt, headAt, vectorsAt, patternAt, residueAt, restAt, macroblockAt}
-use Rattle.slice_syntax.specs.Slice.{afterExtra, nextAt, macroblocksFrom, startAddress, sliceHeadOf, afterHeadAt, sliceOf}
-use Rattle.raw_slice.specs.Answer.{Outcome, given, fitted, outcomeOf}
+use Rattle.slice_syntax.specs.Slice.{afterExtra, nextAt, macroblocksFrom, startAddress, sliceHeadOf, afterHeadAt, rawSliceOf}
+use Rattle.raw_slice.specs.Answer.{Outcome, given, fitted, rawSliceOutcome}
 
 -- given numbers, bytes and a buffer, and what they come to: number, bytes written, byte, bit and buffer
 record Case : Type 0 where
@@ -80,12 +80,12 @@ cases =
 
 abbrev outcomes : List Case → List Outcome
 outcomes [] = []
-outcomes (c ∷ cs) = outcomeOf (c .numbers) (c .bytes) (c .buffer) ∷ outcomes cs
+outcomes (c ∷ cs) = rawSliceOutcome (c .numbers) (c .bytes) (c .buffer) ∷ outcomes cs
 
 abbrev expectations : List Case → List Outcome
 expectations [] = []
 expectations (c ∷ cs) = c .expected ∷ expectations cs
 
 worked : outcomes cases ≡ expectations cases
-unfolding outcomeOf headerWith legalHeader legalSize legalCodings only fitted sliceOf sliceHeadOf afterHeadAt sliceStartOf startPrefix tab bits bitsFrom bitsOf isPrefix codeOf fieldOf numberOf allZeros afterExtra nextAt macroblocksFrom startAddress incrementAt afterStuffing amountOf afterEscape increments incrementWords incrementsAfterEscape word digitsOf headAt typesOf intraTypes predictedTypes bidirectionalTypes scaleAt vectorsAt givenVectorAt vectorAt motionAt residualAt motionCodes restAt residueAt patternAt patterns codedPattern blocksFrom codedBlockAt blockAt givenDifferenceAt isCoded firstPosition differenceAt sizeWords luminanceSizes chrominanceSizes dcDifferenceOf pairsAt pairsFrom wordsOf firstCoefficients nextCoefficients sharedWords coefficientOf finishedOf signedOf escapedOf levelOf largeOf largePositive largeNegative byteWords macroblockAt joined recordHead recordBytes sliceBody sliceRecords pairBytes levelsBytes blockBytes headBytes codeBytes codesBytes vectorsBytes patternBytes residueBytes macroblockBody complement wordBytes
+unfolding rawSliceOutcome headerWith legalHeader legalSize legalCodings only fitted rawSliceOf sliceHeadOf afterHeadAt sliceStartOf startPrefix tab bits bitsFrom bitsOf isPrefix codeOf fieldOf leadingNumber allZeros afterExtra nextAt macroblocksFrom startAddress incrementAt afterStuffing amountOf afterEscape increments incrementWords incrementsAfterEscape word digitsOf headAt typesOf intraTypes predictedTypes bidirectionalTypes scaleAt vectorsAt givenVectorAt vectorAt motionAt residualAt motionCodes restAt residueAt patternAt patterns codedPattern blocksFrom codedBlockAt blockAt givenDifferenceAt isCoded firstPosition differenceAt sizeWords luminanceSizes chrominanceSizes dcDifferenceOf pairsAt pairsFrom wordsOf firstCoefficients nextCoefficients sharedWords coefficientOf finishedOf signedOf escapedOf levelOf largeOf largePositive largeNegative byteWords macroblockAt joined recordHead recordBytes sliceBody sliceRecords pairBytes levelsBytes blockBytes headBytes codeBytes codesBytes vectorsBytes patternBytes residueBytes macroblockBody complement wordBytes
 worked = refl

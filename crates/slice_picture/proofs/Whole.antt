@@ -28,9 +28,9 @@ use Rattle.slice_syntax.specs.Read.{Read, read, refused}
 use Rattle.slice_syntax.specs.Blocks.{blockAt, codedBlockAt, blocksFrom}
 use Rattle.slice_syntax.specs.Increment.{incrementAt}
 use Rattle.slice_syntax.specs.Macroblock.{headAt, vectorsAt, patternAt, residueAt, restAt, fieldsWith, ResidueFields, RestFields, macroblockAt}
-use Rattle.slice_syntax.specs.Slice.{SliceFields, nextAt, macroblocksFrom, macroblocksAt, sliceHeadOf, afterHeadAt, sliceOf, recordsOf}
+use Rattle.slice_syntax.specs.Slice.{SliceFields, nextAt, macroblocksFrom, macroblocksAt, sliceHeadOf, afterHeadAt, rawSliceOf, recordsOf}
 use Rattle.slice_records.proofs.Laws.Few.{Of, of, none, of-read, of-then, of-any, block-few}
-use Rattle.raw_slice.specs.Answer.{Outcome, outcomeOf}
+use Rattle.raw_slice.specs.Answer.{Outcome, rawSliceOutcome}
 use Rattle.slice_picture.proofs.Ended.{Written, accepted-written}
 
 -- ---- blocks: as many as are coded, each with few pairs
@@ -99,8 +99,8 @@ macroblocks-of (suc n) h bytes at =
 record WholeSlice (slice : SliceFields) : Type 0 where
   pub whole : WholeMacroblocks (slice .macroblocks)
 
-slice-of : (h : Header) (bytes : List ℕ) → Of WholeSlice (sliceOf h bytes)
-unfolding sliceOf afterHeadAt
+slice-of : (h : Header) (bytes : List ℕ) → Of WholeSlice (rawSliceOf h bytes)
+unfolding rawSliceOf afterHeadAt
 slice-of h bytes =
     of-then (sliceHeadOf (h .size .height) bytes) (of-any (sliceHeadOf (h .size .height) bytes)) λ head at t.
     of-then (incrementAt bytes at) (of-any (incrementAt bytes at)) λ increment next u.
@@ -109,7 +109,7 @@ slice-of h bytes =
 
 -- The strict reader never answers 3, 4 or 6 to the records of an accepted slice, put behind a header of the same numbers (or of any): rules out a writer
 -- that cuts a record, counts its bytes or its pairs wrongly, or leaves out a field.
-pub slice-framed : (h : Header) (bytes : List ℕ) {slice : SliceFields} {end : Position} → sliceOf h bytes ≡ read slice end
+pub slice-framed : (h : Header) (bytes : List ℕ) {slice : SliceFields} {end : Position} → rawSliceOf h bytes ≡ read slice end
     → (transform : List ℤ → ℕ → ℤ) (fields forward backward output : List ℕ) → length fields ≡ 7
     → Framed (pictureOf transform (fileOf fields (recordsOf slice)) forward backward output .number)
 slice-framed h bytes {slice} e transform fields forward backward output seven =
@@ -120,11 +120,11 @@ abbrev fileWritten : List ℕ → Outcome → List ℕ
 fileWritten fields o = fileOf fields (take (o .answer .written) (o .buffer))
 
 -- The same of what the entry wrote into the buffer: rules out an entry that tells too many bytes or too few, or lays the records elsewhere.
-pub accepted-framed : (given : HeaderFields) (bytes buffer : List ℕ) → outcomeOf given bytes buffer .answer .number ≡ accepted
+pub accepted-framed : (given : HeaderFields) (bytes buffer : List ℕ) → rawSliceOutcome given bytes buffer .answer .number ≡ accepted
     → (transform : List ℤ → ℕ → ℤ) (fields forward backward output : List ℕ) → length fields ≡ 7
-    → Framed (pictureOf transform (fileWritten fields (outcomeOf given bytes buffer)) forward backward output .number)
+    → Framed (pictureOf transform (fileWritten fields (rawSliceOutcome given bytes buffer)) forward backward output .number)
 accepted-framed given bytes buffer number transform fields forward backward output seven =
-    go (outcomeOf given bytes buffer) (accepted-written given bytes buffer number)
+    go (rawSliceOutcome given bytes buffer) (accepted-written given bytes buffer number)
   where
     go : (o : Outcome) → Written given bytes buffer o → Framed (pictureOf transform (fileWritten fields o) forward backward output .number)
     go o w =

@@ -69,6 +69,6 @@ restBytes flags rest = bothBytes flags (rest .vectors) ++ patternAndBlocks flags
 abbrev pub differenceBytes : Bool → ℤ → List ℕ
 differenceBytes intra difference = cond intra (signedWordBytes difference) []
 
-abbrev pub headOf : Read HeadFields → Head
-headOf (read head p) = Head.Read (head .flags) (head .scale) p
-headOf (refused refusal p) = Head.Refused refusal p
+abbrev pub headAnswer : Read HeadFields → Head
+headAnswer (read head p) = Head.Read (head .flags) (head .scale) p
+headAnswer (refused refusal p) = Head.Refused refusal p

@@ -8,7 +8,7 @@ ghost use Rattle.bits.specs.Bits.{InBytes};
 ghost use Rattle.code_tables.specs.Table.{codeTable};
 ghost use Rattle.slice_syntax.specs.Answers.{stepOf};
 ghost use Rattle.slice_syntax.specs.Macroblock.{scaleAt, headAt};
-ghost use Rattle.slice_records.specs.Laying.{headOf};
+ghost use Rattle.slice_records.specs.Laying.{headAnswer};
 
 pub enum Head {
     Read(u8, u8, Position),
@@ -27,7 +27,7 @@ fn read_scale(bytes: &[u8], at: Position, flags: u8) -> Step
 
 pub fn read_head(codes: &[u16; 4608], bytes: &[u8], at: Position, coding_type: u8) -> Head
     requires { ⌜ (now codes ≡ codeTable) × InBytes (now bytes) at ⌝ }
-    ensures { λ r. ⌜ r ≡ headOf (headAt «coding_type» (now (bytes .entry)) at) ⌝ }
+    ensures { λ r. ⌜ r ≡ headAnswer (headAt «coding_type» (now (bytes .entry)) at) ⌝ }
 {
     match slice_syntax::step::next_type(codes, coding_type, bytes, at) {
         Step::Refused(refusal, place) => Head::Refused(refusal, place),

@@ -1,7 +1,7 @@
 // The pairs of a block, laid behind their count.
 use crate::laying::Laying;
 use bits::Position;
-use slice_syntax::coefficient::Turn;
+use slice_syntax::coefficient::NextPair;
 ghost use mathlib.Core.Path.{_≡_};
 ghost use Prim.Native.Nat.{_≤_};
 ghost use Rattle.bits.specs.Bits.{InBytes};
@@ -36,16 +36,16 @@ pub fn lay_pairs(
     let mut count: u8 = 0;
     let mut end = place + 1;
     loop {
-        match slice_syntax::coefficient::read_turn(codes, bytes, at, first, next) {
-            Turn::Refused(refusal, refused) => {
+        match slice_syntax::coefficient::read_next_pair(codes, bytes, at, first, next) {
+            NextPair::Refused(refusal, refused) => {
                 return Laying::Refused(refusal, refused);
             }
-            Turn::End(after) => {
+            NextPair::End(after) => {
                 byte_layout::lay_u8(buffer, place, count);
                 let size = end - place;
                 return Laying::Done(after, size);
             }
-            Turn::Pair(run, level, after) => {
+            NextPair::Pair(run, level, after) => {
                 record_layout::lay_pair(buffer, end, run, level);
                 at = after;
                 first = false;

@@ -13,8 +13,8 @@ use Rattle.code_tables.specs.declared.code.Code.{Code}
 use Rattle.code_tables.specs.declared.code.Code.the-variants as Code
 use Rattle.coefficient_codes.specs.declared.coefficient.Coefficient.{Coefficient}
 use Rattle.coefficient_codes.specs.declared.coefficient.Coefficient.the-variants as Coefficient
-use Rattle.slice_syntax.specs.declared.coefficient.Turn.{Turn}
-use Rattle.slice_syntax.specs.declared.coefficient.Turn.the-variants as Turn
+use Rattle.slice_syntax.specs.declared.coefficient.NextPair.{NextPair}
+use Rattle.slice_syntax.specs.declared.coefficient.NextPair.the-variants as NextPair
 use Rattle.slice_syntax.specs.declared.step.Step.{Step}
 use Rattle.slice_syntax.specs.declared.step.Step.the-variants.{Value, Refused}
 use Rattle.slice_syntax.specs.declared.extra.Skipped.{Skipped}
@@ -42,11 +42,11 @@ differenceAnswer (read difference at) = Difference.Read difference at
 differenceAnswer (refused refusal at) = Difference.Refused refusal at
 
 -- a pair, if it lands within the block
-unfoldable pub turnOf : ℕ → Coefficient → Position → Turn
-turnOf next (Coefficient.Pair run level n) at = only (leb (next + run) 63) (Turn.Refused SliceCode at) (Turn.Pair run level (advanced at n))
-turnOf next (Coefficient.EndOfBlock n) at = Turn.End (advanced at n)
-turnOf next Coefficient.NoCode at = Turn.Refused SliceCode at
-turnOf next Coefficient.Short at = Turn.Refused SliceCut at
+unfoldable pub nextPairOf : ℕ → Coefficient → Position → NextPair
+nextPairOf next (Coefficient.Pair run level n) at = only (leb (next + run) 63) (NextPair.Refused SliceCode at) (NextPair.Pair run level (advanced at n))
+nextPairOf next (Coefficient.EndOfBlock n) at = NextPair.End (advanced at n)
+nextPairOf next Coefficient.NoCode at = NextPair.Refused SliceCode at
+nextPairOf next Coefficient.Short at = NextPair.Refused SliceCut at
 
 -- a code that ends where bytes can
 abbrev pub CodeFits : Position → Code → Type 0

@@ -76,8 +76,8 @@ afterHeadAt h row scale bytes at =
     readThen (macroblocksAt h bytes after) λ rest end.
     read (record { scale = scale; start = startAddress h row increment; macroblocks = first ∷ rest }) end
 
-unfoldable pub sliceOf : Header → List ℕ → Read SliceFields
-sliceOf h bytes =
+unfoldable pub rawSliceOf : Header → List ℕ → Read SliceFields
+rawSliceOf h bytes =
     readThen (sliceHeadOf (h .size .height) bytes) λ head at.
     afterHeadAt h (head .row) (head .scale) bytes at
 

@@ -1,7 +1,7 @@
 use mathlib.Core.Path.{_≡_, ap, sym, _∙_}
 use borrow.Author.Needs.{needs}
 use Rattle.bits.specs.declared.Window.{Window}
-use Rattle.bits.specs.Bits.{numberOf, bitsFrom}
+use Rattle.bits.specs.Bits.{leadingNumber, bitsFrom}
 use Rattle.bits.proofs.Zeros.{not-zeros, zeros-past, rest-zeros}
 use Rattle.bits.proofs.only_zeros_left.Statement.{statement}
 use Rattle.bits.proofs.only_zeros_left.Tie as tie
@@ -16,7 +16,7 @@ next-bits-requires c κs = search needs
 
 -- src/lib.rt:125:9
 -- the window's number is that of the next 32 bits
-number : (c : tie.After-next-bits) → c .next-bits .result .bits ≡ numberOf 32 (bitsFrom (c .before .before .args .bytes .now) (c .before .before .args .at))
+number : (c : tie.After-next-bits) → c .next-bits .result .bits ≡ leadingNumber 32 (bitsFrom (c .before .before .args .bytes .now) (c .before .before .args .at))
 number c = ap (λ (w : Window). w .bits) (c .next-bits .ensures)
 
 returns : tie.Need-returns

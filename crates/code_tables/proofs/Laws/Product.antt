@@ -11,7 +11,7 @@ use lib.Seq.{take-all}
 use borrow.Author.Tests.{eqb-true, eq-eqb, lt-ltb, le-ltb}
 use Rattle.lists.specs.Tab.{tab}
 use Rattle.lists.proofs.Test.{and-left, and-right}
-use Rattle.bits.specs.Bits.{bitsOf, numberOf}
+use Rattle.bits.specs.Bits.{bitsOf, leadingNumber}
 use Rattle.bits.proofs.Number.{Binary, bits-length, bits-number, number-below, bits-same}
 use Rattle.code_tables.specs.declared.code.Code.{Code}
 use Rattle.code_tables.specs.declared.code.Code.the-variants.{Value}
@@ -204,7 +204,7 @@ field-code k {b} p = elim (decLe k (length b)) [
 ]
   where
     v : ℕ
-    v = numberOf k b
+    v = leadingNumber k b
 
     listed-here : In (record { bits = bitsOf k v; value = v }) (tab (2 ^ k) (λ v. record { bits = bitsOf k v; value = v }))
     listed-here = in-tab (2 ^ k) (λ v. record { bits = bitsOf k v; value = v }) v (number-below k p)

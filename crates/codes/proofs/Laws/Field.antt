@@ -11,7 +11,7 @@ use lib.Pow.{pow-add, pow-pos}
 use borrow.Author.Tests.{lt-ltb, le-ltb}
 use Rattle.bits.specs.declared.Window.{Window}
 use Rattle.bits.specs.declared.Position.{Position}
-use Rattle.bits.specs.Bits.{numberOf, bitsIn, bitsFrom, windowOf}
+use Rattle.bits.specs.Bits.{leadingNumber, bitsIn, bitsFrom, windowOf}
 use Rattle.bits.proofs.Number.{number-take}
 use Rattle.bits.proofs.Rest.{window-length, window-part, window-bits, rest-binary, drop-take}
 use Rattle.code_tables.specs.declared.code.Code.{Code}
@@ -102,4 +102,4 @@ unfolding fieldOf
 field-length k l v n e =
     case (ltb (length l) k)
     (λ t. let bad : Short ≡ Value v n = rw t at e in absurd (let z : _≡_ {A = ℕ} 0 1 = cc in omega arith))
-    (λ t. let good : Value (numberOf k l) k ≡ Value v n = rw t at e in cc)
+    (λ t. let good : Value (leadingNumber k l) k ≡ Value v n = rw t at e in cc)

@@ -8,7 +8,7 @@ use lib.Dec.{T, leb, leb→le, ltb, eqb}
 use lib.ListN.{length}
 use borrow.Author.Tests.{ltb-false}
 use Rattle.lists.proofs.Test.{and-left, and-right}
-use Rattle.bits.specs.Bits.{numberOf}
+use Rattle.bits.specs.Bits.{leadingNumber}
 use Rattle.bits.proofs.Number.{Binary, number-below}
 use Rattle.code_tables.specs.declared.code.Code.the-variants as C
 use Rattle.code_tables.specs.Code.{Word, word, digitsOf, codeOf, fieldOf}
@@ -89,7 +89,7 @@ field-read k {b} v n p e =
     case (ltb (length b) k)
     (λ t. absurd (let bad : C.Short ≡ C.Value v n = rw t at e in let z : _≡_ {A = ℕ} 0 1 = cc in omega arith))
     (λ t.
-    let good : C.Value (numberOf k b) k ≡ C.Value v n = rw t at e in
-    let value : numberOf k b ≡ v = cc in
+    let good : C.Value (leadingNumber k b) k ≡ C.Value v n = rw t at e in
+    let value : leadingNumber k b ≡ v = cc in
     let count : k ≡ n = cc in
     record { small = subst (λ (x : ℕ). x < 2 ^ k) value (number-below k p); long = sym count; inside = omega (arith, ltb-false (length b) k t) })

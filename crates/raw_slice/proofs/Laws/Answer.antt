@@ -28,7 +28,7 @@ use Rattle.slice_records.specs.Laying.{LaidAt}
 use Rattle.slice_records.specs.declared.laying.Laying.{Laying}
 use Rattle.slice_records.specs.declared.laying.Laying.the-variants.{Done, Refused}
 use Rattle.raw_slice.specs.Laying.{endOf}
-use Rattle.raw_slice.specs.Answer.{Outcome, refusedAt, acceptedWith, fitted, readOutcome}
+use Rattle.raw_slice.specs.Answer.{Outcome, refusedOutcome, acceptedWith, fitted, readOutcome}
 
 pub empty-list : (l : List ℕ) → length l ≡ 0 → l ≡ []
 empty-list [] e = refl
@@ -64,7 +64,7 @@ unfolding offsetAfter
 whole e h r = omega (arith, e)
 
 module _ (x : Read SliceFields) {p : Position} {n : ℕ} (m : Measured x p n) (buffer : List ℕ) (room : length buffer < farthest) where
-  pub too-long : length buffer < n → readOutcome x buffer ≡ refusedAt Refusal.RecordsLength firstBit buffer
+  pub too-long : length buffer < n → readOutcome x buffer ≡ refusedOutcome Refusal.RecordsLength firstBit buffer
   unfolding fitted only
   too-long h = rw (m .is, lt-leb (length (recordsOf (m .slice))) (length buffer) longer)
     where

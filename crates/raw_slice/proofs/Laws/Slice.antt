@@ -26,7 +26,7 @@ use Rattle.codes.proofs.Laws.Range as Known
 use Rattle.slice_syntax.specs.Read.{Read, read, refused, readThen, readCode, wordAt}
 use Rattle.slice_syntax.specs.Increment.{afterStuffing, amountOf, afterEscape, incrementAt}
 use Rattle.slice_syntax.specs.Macroblock.{HeadFields, RestFields, headAt, restAt, fieldsWith, macroblockAt}
-use Rattle.slice_syntax.specs.Slice.{SliceFields, macroblocksAt, startAddress, sliceHeadOf, afterHeadAt, sliceOf, recordsOf}
+use Rattle.slice_syntax.specs.Slice.{SliceFields, macroblocksAt, startAddress, sliceHeadOf, afterHeadAt, rawSliceOf, recordsOf}
 use Rattle.slice_records.specs.Laying.{LaidAt, restBytes}
 use Rattle.slice_records.specs.declared.laying.Laying.{Laying}
 use Rattle.slice_records.specs.declared.laying.Laying.the-variants.{Done, Refused}
@@ -94,8 +94,8 @@ module _ (h : Header) (row scale : ℕ) (bytes : List ℕ) (at : Position) where
     unfolding afterHeadAt
     first-read f = rw (e, f)
 
-pub no-start : (h : Header) (bytes : List ℕ) {refusal : Refusal} {p : Position} → sliceHeadOf (h .size .height) bytes ≡ refused refusal p → sliceOf h bytes ≡ refused refusal p
-unfolding sliceOf
+pub no-start : (h : Header) (bytes : List ℕ) {refusal : Refusal} {p : Position} → sliceHeadOf (h .size .height) bytes ≡ refused refusal p → rawSliceOf h bytes ≡ refused refusal p
+unfolding rawSliceOf
 no-start h bytes e = rw e
 
 -- ---- their bytes

@@ -17,9 +17,9 @@ use Rattle.slice_syntax.specs.declared.extra.Skipped.the-variants as Skipped
 use Rattle.slice_syntax.proofs.Laws.Read.{Onward, Ahead, reached, taken, first-inside, code-onward, field-onward}
 use Rattle.slice_syntax.proofs.Laws.Onward.{extra-onward}
 use Rattle.slice_syntax.proofs.Laws.Words.{start-read}
-use Rattle.raw_slice.specs.Laying.{startOf}
-use Rattle.raw_slice.specs.declared.head.SliceStart.{SliceStart}
-use Rattle.raw_slice.specs.declared.head.SliceStart.the-variants as Start
+use Rattle.raw_slice.specs.Laying.{sliceHeadAnswer}
+use Rattle.raw_slice.specs.declared.head.SliceHeadAnswer.{SliceHeadAnswer}
+use Rattle.raw_slice.specs.declared.head.SliceHeadAnswer.the-variants as Head
 
 pub skipped-to : {r : Skipped} (x : Read (Unit {0})) {p : Position} → r ≡ skippedOf x → r ≡ Skipped.To p → x ≡ read tt p
 skipped-to (read u q) {p} e f = let end : q ≡ p = cc in ap (λ (y : Position). read tt y) end
@@ -29,17 +29,17 @@ pub skipped-refused : {r : Skipped} (x : Read (Unit {0})) {refusal : Refusal} {p
 skipped-refused (read a q) e f = let z : _≡_ {A = ℕ} 0 1 = cc in absurd (omega arith)
 skipped-refused (refused refusal q) e f = cc
 
-pub start-found : {r : SliceStart} (x : Read SliceHead) {row scale : ℕ} {p : Position} → r ≡ startOf x → r ≡ Start.Read row scale p → x ≡ read (record { row = row; scale = scale }) p
-start-found (read a q) {row} {scale} {p} e f =
+pub head-found : {r : SliceHeadAnswer} (x : Read SliceHead) {row scale : ℕ} {p : Position} → r ≡ sliceHeadAnswer x → r ≡ Head.Read row scale p → x ≡ read (record { row = row; scale = scale }) p
+head-found (read a q) {row} {scale} {p} e f =
     let c : a .row ≡ row = cc in
     let d : a .scale ≡ scale = cc in
     let end : q ≡ p = cc in
     λ i. read (record { row = c i; scale = d i }) (end i)
-start-found (refused refusal q) e f = let z : _≡_ {A = ℕ} 0 1 = cc in absurd (omega arith)
+head-found (refused refusal q) e f = let z : _≡_ {A = ℕ} 0 1 = cc in absurd (omega arith)
 
-pub start-refused : {r : SliceStart} (x : Read SliceHead) {refusal : Refusal} {p : Position} → r ≡ startOf x → r ≡ Start.Refused refusal p → x ≡ refused refusal p
-start-refused (read a q) e f = let z : _≡_ {A = ℕ} 0 1 = cc in absurd (omega arith)
-start-refused (refused refusal q) e f = cc
+pub head-refused : {r : SliceHeadAnswer} (x : Read SliceHead) {refusal : Refusal} {p : Position} → r ≡ sliceHeadAnswer x → r ≡ Head.Refused refusal p → x ≡ refused refusal p
+head-refused (read a q) e f = let z : _≡_ {A = ℕ} 0 1 = cc in absurd (omega arith)
+head-refused (refused refusal q) e f = cc
 
 -- the start code: its row, and where it ends
 module _ (height : ℕ) (bytes : List ℕ) where

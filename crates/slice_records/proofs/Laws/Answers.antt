@@ -13,7 +13,7 @@ use Rattle.slice_syntax.specs.declared.vectors.Motion.{Motion}
 use Rattle.slice_syntax.specs.declared.vectors.Motion.the-variants as Motion
 use Rattle.slice_syntax.specs.declared.difference.Difference.{Difference}
 use Rattle.slice_syntax.specs.declared.difference.Difference.the-variants as Difference
-use Rattle.slice_records.specs.Laying.{headOf}
+use Rattle.slice_records.specs.Laying.{headAnswer}
 use Rattle.slice_records.specs.declared.head.Head.{Head}
 use Rattle.slice_records.specs.declared.head.Head.the-variants as Head
 
@@ -37,7 +37,7 @@ pub difference-refused : (x : Read ℤ) {r : Difference} {refusal : Refusal} {p 
 difference-refused (read a q) e f = let z : _≡_ {A = ℕ} 0 1 = cc in absurd (omega arith)
 difference-refused (refused refusal q) e f = cc
 
-pub head-read : (x : Read HeadFields) {r : Head} {flags scale : ℕ} {p : Position} → r ≡ headOf x → r ≡ Head.Read flags scale p → x ≡ read (record { flags = flags; scale = scale }) p
+pub head-read : (x : Read HeadFields) {r : Head} {flags scale : ℕ} {p : Position} → r ≡ headAnswer x → r ≡ Head.Read flags scale p → x ≡ read (record { flags = flags; scale = scale }) p
 head-read (read a q) {r} {flags} {scale} {p} e f =
     let c : a .flags ≡ flags = cc in
     let d : a .scale ≡ scale = cc in
@@ -45,6 +45,6 @@ head-read (read a q) {r} {flags} {scale} {p} e f =
     λ i. read (record { flags = c i; scale = d i }) (end i)
 head-read (refused refusal q) e f = let z : _≡_ {A = ℕ} 0 1 = cc in absurd (omega arith)
 
-pub head-refused : (x : Read HeadFields) {r : Head} {refusal : Refusal} {p : Position} → r ≡ headOf x → r ≡ Head.Refused refusal p → x ≡ refused refusal p
+pub head-refused : (x : Read HeadFields) {r : Head} {refusal : Refusal} {p : Position} → r ≡ headAnswer x → r ≡ Head.Refused refusal p → x ≡ refused refusal p
 head-refused (read a q) e f = let z : _≡_ {A = ℕ} 0 1 = cc in absurd (omega arith)
 head-refused (refused refusal q) e f = cc

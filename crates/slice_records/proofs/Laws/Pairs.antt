@@ -26,9 +26,9 @@ use Rattle.coefficient_codes.specs.declared.coefficient.Coefficient.{Coefficien
 use Rattle.coefficient_codes.specs.declared.coefficient.Coefficient.the-variants.{Pair, EndOfBlock, NoCode, Short}
 use Rattle.slice_syntax.specs.Read.{Read, read, refused, readThen}
 use Rattle.slice_syntax.specs.Blocks.{coefficientThen, pairsFrom, pairsAt}
-use Rattle.slice_syntax.specs.Answers.{turnOf}
-use Rattle.slice_syntax.specs.declared.coefficient.Turn.{Turn}
-use Rattle.slice_syntax.specs.declared.coefficient.Turn.the-variants as Turn
+use Rattle.slice_syntax.specs.Answers.{nextPairOf}
+use Rattle.slice_syntax.specs.declared.coefficient.NextPair.{NextPair}
+use Rattle.slice_syntax.specs.declared.coefficient.NextPair.the-variants as NextPair
 use Rattle.slice_syntax.proofs.Laws.Coefficient.{pair-read, end-read}
 
 -- pairs behind others
@@ -51,12 +51,12 @@ none-other : {A : Type 0} → _≡_ {A = ℕ} 0 1 → A
 none-other e = absurd (omega arith)
 
 module _ (next : ℕ) (at : Position) where
-  pub turn-pair : (c : Coefficient) {run : ℕ} {level : ℤ} {p : Position} → turnOf next c at ≡ Turn.Pair run level p → PairTurn next c at run level p
-  unfolding turnOf only
+  pub turn-pair : (c : Coefficient) {run : ℕ} {level : ℤ} {p : Position} → nextPairOf next c at ≡ NextPair.Pair run level p → PairTurn next c at run level p
+  unfolding nextPairOf only
   turn-pair (Pair r l n) {run} {level} {p} e =
       case (leb (next + r) 63)
       (λ t.
-      let same : Turn.Pair r l (advanced at n) ≡ Turn.Pair run level p = rw t at e in
+      let same : NextPair.Pair r l (advanced at n) ≡ NextPair.Pair run level p = rw t at e in
       let a : r ≡ run = cc in
       let b : l ≡ level = cc in
       let d : p ≡ advanced at n = cc in
@@ -66,8 +66,8 @@ module _ (next : ℕ) (at : Position) where
   turn-pair NoCode e = let z : _≡_ {A = ℕ} 0 1 = cc in none-other z
   turn-pair Short e = let z : _≡_ {A = ℕ} 0 1 = cc in none-other z
 
-  pub turn-end : (c : Coefficient) {p : Position} → turnOf next c at ≡ Turn.End p → EndTurn c at p
-  unfolding turnOf only
+  pub turn-end : (c : Coefficient) {p : Position} → nextPairOf next c at ≡ NextPair.End p → EndTurn c at p
+  unfolding nextPairOf only
   turn-end (Pair r l n) e =
       case (leb (next + r) 63)
       (λ t. let z : _≡_ {A = ℕ} 0 1 = cc (rw t at e) in none-other z)
@@ -77,14 +77,14 @@ module _ (next : ℕ) (at : Position) where
   turn-end Short e = let z : _≡_ {A = ℕ} 0 1 = cc in none-other z
 
   -- a refused turn refuses the block
-  pub turn-refused : {A : Type 0} (c : Coefficient) {refusal : Refusal} {p : Position} → turnOf next c at ≡ Turn.Refused refusal p
+  pub turn-refused : {A : Type 0} (c : Coefficient) {refusal : Refusal} {p : Position} → nextPairOf next c at ≡ NextPair.Refused refusal p
       → (more : ℕ → ℤ → Position → Read A) (done : Position → Read A)
       → coefficientThen c at (λ run level after. only (leb (next + run) 63) (refused SliceCode at) (more run level after)) done ≡ refused refusal p
-  unfolding turnOf only
+  unfolding nextPairOf only
   turn-refused (Pair r l n) e more done =
       case (leb (next + r) 63)
       (λ t. let z : _≡_ {A = ℕ} 0 1 = cc (rw t at e) in none-other z)
-      (λ t. rw t (let same : Turn.Refused SliceCode at ≡ Turn.Refused _ _ = rw t at e in cc))
+      (λ t. rw t (let same : NextPair.Refused SliceCode at ≡ NextPair.Refused _ _ = rw t at e in cc))
   turn-refused (EndOfBlock n) e more done = let z : _≡_ {A = ℕ} 0 1 = cc in none-other z
   turn-refused NoCode e more done = cc
   turn-refused Short e more done = cc
@@ -131,7 +131,7 @@ module _ (bytes : List ℕ) (at : Position) (first : Bool) (next : ℕ) where
   abbrev coefficient : Coefficient
   coefficient = coefficientOf (wordsOf first) (bitsFrom bytes at)
 
-  from-refused : (n : ℕ) {refusal : Refusal} {p : Position} → 65 ≤ n + next → next ≤ 64 → turnOf next coefficient at ≡ Turn.Refused refusal p → pairsFrom n first next bytes at ≡ refused refusal p
+  from-refused : (n : ℕ) {refusal : Refusal} {p : Position} → 65 ≤ n + next → next ≤ 64 → nextPairOf next coefficient at ≡ NextPair.Refused refusal p → pairsFrom n first next bytes at ≡ refused refusal p
   unfolding pairsFrom
   from-refused zero h k e = absurd (omega arith)
   from-refused (suc n) h k e = turn-refused next at coefficient e _ _
@@ -155,11 +155,11 @@ module _ (bytes : List ℕ) (at : Position) (first : Bool) (next : ℕ) where
     pub begun-same : length after ≡ length before
     begun-same = ap length (s .there) ∙ laid-length (place + 1) (pairsBytes (s .pairs)) before
 
-    pub begun-refused : {refusal : Refusal} {p : Position} → turnOf next coefficient at ≡ Turn.Refused refusal p → whole ≡ refused refusal p
+    pub begun-refused : {refusal : Refusal} {p : Position} → nextPairOf next coefficient at ≡ NextPair.Refused refusal p → whole ≡ refused refusal p
     begun-refused e = sym (s .same) ∙ rw (from-refused (s .fuel) (s .enough) (s .near) e)
 
     -- at the end, the count is laid before the pairs
-    pub begun-end : {p : Position} → turnOf next coefficient at ≡ Turn.End p → whole ≡ read (s .pairs) p
+    pub begun-end : {p : Position} → nextPairOf next coefficient at ≡ NextPair.End p → whole ≡ read (s .pairs) p
     begun-end {p} e = sym (s .same) ∙ rw (from-end (s .fuel) (s .enough) (s .near) (turn-end next at coefficient e)) (ap (λ (l : List PairFields). read l p) (append-nil (s .pairs)))
 
     pub begun-length : end ≡ place + length (levelsBytes (s .pairs))
@@ -168,7 +168,7 @@ module _ (bytes : List ℕ) (at : Position) (first : Bool) (next : ℕ) where
     pub begun-laid : {last : List ℕ} → last ≡ laid place (count ∷ []) after → last ≡ laid place (levelsBytes (s .pairs)) before
     begun-laid e = e ∙ rw (← s .counted, s .there) (laid-count place (s .pairs) before)
 
-    pub pair-within : {run : ℕ} {level : ℤ} {p : Position} → turnOf next coefficient at ≡ Turn.Pair run level p → (next + run ≤ 63) × InBytes bytes p
+    pub pair-within : {run : ℕ} {level : ℤ} {p : Position} → nextPairOf next coefficient at ≡ NextPair.Pair run level p → (next + run ≤ 63) × InBytes bytes p
     pair-within {run} {level} {p} e =
         let t = turn-pair next at coefficient e in
         (t .lands, subst (λ (q : Position). InBytes bytes q) (sym (t .end)) (in-bytes-advanced (t .size) (s .inside) (pair-read first bytes at (t .found) .inside)))
@@ -176,7 +176,7 @@ module _ (bytes : List ℕ) (at : Position) (first : Bool) (next : ℕ) where
     more-fuel : (n : ℕ) → 65 ≤ n + next → n ≡ suc (n - 1)
     more-fuel n h = omega (arith, s .near)
 
-    pub begun-more : {run : ℕ} {level : ℤ} {p : Position} {later : List ℕ} → turnOf next coefficient at ≡ Turn.Pair run level p → later ≡ laid end (pairBytes run level) after
+    pub begun-more : {run : ℕ} {level : ℤ} {p : Position} {later : List ℕ} → nextPairOf next coefficient at ≡ NextPair.Pair run level p → later ≡ laid end (pairBytes run level) after
         → Begun bytes whole place before later p false (next + run + 1) (count + 1) (end + 3)
     begun-more {run} {level} {p} {later} e f =
         let t = turn-pair next at coefficient e in

@@ -8,19 +8,19 @@ use lib.ListN.{length}
 use Rattle.bits.specs.declared.Position.{Position}
 use Rattle.byte_layout.specs.Laid.{farthest}
 use Rattle.slice_syntax.specs.Read.{Read}
-use Rattle.slice_syntax.specs.Slice.{SliceFields, recordsOf, sliceOf}
+use Rattle.slice_syntax.specs.Slice.{SliceFields, recordsOf, rawSliceOf}
 use Rattle.slice_records.specs.Laying.{LaidAt}
 use Rattle.raw_slice.specs.Answer.{Outcome}
-use Rattle.raw_slice.specs.declared.entry.SliceAnswer.{SliceAnswer}
+use Rattle.raw_slice.specs.declared.entry.RawSliceAnswer.{RawSliceAnswer}
 use Rattle.raw_slice.proofs.Laws.Answer.{Measured, measured, unmeasured, too-long, it-fits, whole-size, laid-there}
 use Rattle.raw_slice.proofs.entry.read_into.Statement.{statement}
 use Rattle.raw_slice.proofs.entry.read_into.Tie as tie
 
 abbrev slice : (s : tie.Start) → Read SliceFields
-slice s = sliceOf (s .args .header) (s .args .bytes .now)
+slice s = rawSliceOf (s .args .header) (s .args .bytes .now)
 
 -- the answer to an accepted slice, by the size of its records
-answer-of : (p : Position) {n m : ℕ} → n ≡ m → _≡_ {A = SliceAnswer} (record { number = 0; written = n; byte = p .byte; bit = p .bit }) (record { number = 0; written = m; byte = p .byte; bit = p .bit })
+answer-of : (p : Position) {n m : ℕ} → n ≡ m → _≡_ {A = RawSliceAnswer} (record { number = 0; written = n; byte = p .byte; bit = p .bit }) (record { number = 0; written = m; byte = p .byte; bit = p .bit })
 answer-of p e = λ i. record { number = 0; written = e i; byte = p .byte; bit = p .bit }
 
 code-table-requires : tie.Need-code-table-requires

@@ -4,7 +4,7 @@ use borrow.Author.Needs.{needs}
 use Rattle.picture_header.specs.Header.{headerWith}
 use Rattle.picture_header.specs.declared.header.HeaderAnswer.the-variants as Header
 use Rattle.picture_header.proofs.Laws.Header.{made-within}
-use Rattle.raw_slice.specs.Answer.{given, outcomeOf}
+use Rattle.raw_slice.specs.Answer.{given, rawSliceOutcome}
 use Rattle.raw_slice.proofs.Laws.Answer.{legal-height}
 use Rattle.raw_slice.proofs.entry.read_slice.Statement.{statement}
 use Rattle.raw_slice.proofs.entry.read_slice.Tie as tie
@@ -32,7 +32,7 @@ read-into-requires : tie.Need-read-into-requires
 read-into-requires c κs = let t = c .before in (made-within _ .within _ (legal t), legal-height _ (legal t))
 
 returns : tie.Need-returns
-unfolding outcomeOf
+unfolding rawSliceOutcome
 returns c =
     let g = c .before .before .before .before in
     rw (sym (g .header-given .ensures) ∙ c .before .before .refusal .given .1) (c .refused .ensures, refl)
@@ -41,7 +41,7 @@ same-length : tie.Need-same-length
 same-length c = search needs
 
 returns-2 : tie.Need-returns-2
-unfolding outcomeOf
+unfolding rawSliceOutcome
 returns-2 c = let l = c .before .before in rw (legal (l .before .before)) (l .read-into .ensures)
 
 pub read-slice-spec : {M : Type 1} → statement M

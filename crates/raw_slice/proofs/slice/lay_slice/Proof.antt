@@ -3,9 +3,9 @@ use mathlib.Core.Path.{_≡_, refl}
 use native.Mathlib.Omega.{arith}
 use borrow.Author.Needs.{needs}
 use Rattle.slice_syntax.specs.Read.{read}
-use Rattle.slice_syntax.specs.Slice.{sliceHeadOf, sliceOf}
+use Rattle.slice_syntax.specs.Slice.{sliceHeadOf, rawSliceOf}
 use Rattle.slice_records.proofs.Laws.Laying.{not-laid}
-use Rattle.raw_slice.proofs.Laws.Start.{start-found, start-refused, head-row}
+use Rattle.raw_slice.proofs.Laws.Start.{head-found, head-refused, head-row}
 use Rattle.raw_slice.proofs.Laws.Slice.{no-start}
 use Rattle.raw_slice.proofs.slice.lay_slice.Statement.{statement}
 use Rattle.raw_slice.proofs.slice.lay_slice.Tie as tie
@@ -13,8 +13,8 @@ use Rattle.raw_slice.proofs.slice.lay_slice.Tie as tie
 cast-height : tie.Need-cast-height
 cast-height c = omega (arith, c .before .before .before .before .pre .2)
 
-read-slice-start-requires : tie.Need-read-slice-start-requires
-read-slice-start-requires c κs = search needs
+read-slice-head-requires : tie.Need-read-slice-head-requires
+read-slice-head-requires c κs = search needs
 
 enum-known-refusal : tie.Need-enum-known-refusal
 enum-known-refusal c = search needs
@@ -27,7 +27,7 @@ module _ (c : tie.After-known-told2) where
   start = c .before .before .before .before .before .before .before .before
 
   head : sliceHeadOf (start .args .header .size .height) (start .args .bytes .now) ≡ read (record { row = c .before .row .given .0 .0; scale = c .before .row .given .0 .1 .0 }) (c .before .row .given .0 .1 .1 .0)
-  head = start-found _ (c .before .before .before .read-slice-start .ensures) (c .before .row .given .1)
+  head = head-found _ (c .before .before .before .read-slice-head .ensures) (c .before .row .given .1)
 
 lay-records-requires : tie.Need-lay-records-requires
 lay-records-requires c κs =
@@ -40,14 +40,14 @@ returns : tie.Need-returns
 returns c =
     let r = c .before .before .before in
     let s = r .before .before .before .before .before in
-    let e = no-start (s .args .header) (s .args .bytes .now) (start-refused (sliceHeadOf (s .args .header .size .height) (s .args .bytes .now)) (r .read-slice-start .ensures) (c .before .refusal .given .1)) in
+    let e = no-start (s .args .header) (s .args .bytes .now) (head-refused (sliceHeadOf (s .args .header .size .height) (s .args .bytes .now)) (r .read-slice-head .ensures) (c .before .refusal .given .1)) in
     (rw e refl, not-laid _ e)
 
 same-length : tie.Need-same-length
 same-length c = search needs
 
 returns-2 : tie.Need-returns-2
-unfolding sliceOf
+unfolding rawSliceOf
 returns-2 c = let l = c .before .before in rw (head (l .before .before)) (l .lay-records .ensures)
 
 pub lay-slice-spec : {M : Type 1} → statement M
@@ -55,7 +55,7 @@ lay-slice-spec =
     tie.close
     (tie.spec
     cast-height
-    read-slice-start-requires
+    read-slice-head-requires
     enum-known-refusal
     enum-known-row
     lay-records-requires

@@ -13,8 +13,8 @@ use Rattle.byte_layout.proofs.Laws.Laid.{laid-length}
 use Rattle.coefficient_codes.specs.Coefficient.{wordsOf, coefficientOf}
 use Rattle.record_layout.specs.Records.{pairBytes, levelsBytes}
 use Rattle.slice_syntax.specs.Blocks.{pairsAt}
-use Rattle.slice_syntax.specs.Answers.{turnOf}
-use Rattle.slice_syntax.specs.declared.coefficient.Turn.the-variants as Turn
+use Rattle.slice_syntax.specs.Answers.{nextPairOf}
+use Rattle.slice_syntax.specs.declared.coefficient.NextPair.the-variants as NextPair
 use Rattle.slice_records.specs.declared.laying.Laying.the-variants.{Done}
 use Rattle.slice_records.proofs.Laws.Laying.{laid-as, not-laid}
 use Rattle.slice_records.proofs.Laws.Pairs.{Begun, begun-none, begun-refused, begun-end, begun-length, begun-laid, begun-more, begun-same, pair-within}
@@ -40,8 +40,8 @@ loop-holds c =
     let s = c .before .before .before in
     rw (c .first-position .ensures) (begun-none (s .args .bytes .now) (s .args .intra) (s .args .place) (s .args .buffer .now) (s .args .from) (s .pre .1))
 
-read-turn-requires : tie.Need-read-turn-requires Inv-loop μ-loop
-read-turn-requires c κs = (c .before .before .before .before .pre .0, c .loop .inv .inside, c .loop .inv .near)
+read-next-pair-requires : tie.Need-read-next-pair-requires Inv-loop μ-loop
+read-next-pair-requires c κs = (c .before .before .before .before .pre .0, c .loop .inv .inside, c .loop .inv .near)
 
 enum-known-refusal : tie.Need-enum-known-refusal Inv-loop μ-loop
 enum-known-refusal c = search needs
@@ -52,7 +52,7 @@ same-length c = begun-same _ _ _ _ (c .before .before .before .before .loop .inv
 returns : tie.Need-returns Inv-loop μ-loop
 returns c =
     let r = c .before .before .before in
-    let e = begun-refused _ _ _ _ (r .before .loop .inv) (sym (r .read-turn .ensures) ∙ c .before .refusal .given .1) in
+    let e = begun-refused _ _ _ _ (r .before .loop .inv) (sym (r .read-next-pair .ensures) ∙ c .before .refusal .given .1) in
     (rw e refl, not-laid levelsBytes e)
 
 enum-known-after : tie.Need-enum-known-after Inv-loop μ-loop
@@ -65,14 +65,14 @@ module _ (c : tie.After-slice-known2 Inv-loop μ-loop) where
   abbrev laidCount : tie.After-lay-u8 Inv-loop μ-loop
   laidCount = c .before .before
 
-  abbrev turned : tie.After-read-turn Inv-loop μ-loop
+  abbrev turned : tie.After-read-next-pair Inv-loop μ-loop
   turned = laidCount .before .before .before .before .before
 
   abbrev looped : tie.At-loop Inv-loop μ-loop
   looped = turned .before
 
-  ended : turnOf (looped .loop .next) (coefficientOf (wordsOf (looped .loop .first)) (bitsFrom (looped .before .before .before .before .args .bytes .now) (looped .loop .at))) (looped .loop .at) ≡ Turn.End (laidCount .before .before .before .after .given .0 .0)
-  ended = sym (turned .read-turn .ensures) ∙ laidCount .before .before .before .after .given .1
+  ended : nextPairOf (looped .loop .next) (coefficientOf (wordsOf (looped .loop .first)) (bitsFrom (looped .before .before .before .before .args .bytes .now) (looped .loop .at))) (looped .loop .at) ≡ NextPair.End (laidCount .before .before .before .after .given .0 .0)
+  ended = sym (turned .read-next-pair .ensures) ∙ laidCount .before .before .before .after .given .1
 
 sub-size : tie.Need-sub-size Inv-loop μ-loop
 sub-size c = omega (arith, looped c .loop .inv .behindThem)
@@ -100,14 +100,14 @@ module _ (c : tie.After-slice-known3 Inv-loop μ-loop) where
   abbrev told : tie.After-known-told3 Inv-loop μ-loop
   told = laidPair .before .before
 
-  abbrev read : tie.After-read-turn Inv-loop μ-loop
+  abbrev read : tie.After-read-next-pair Inv-loop μ-loop
   read = told .before .before .before
 
   abbrev begun : tie.At-loop Inv-loop μ-loop
   begun = read .before
 
-  pair : turnOf (begun .loop .next) (coefficientOf (wordsOf (begun .loop .first)) (bitsFrom (begun .before .before .before .before .args .bytes .now) (begun .loop .at))) (begun .loop .at) ≡ Turn.Pair (told .before .run .given .0 .0) (told .before .run .given .0 .1 .0) (told .before .run .given .0 .1 .1 .0)
-  pair = sym (read .read-turn .ensures) ∙ told .before .run .given .1
+  pair : nextPairOf (begun .loop .next) (coefficientOf (wordsOf (begun .loop .first)) (bitsFrom (begun .before .before .before .before .args .bytes .now) (begun .loop .at))) (begun .loop .at) ≡ NextPair.Pair (told .before .run .given .0 .0) (told .before .run .given .0 .1 .0) (told .before .run .given .0 .1 .1 .0)
+  pair = sym (read .read-next-pair .ensures) ∙ told .before .run .given .1
 
   lands : begun .loop .next + told .before .run .given .0 .0 ≤ 63
   lands = pair-within _ _ _ _ (begun .loop .inv) pair .0
@@ -145,7 +145,7 @@ lay-pairs-spec =
     first-position-requires
     add-end
     loop-holds
-    read-turn-requires
+    read-next-pair-requires
     enum-known-refusal
     same-length
     returns

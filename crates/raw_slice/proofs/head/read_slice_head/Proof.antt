@@ -1,4 +1,4 @@
--- `read_slice_start` meets its contract: the start code, the scale, and the extra information dropped. Assumes nothing.
+-- `read_slice_head` meets its contract: the start code, the scale, and the extra information dropped. Assumes nothing.
 use mathlib.Core.Path.{_≡_, refl}
 use Prim.Native.Nat.{_+_}
 use native.Mathlib.Omega.{arith}
@@ -10,8 +10,8 @@ use Rattle.slice_syntax.specs.Read.{read, readCode, fieldAt}
 use Rattle.slice_syntax.specs.Slice.{firstBit, afterExtra, sliceHeadOf}
 use Rattle.slice_syntax.proofs.Laws.Read.{step-read, step-refused, reached, field-onward, field-below}
 use Rattle.raw_slice.proofs.Laws.Start.{skipped-to, skipped-refused, start-row}
-use Rattle.raw_slice.proofs.head.read_slice_start.Statement.{statement}
-use Rattle.raw_slice.proofs.head.read_slice_start.Tie as tie
+use Rattle.raw_slice.proofs.head.read_slice_head.Statement.{statement}
+use Rattle.raw_slice.proofs.head.read_slice_head.Tie as tie
 
 next-start-requires : tie.Need-next-start-requires
 next-start-requires c κs = search needs
@@ -96,8 +96,8 @@ returns-4 c =
     let p = k .before .scale .given .0 .1 .0 in
     rw (row (told k), scale k, skipped-to (afterExtra (1 + length (bitsFrom bytes p)) bytes p) (x .skip-extra .ensures) (c .before .end .given .1))
 
-pub read-slice-start-spec : {M : Type 1} → statement M
-read-slice-start-spec =
+pub read-slice-head-spec : {M : Type 1} → statement M
+read-slice-head-spec =
     tie.close
     (tie.spec
     next-start-requires

@@ -1,4 +1,4 @@
--- `read_turn` meets its contract: each arm is the clause of `turnOf` at its case, and a code that is read ends within the bytes. Assumes nothing.
+-- `read_next_pair` meets its contract: each arm is the clause of `nextPairOf` at its case, and a code that is read ends within the bytes. Assumes nothing.
 use mathlib.Core.Path.{_≡_, sym, _∙_}
 use native.Mathlib.Omega.{arith}
 use borrow.Author.Needs.{needs}
@@ -11,10 +11,10 @@ use Rattle.bits.specs.Bits.{bitsFrom}
 use Rattle.bits.proofs.Rest.{rest-length}
 use Rattle.coefficient_codes.specs.Coefficient.{wordsOf, coefficientOf}
 use Rattle.coefficient_codes.specs.declared.coefficient.Coefficient.the-variants.{Pair, EndOfBlock}
-use Rattle.slice_syntax.specs.Answers.{turnOf}
+use Rattle.slice_syntax.specs.Answers.{nextPairOf}
 use Rattle.slice_syntax.proofs.Laws.Coefficient.{pair-read, end-read}
-use Rattle.slice_syntax.proofs.coefficient.read_turn.Statement.{statement}
-use Rattle.slice_syntax.proofs.coefficient.read_turn.Tie as tie
+use Rattle.slice_syntax.proofs.coefficient.read_next_pair.Statement.{statement}
+use Rattle.slice_syntax.proofs.coefficient.read_next_pair.Tie as tie
 
 read-coefficient-requires : tie.Need-read-coefficient-requires
 read-coefficient-requires c κs = search needs
@@ -39,7 +39,7 @@ module _ (c : tie.After-known-told) where
   same = toZ-ofZ w16 (c .before .run .given .0 .1 .0) (record { sfits = c .known-told .given .1 .0 .1 })
 
 returns : tie.Need-returns
-unfolding turnOf only
+unfolding nextPairOf only
 returns c = rw (pair (c .before), lt-leb _ _ (c .if1 .taken))
 
 advance-requires : tie.Need-advance-requires
@@ -71,23 +71,23 @@ enum-told-2 : tie.Need-enum-told-2
 enum-told-2 c = search needs
 
 returns-2 : tie.Need-returns-2
-unfolding turnOf only
+unfolding nextPairOf only
 returns-2 c = rw (pair (c .before .before), le-leb _ _ (c .before .if1 .left), ← c .advance .ensures, same (c .before .before))
 
 returns-3 : tie.Need-returns-3
-unfolding turnOf
+unfolding nextPairOf
 returns-3 c = rw (ended (c .before), ← c .advance2 .ensures)
 
 returns-4 : tie.Need-returns-4
-unfolding turnOf
+unfolding nextPairOf
 returns-4 c = rw (sym (c .before .before .read-coefficient .ensures) ∙ c .enum-told .given .1)
 
 returns-5 : tie.Need-returns-5
-unfolding turnOf
+unfolding nextPairOf
 returns-5 c = rw (sym (c .before .before .read-coefficient .ensures) ∙ c .enum-told2 .given .1)
 
-pub read-turn-spec : {M : Type 1} → statement M
-read-turn-spec =
+pub read-next-pair-spec : {M : Type 1} → statement M
+read-next-pair-spec =
     tie.close
     (tie.spec
     read-coefficient-requires
