@@ -20,7 +20,7 @@ use Rattle.codes.specs.Difference.{dcDifferenceOf}
 use Rattle.codes.specs.SliceStart.{startPrefix, sliceStartOf}
 use Rattle.slice_syntax.specs.Increment.{afterStuffing, amountOf, afterEscape, incrementAt}
 use Rattle.slice_syntax.specs.Vectors.{residualAt, motionAt, vectorAt, givenVectorAt}
-use Rattle.slice_syntax.specs.Blocks.{sizeWords, differenceAt, pairsFrom, pairsAt, givenDifferenceAt, blockAt, codedBlockAt, blocksFrom}
+use Rattle.slice_syntax.specs.Blocks.{sizeWords, differenceAt, nextPairOf, pairsFrom, pairsAt, givenDifferenceAt, blockAt, codedBlockAt, blocksFrom}
 use Rattle.slice_syntax.specs.Macroblock.{scaleAt, headAt, vectorsAt, patternAt, residueAt, restAt, macroblockAt}
 use Rattle.slice_syntax.specs.Slice.{afterExtra, nextAt, macroblocksFrom, startAddress, sliceHeadOf, afterHeadAt, rawSliceOf}
 use Rattle.raw_slice.specs.Answer.{Outcome, given, fitted, rawSliceOutcome}
@@ -87,5 +87,5 @@ expectations [] = []
 expectations (c ∷ cs) = c .expected ∷ expectations cs
 
 worked : outcomes cases ≡ expectations cases
-unfolding rawSliceOutcome headerWith legalHeader legalSize legalCodings only fitted rawSliceOf sliceHeadOf afterHeadAt sliceStartOf startPrefix tab bits bitsFrom bitsOf isPrefix codeOf fieldOf leadingNumber allZeros afterExtra nextAt macroblocksFrom startAddress incrementAt afterStuffing amountOf afterEscape increments incrementWords incrementsAfterEscape word digitsOf headAt typesOf intraTypes predictedTypes bidirectionalTypes scaleAt vectorsAt givenVectorAt vectorAt motionAt residualAt motionCodes restAt residueAt patternAt patterns codedPattern blocksFrom codedBlockAt blockAt givenDifferenceAt isCoded firstPosition differenceAt sizeWords luminanceSizes chrominanceSizes dcDifferenceOf pairsAt pairsFrom wordsOf firstCoefficients nextCoefficients sharedWords coefficientOf finishedOf signedOf escapedOf levelOf largeOf largePositive largeNegative byteWords macroblockAt joined recordHead recordBytes sliceBody sliceRecords pairBytes levelsBytes blockBytes headBytes codeBytes codesBytes vectorsBytes patternBytes residueBytes macroblockBody complement wordBytes
+unfolding rawSliceOutcome headerWith legalHeader legalSize legalCodings only fitted rawSliceOf sliceHeadOf afterHeadAt sliceStartOf startPrefix tab bits bitsFrom bitsOf isPrefix codeOf fieldOf leadingNumber allZeros afterExtra nextAt macroblocksFrom startAddress incrementAt afterStuffing amountOf afterEscape increments incrementWords incrementsAfterEscape word digitsOf headAt typesOf intraTypes predictedTypes bidirectionalTypes scaleAt vectorsAt givenVectorAt vectorAt motionAt residualAt motionCodes restAt residueAt patternAt patterns codedPattern blocksFrom codedBlockAt blockAt givenDifferenceAt isCoded firstPosition differenceAt sizeWords luminanceSizes chrominanceSizes dcDifferenceOf pairsAt pairsFrom nextPairOf wordsOf firstCoefficients nextCoefficients sharedWords coefficientOf finishedOf signedOf escapedOf levelOf largeOf largePositive largeNegative byteWords macroblockAt joined recordHead recordBytes sliceBody sliceRecords pairBytes levelsBytes blockBytes headBytes codeBytes codesBytes vectorsBytes patternBytes residueBytes macroblockBody complement wordBytes
 worked = refl

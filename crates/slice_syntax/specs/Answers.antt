@@ -1,20 +1,11 @@
 -- What the readers of a slice's parts answer, by what is read.
-use mathlib.Core.List.{List}
 use Prim.Native.Nat.{ℕ, _+_, _<_}
-use lib.Dec.{leb}
 use lib.IntN.{ℤ}
-use Rattle.refusals.specs.declared.Refusal.{Refusal}
-use Rattle.refusals.specs.declared.Refusal.the-variants.{SliceCode, SliceCut}
-use Rattle.format3.specs.Chain.{only}
 use Rattle.symbols.specs.declared.vector_codes.VectorCode.{VectorCode}
-use Rattle.bits.specs.Bits.{offset, advanced, bitLimit}
+use Rattle.bits.specs.Bits.{offset, bitLimit}
 use Rattle.bits.specs.declared.Position.{Position}
 use Rattle.code_tables.specs.declared.code.Code.{Code}
 use Rattle.code_tables.specs.declared.code.Code.the-variants as Code
-use Rattle.coefficient_codes.specs.declared.coefficient.Coefficient.{Coefficient}
-use Rattle.coefficient_codes.specs.declared.coefficient.Coefficient.the-variants as Coefficient
-use Rattle.slice_syntax.specs.declared.coefficient.NextPair.{NextPair}
-use Rattle.slice_syntax.specs.declared.coefficient.NextPair.the-variants as NextPair
 use Rattle.slice_syntax.specs.declared.step.Step.{Step}
 use Rattle.slice_syntax.specs.declared.step.Step.the-variants.{Value, Refused}
 use Rattle.slice_syntax.specs.declared.extra.Skipped.{Skipped}
@@ -40,13 +31,6 @@ motionOf (refused refusal at) = Motion.Refused refusal at
 abbrev pub differenceAnswer : Read ℤ → Difference
 differenceAnswer (read difference at) = Difference.Read difference at
 differenceAnswer (refused refusal at) = Difference.Refused refusal at
-
--- a pair, if it lands within the block
-unfoldable pub nextPairOf : ℕ → Coefficient → Position → NextPair
-nextPairOf next (Coefficient.Pair run level n) at = only (leb (next + run) 63) (NextPair.Refused SliceCode at) (NextPair.Pair run level (advanced at n))
-nextPairOf next (Coefficient.EndOfBlock n) at = NextPair.End (advanced at n)
-nextPairOf next Coefficient.NoCode at = NextPair.Refused SliceCode at
-nextPairOf next Coefficient.Short at = NextPair.Refused SliceCut at
 
 -- a code that ends where bytes can
 abbrev pub CodeFits : Position → Code → Type 0

@@ -17,6 +17,8 @@ use Rattle.codes.specs.Difference.{dcDifferenceOf}
 use Rattle.coefficient_codes.specs.Coefficient.{wordsOf, coefficientOf}
 use Rattle.coefficient_codes.specs.declared.coefficient.Coefficient.{Coefficient}
 use Rattle.coefficient_codes.specs.declared.coefficient.Coefficient.the-variants.{Pair, EndOfBlock, NoCode, Short}
+use Rattle.slice_syntax.specs.declared.coefficient.NextPair.{NextPair}
+use Rattle.slice_syntax.specs.declared.coefficient.NextPair.the-variants as NextPair
 use Rattle.slice_syntax.specs.Read.{Read, read, refused, readThen, wordAt, fieldAt}
 
 -- dct_dc_size by the table of the block's component: blocks 0 to 3 are luminance
@@ -31,21 +33,28 @@ differenceAt block bytes at =
     readThen (fieldAt size bytes next) λ value end.
     read (dcDifferenceOf size value) end
 
--- what follows a coefficient's code, by what it is
-abbrev pub coefficientThen : {A : Type 0} → Coefficient → Position → (ℕ → ℤ → Position → Read A) → (Position → Read A) → Read A
-coefficientThen (Pair run level n) at pair end = pair run level (advanced at n)
-coefficientThen (EndOfBlock n) at pair end = end (advanced at n)
-coefficientThen NoCode at pair end = refused SliceCode at
-coefficientThen Short at pair end = refused SliceCut at
+-- the next pair of a block, where a run of 0 lands at the position `next`, or the block's end: "24 .. a whole code that takes .. a coefficient past 63"
+unfoldable pub nextPairOf : ℕ → Coefficient → Position → NextPair
+nextPairOf next (Pair run level n) at = only (leb (next + run) 63) (NextPair.Refused SliceCode at) (NextPair.Pair run level (advanced at n))
+nextPairOf next (EndOfBlock n) at = NextPair.End (advanced at n)
+nextPairOf next NoCode at = NextPair.Refused SliceCode at
+nextPairOf next Short at = NextPair.Refused SliceCut at
 
--- a block's pairs to its end, where a run of 0 lands at the position `next`: "24 .. a whole code that takes .. a coefficient past 63". Each pair lands
--- further on, so that with n + next at least 65 the first clause is never reached
+abbrev pub nextPairAt : Bool → ℕ → List ℕ → Position → NextPair
+nextPairAt first next bytes at = nextPairOf next (coefficientOf (wordsOf first) (bitsFrom bytes at)) at
+
+-- go on with the pair, or with the end
+abbrev pub pairThen : {A : Type 0} → NextPair → (ℕ → ℤ → Position → Read A) → (Position → Read A) → Read A
+pairThen (NextPair.Pair run level after) pair end = pair run level after
+pairThen (NextPair.End after) pair end = end after
+pairThen (NextPair.Refused refusal at) pair end = refused refusal at
+
+-- a block's pairs to its end. Each pair lands further on, so that with n + next at least 65 the first clause is never reached
 unfoldable pub pairsFrom : ℕ → Bool → ℕ → List ℕ → Position → Read (List PairFields)
 pairsFrom zero first next bytes at = refused SliceCut at
 pairsFrom (suc n) first next bytes at =
-    coefficientThen (coefficientOf (wordsOf first) (bitsFrom bytes at)) at
+    pairThen (nextPairAt first next bytes at)
     (λ run level after.
-    only (leb (next + run) 63) (refused SliceCode at) $
     readThen (pairsFrom n false (next + run + 1) bytes after) λ pairs end.
     read (record { run = run; level = level } ∷ pairs) end)
     (λ after. read [] after)

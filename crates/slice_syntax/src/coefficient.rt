@@ -4,10 +4,9 @@ use coefficient_codes::coefficient::Coefficient;
 use refusals::Refusal;
 ghost use mathlib.Core.Path.{_≡_};
 ghost use Prim.Native.Nat.{_≤_};
-ghost use Rattle.bits.specs.Bits.{InBytes, bitsFrom};
+ghost use Rattle.bits.specs.Bits.{InBytes};
 ghost use Rattle.code_tables.specs.Table.{codeTable};
-ghost use Rattle.coefficient_codes.specs.Coefficient.{wordsOf, coefficientOf};
-ghost use Rattle.slice_syntax.specs.Answers.{nextPairOf};
+ghost use Rattle.slice_syntax.specs.Blocks.{nextPairAt};
 
 const LAST_POSITION: usize = 63;
 
@@ -26,7 +25,7 @@ pub fn read_next_pair(
     next: usize,
 ) -> NextPair
     requires { ⌜ (now codes ≡ codeTable) × InBytes (now bytes) at × (next ≤ 64) ⌝ }
-    ensures { λ r. ⌜ r ≡ nextPairOf next (coefficientOf (wordsOf first) (bitsFrom (now (bytes .entry)) at)) at ⌝ }
+    ensures { λ r. ⌜ r ≡ nextPairAt first next (now (bytes .entry)) at ⌝ }
 {
     match coefficient_codes::coefficient::read_coefficient(codes, bytes, at, first) {
         Coefficient::Pair(run, level, length) => {

@@ -23,7 +23,7 @@ use Rattle.coefficient_codes.specs.Coefficient.{wordsOf, coefficientOf}
 use Rattle.coefficient_codes.specs.declared.coefficient.Coefficient.{Coefficient}
 use Rattle.coefficient_codes.specs.declared.coefficient.Coefficient.the-variants.{Pair, EndOfBlock, NoCode, Short}
 use Rattle.slice_syntax.specs.Read.{Read, read, refused, readThen}
-use Rattle.slice_syntax.specs.Blocks.{coefficientThen, pairsFrom, pairsAt, givenDifferenceAt, blockAt, codedBlockAt, blocksFrom}
+use Rattle.slice_syntax.specs.Blocks.{nextPairOf, pairThen, pairsFrom, pairsAt, givenDifferenceAt, blockAt, codedBlockAt, blocksFrom}
 use Rattle.slice_syntax.specs.Macroblock.{ResidueFields, RestFields, vectorsAt, patternAt, residueAt, restAt}
 use Rattle.slice_records.specs.Laying.{bothBytes, patternAndBlocks, restBytes}
 use Rattle.slice_records.proofs.Laws.Lengths.{both-short, pattern-short}
@@ -52,23 +52,20 @@ of-any (refused r p) = none
 abbrev From : ℕ → List PairFields → Type 0
 From next pairs = length pairs + next ≤ 64
 
-coefficient-few : (next : ℕ) → next ≤ 64 → (c : Coefficient) (at : Position) {more : ℕ → ℤ → Position → Read (List PairFields)}
-    → ((run : ℕ) (level : ℤ) (p : Position) → Of (From next) (more run level p)) → Of (From next) (coefficientThen c at more (λ after. read [] after))
-coefficient-few next h (Pair run level n) at f = f run level _
-coefficient-few next h (EndOfBlock n) at f = of {a = []} (omega arith)
-coefficient-few next h NoCode at f = none
-coefficient-few next h Short at f = none
+pair-few : (next : ℕ) → next ≤ 64 → (c : Coefficient) (at : Position) {more : ℕ → ℤ → Position → Read (List PairFields)}
+    → ((run : ℕ) (level : ℤ) (p : Position) → next + run ≤ 63 → Of (From next) (more run level p)) → Of (From next) (pairThen (nextPairOf next c at) more (λ after. read [] after))
+unfolding nextPairOf only
+pair-few next h (Pair run level n) at f = case (leb (next + run) 63) (λ t. rw t (f run level _ (leb-true (next + run) 63 t))) (λ t. rw t none)
+pair-few next h (EndOfBlock n) at f = of {a = []} (omega arith)
+pair-few next h NoCode at f = none
+pair-few next h Short at f = none
 
 pairs-from : (n : ℕ) (first : Bool) (next : ℕ) → next ≤ 64 → (bytes : List ℕ) (at : Position) → Of (From next) (pairsFrom n first next bytes at)
-unfolding pairsFrom only
+unfolding pairsFrom
 pairs-from zero first next h bytes at = none
 pairs-from (suc n) first next h bytes at =
-    coefficient-few next h (coefficientOf (wordsOf first) (bitsFrom bytes at)) at λ run level p.
-    case (leb (next + run) 63)
-    (λ t.
-    let near = leb-true (next + run) 63 t in
-    rw t (of-then (pairsFrom n false (next + run + 1) bytes p) (pairs-from n false (next + run + 1) (omega (arith, near)) bytes p) λ pairs q k. of {a = record { run = run; level = level } ∷ pairs} (omega (arith, k))))
-    (λ t. rw t none)
+    pair-few next h (coefficientOf (wordsOf first) (bitsFrom bytes at)) at λ run level p near.
+    of-then (pairsFrom n false (next + run + 1) bytes p) (pairs-from n false (next + run + 1) (omega (arith, near)) bytes p) λ pairs q k. of {a = record { run = run; level = level } ∷ pairs} (omega (arith, k))
 
 position-near : (intra : Bool) → firstPosition intra ≤ 64
 unfolding firstPosition

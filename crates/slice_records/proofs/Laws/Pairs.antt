@@ -4,90 +4,26 @@ use mathlib.Core.List.{List, [], _∷_, _++_, append-assoc, append-nil}
 use mathlib.Core.Path.{_≡_, refl, sym, ap, subst, _∙_}
 use Prim.Native.Nat.{ℕ, zero, suc, _+_, _-_, _*_, _<_, _≤_}
 use native.Mathlib.Omega.{arith}
-use lib.Dec.{leb}
 use lib.IntN.{ℤ}
 use lib.ListN.{length, length-append}
-use borrow.Author.Tests.{leb-true, le-leb}
 use Rattle.refusals.specs.declared.Refusal.{Refusal}
-use Rattle.refusals.specs.declared.Refusal.the-variants.{SliceCode, SliceCut}
-use Rattle.format3.specs.Chain.{only}
-use Rattle.bits.specs.Bits.{InBytes, bitsFrom, advanced}
+use Rattle.bits.specs.Bits.{InBytes}
 use Rattle.bits.specs.declared.Position.{Position}
-use Rattle.bits.proofs.Rest.{in-bytes-advanced}
 use Rattle.blocks.specs.Blocks.{firstPosition}
 use Rattle.byte_layout.specs.Laid.{laid}
 use Rattle.byte_layout.proofs.Laws.Laid.{laid-length}
 use Rattle.record_layout.specs.Records.{joined, PairFields, pairBytes, pairsBytes, levelsBytes}
 use Rattle.record_layout.proofs.Laws.Laying.{laid-count, laid-more}
 use Rattle.record_layout.proofs.Laws.Lengths.{pairs-length, levels-length}
-use Rattle.code_tables.proofs.Laws.Prefix.{case}
-use Rattle.coefficient_codes.specs.Coefficient.{wordsOf, coefficientOf}
-use Rattle.coefficient_codes.specs.declared.coefficient.Coefficient.{Coefficient}
-use Rattle.coefficient_codes.specs.declared.coefficient.Coefficient.the-variants.{Pair, EndOfBlock, NoCode, Short}
 use Rattle.slice_syntax.specs.Read.{Read, read, refused, readThen}
-use Rattle.slice_syntax.specs.Blocks.{coefficientThen, pairsFrom, pairsAt}
-use Rattle.slice_syntax.specs.Answers.{nextPairOf}
+use Rattle.slice_syntax.specs.Blocks.{nextPairAt, pairsFrom, pairsAt}
 use Rattle.slice_syntax.specs.declared.coefficient.NextPair.{NextPair}
 use Rattle.slice_syntax.specs.declared.coefficient.NextPair.the-variants as NextPair
-use Rattle.slice_syntax.proofs.Laws.Coefficient.{pair-read, end-read}
+use Rattle.slice_syntax.proofs.Laws.Coefficient.{PairWithin, Within, pair-within}
 
 -- pairs behind others
 abbrev pub behind : List PairFields → Read (List PairFields) → Read (List PairFields)
 behind pairs x = readThen x λ more p. read (pairs ++ more) p
-
--- ---- what a turn of the reader says of its coefficient
-pub record PairTurn (next : ℕ) (c : Coefficient) (at : Position) (run : ℕ) (level : ℤ) (p : Position) : Type 0 where
-  pub size : ℕ
-  pub found : c ≡ Pair run level size
-  pub end : p ≡ advanced at size
-  pub lands : next + run ≤ 63
-
-pub record EndTurn (c : Coefficient) (at p : Position) : Type 0 where
-  pub size : ℕ
-  pub found : c ≡ EndOfBlock size
-  pub end : p ≡ advanced at size
-
-none-other : {A : Type 0} → _≡_ {A = ℕ} 0 1 → A
-none-other e = absurd (omega arith)
-
-module _ (next : ℕ) (at : Position) where
-  pub turn-pair : (c : Coefficient) {run : ℕ} {level : ℤ} {p : Position} → nextPairOf next c at ≡ NextPair.Pair run level p → PairTurn next c at run level p
-  unfolding nextPairOf only
-  turn-pair (Pair r l n) {run} {level} {p} e =
-      case (leb (next + r) 63)
-      (λ t.
-      let same : NextPair.Pair r l (advanced at n) ≡ NextPair.Pair run level p = rw t at e in
-      let a : r ≡ run = cc in
-      let b : l ≡ level = cc in
-      let d : p ≡ advanced at n = cc in
-      record { size = n; found = λ i. Pair (a i) (b i) n; end = d; lands = omega (arith, a, leb-true (next + r) 63 t) })
-      (λ t. let z : _≡_ {A = ℕ} 0 1 = cc (rw t at e) in none-other z)
-  turn-pair (EndOfBlock n) e = let z : _≡_ {A = ℕ} 0 1 = cc in none-other z
-  turn-pair NoCode e = let z : _≡_ {A = ℕ} 0 1 = cc in none-other z
-  turn-pair Short e = let z : _≡_ {A = ℕ} 0 1 = cc in none-other z
-
-  pub turn-end : (c : Coefficient) {p : Position} → nextPairOf next c at ≡ NextPair.End p → EndTurn c at p
-  unfolding nextPairOf only
-  turn-end (Pair r l n) e =
-      case (leb (next + r) 63)
-      (λ t. let z : _≡_ {A = ℕ} 0 1 = cc (rw t at e) in none-other z)
-      (λ t. let z : _≡_ {A = ℕ} 0 1 = cc (rw t at e) in none-other z)
-  turn-end (EndOfBlock n) {p} e = let d : p ≡ advanced at n = cc in record { size = n; found = refl; end = d }
-  turn-end NoCode e = let z : _≡_ {A = ℕ} 0 1 = cc in none-other z
-  turn-end Short e = let z : _≡_ {A = ℕ} 0 1 = cc in none-other z
-
-  -- a refused turn refuses the block
-  pub turn-refused : {A : Type 0} (c : Coefficient) {refusal : Refusal} {p : Position} → nextPairOf next c at ≡ NextPair.Refused refusal p
-      → (more : ℕ → ℤ → Position → Read A) (done : Position → Read A)
-      → coefficientThen c at (λ run level after. only (leb (next + run) 63) (refused SliceCode at) (more run level after)) done ≡ refused refusal p
-  unfolding nextPairOf only
-  turn-refused (Pair r l n) e more done =
-      case (leb (next + r) 63)
-      (λ t. let z : _≡_ {A = ℕ} 0 1 = cc (rw t at e) in none-other z)
-      (λ t. rw t (let same : NextPair.Refused SliceCode at ≡ NextPair.Refused _ _ = rw t at e in cc))
-  turn-refused (EndOfBlock n) e more done = let z : _≡_ {A = ℕ} 0 1 = cc in none-other z
-  turn-refused NoCode e more done = cc
-  turn-refused Short e more done = cc
 
 -- ---- the block so far: the pairs that are laid, and what is still to be read behind them
 pub record Begun (bytes : List ℕ) (whole : Read (List PairFields)) (place : ℕ) (before after : List ℕ) (at : Position) (first : Bool) (next count end : ℕ) : Type 0 where
@@ -128,23 +64,20 @@ module _ (bytes : List ℕ) (intra : Bool) (place : ℕ) (buffer : List ℕ) (at
   }
 
 module _ (bytes : List ℕ) (at : Position) (first : Bool) (next : ℕ) where
-  abbrev coefficient : Coefficient
-  coefficient = coefficientOf (wordsOf first) (bitsFrom bytes at)
-
-  from-refused : (n : ℕ) {refusal : Refusal} {p : Position} → 65 ≤ n + next → next ≤ 64 → nextPairOf next coefficient at ≡ NextPair.Refused refusal p → pairsFrom n first next bytes at ≡ refused refusal p
+  from-refused : (n : ℕ) {refusal : Refusal} {p : Position} → 65 ≤ n + next → next ≤ 64 → nextPairAt first next bytes at ≡ NextPair.Refused refusal p → pairsFrom n first next bytes at ≡ refused refusal p
   unfolding pairsFrom
   from-refused zero h k e = absurd (omega arith)
-  from-refused (suc n) h k e = turn-refused next at coefficient e _ _
+  from-refused (suc n) h k e = rw e
 
-  from-end : (n : ℕ) {p : Position} → 65 ≤ n + next → next ≤ 64 → EndTurn coefficient at p → pairsFrom n first next bytes at ≡ read [] p
+  from-end : (n : ℕ) {p : Position} → 65 ≤ n + next → next ≤ 64 → nextPairAt first next bytes at ≡ NextPair.End p → pairsFrom n first next bytes at ≡ read [] p
   unfolding pairsFrom
   from-end zero h k e = absurd (omega arith)
-  from-end (suc n) h k e = rw (e .found, e .end)
+  from-end (suc n) h k e = rw e
 
-  from-pair : (n : ℕ) {run : ℕ} {level : ℤ} {p : Position} → 65 ≤ suc n + next → next ≤ 64 → PairTurn next coefficient at run level p
+  from-pair : (n : ℕ) {run : ℕ} {level : ℤ} {p : Position} → nextPairAt first next bytes at ≡ NextPair.Pair run level p
       → pairsFrom (suc n) first next bytes at ≡ behind (record { run = run; level = level } ∷ []) (pairsFrom n false (next + run + 1) bytes p)
-  unfolding pairsFrom only
-  from-pair n {run} h k e = rw (e .found, e .end, le-leb (next + run) 63 (e .lands))
+  unfolding pairsFrom
+  from-pair n e = rw e
 
   behind-behind : (a b : List PairFields) (x : Read (List PairFields)) → behind a (behind b x) ≡ behind (a ++ b) x
   behind-behind a b (read c p) = ap (λ (l : List PairFields). read l p) (sym (append-assoc a b c))
@@ -155,12 +88,12 @@ module _ (bytes : List ℕ) (at : Position) (first : Bool) (next : ℕ) where
     pub begun-same : length after ≡ length before
     begun-same = ap length (s .there) ∙ laid-length (place + 1) (pairsBytes (s .pairs)) before
 
-    pub begun-refused : {refusal : Refusal} {p : Position} → nextPairOf next coefficient at ≡ NextPair.Refused refusal p → whole ≡ refused refusal p
+    pub begun-refused : {refusal : Refusal} {p : Position} → nextPairAt first next bytes at ≡ NextPair.Refused refusal p → whole ≡ refused refusal p
     begun-refused e = sym (s .same) ∙ rw (from-refused (s .fuel) (s .enough) (s .near) e)
 
     -- at the end, the count is laid before the pairs
-    pub begun-end : {p : Position} → nextPairOf next coefficient at ≡ NextPair.End p → whole ≡ read (s .pairs) p
-    begun-end {p} e = sym (s .same) ∙ rw (from-end (s .fuel) (s .enough) (s .near) (turn-end next at coefficient e)) (ap (λ (l : List PairFields). read l p) (append-nil (s .pairs)))
+    pub begun-end : {p : Position} → nextPairAt first next bytes at ≡ NextPair.End p → whole ≡ read (s .pairs) p
+    begun-end {p} e = sym (s .same) ∙ rw (from-end (s .fuel) (s .enough) (s .near) e) (ap (λ (l : List PairFields). read l p) (append-nil (s .pairs)))
 
     pub begun-length : end ≡ place + length (levelsBytes (s .pairs))
     begun-length = omega (arith, s .behindThem, s .counted, levels-length (s .pairs))
@@ -168,28 +101,25 @@ module _ (bytes : List ℕ) (at : Position) (first : Bool) (next : ℕ) where
     pub begun-laid : {last : List ℕ} → last ≡ laid place (count ∷ []) after → last ≡ laid place (levelsBytes (s .pairs)) before
     begun-laid e = e ∙ rw (← s .counted, s .there) (laid-count place (s .pairs) before)
 
-    pub pair-within : {run : ℕ} {level : ℤ} {p : Position} → nextPairOf next coefficient at ≡ NextPair.Pair run level p → (next + run ≤ 63) × InBytes bytes p
-    pair-within {run} {level} {p} e =
-        let t = turn-pair next at coefficient e in
-        (t .lands, subst (λ (q : Position). InBytes bytes q) (sym (t .end)) (in-bytes-advanced (t .size) (s .inside) (pair-read first bytes at (t .found) .inside)))
+    pub begun-pair : {run : ℕ} {level : ℤ} {p : Position} → nextPairAt first next bytes at ≡ NextPair.Pair run level p → PairWithin bytes next run at p
+    begun-pair e = subst (λ (x : NextPair). Within bytes next at x) e (pair-within bytes at (s .inside) next first)
 
     more-fuel : (n : ℕ) → 65 ≤ n + next → n ≡ suc (n - 1)
     more-fuel n h = omega (arith, s .near)
 
-    pub begun-more : {run : ℕ} {level : ℤ} {p : Position} {later : List ℕ} → nextPairOf next coefficient at ≡ NextPair.Pair run level p → later ≡ laid end (pairBytes run level) after
+    pub begun-more : {run : ℕ} {level : ℤ} {p : Position} {later : List ℕ} → nextPairAt first next bytes at ≡ NextPair.Pair run level p → later ≡ laid end (pairBytes run level) after
         → Begun bytes whole place before later p false (next + run + 1) (count + 1) (end + 3)
     begun-more {run} {level} {p} {later} e f =
-        let t = turn-pair next at coefficient e in
         let n = s .fuel in
         record {
           pairs = s .pairs ++ (record { run = run; level = level } ∷ []);
           fuel = n - 1;
           enough = omega (arith, s .enough, s .near);
-          near = omega (arith, t .lands);
+          near = omega (arith, begun-pair e .lands);
           counted = rw (length-append (s .pairs) (record { run = run; level = level } ∷ [])) (omega (arith, s .counted));
           few = omega (arith, s .few);
           behindThem = omega (arith, s .behindThem);
-          inside = pair-within e .1;
+          inside = begun-pair e .ahead .inside;
           there = f ∙ rw (s .there, place-of) (laid-more (λ pair. pairBytes (pair .run) (pair .level)) (place + 1) (s .pairs) (record { run = run; level = level }) before);
           same = sym (behind-behind (s .pairs) (record { run = run; level = level } ∷ []) (pairsFrom (n - 1) false (next + run + 1) bytes p)) ∙ rw (sym step) (s .same);
         }
@@ -200,4 +130,4 @@ module _ (bytes : List ℕ) (at : Position) (first : Bool) (next : ℕ) where
         step : pairsFrom (s .fuel) first next bytes at ≡ behind (record { run = run; level = level } ∷ []) (pairsFrom (s .fuel - 1) false (next + run + 1) bytes p)
         step =
             ap (λ (k : ℕ). pairsFrom k first next bytes at) (more-fuel (s .fuel) (s .enough))
-            ∙ from-pair (s .fuel - 1) (omega (arith, s .enough, s .near)) (s .near) (turn-pair next at coefficient e)
+            ∙ from-pair (s .fuel - 1) e

@@ -9,27 +9,24 @@ use lib.IntN.{ℤ}
 use lib.ListN.{length}
 use Rattle.format3.specs.Chain.{only}
 use Rattle.picture_header.specs.declared.header.Header.{Header}
-use Rattle.bits.specs.Bits.{InBytes, bitsFrom, advanced, offset}
+use Rattle.bits.specs.Bits.{InBytes, bitsFrom}
 use Rattle.bits.specs.declared.Position.{Position}
-use Rattle.bits.proofs.Rest.{in-bytes-advanced}
 use Rattle.blocks.specs.Blocks.{isCoded, firstPosition}
 use Rattle.macroblock_symbols.specs.Vectors.{gives}
 use Rattle.layout_reading.specs.Matching.{codedPattern}
 use Rattle.code_tables.specs.AnnexB.{increments, incrementsAfterEscape, stuffing, incrementEscape, motionCodes, patterns, typesOf}
-use Rattle.coefficient_codes.specs.Coefficient.{wordsOf, coefficientOf}
-use Rattle.coefficient_codes.specs.declared.coefficient.Coefficient.{Coefficient}
-use Rattle.coefficient_codes.specs.declared.coefficient.Coefficient.the-variants.{Pair, EndOfBlock, NoCode, Short}
-use Rattle.coefficient_codes.proofs.Laws.CoefficientRange.{Sound}
 use Rattle.codes.proofs.Laws.Range.{increment-read, increment-after-escape-read, type-read, pattern-read, motion-code-read}
+use Rattle.slice_syntax.specs.declared.coefficient.NextPair.{NextPair}
+use Rattle.slice_syntax.specs.declared.coefficient.NextPair.the-variants as NextPair
 use Rattle.slice_syntax.specs.Read.{Read, read, refused, wordAt, fieldAt}
 use Rattle.slice_syntax.specs.Increment.{afterStuffing, amountOf, afterEscape, incrementAt}
 use Rattle.slice_syntax.specs.Vectors.{residualAt, motionAt, vectorAt, givenVectorAt}
-use Rattle.slice_syntax.specs.Blocks.{sizeWords, differenceAt, coefficientThen, pairsFrom, pairsAt, givenDifferenceAt, blockAt, codedBlockAt, blocksFrom}
+use Rattle.slice_syntax.specs.Blocks.{sizeWords, differenceAt, nextPairAt, pairThen, pairsFrom, pairsAt, givenDifferenceAt, blockAt, codedBlockAt, blocksFrom}
 use Rattle.slice_syntax.specs.Macroblock.{scaleAt, headAt, vectorsAt, patternAt, residueAt, restAt, macroblockAt}
 use Rattle.slice_syntax.specs.Slice.{afterExtra, nextAt}
 use Rattle.slice_syntax.proofs.Laws.Read.{Ahead, Onward, onward, stopped, onward-after, then-onward, no-further, word-onward, field-onward}
 use Rattle.slice_syntax.proofs.Laws.Words.{size-read}
-use Rattle.slice_syntax.proofs.Laws.Coefficient.{coefficient-sound}
+use Rattle.slice_syntax.proofs.Laws.Coefficient.{Within, pair-within}
 
 module _ {A : Type 0} {bytes : List ℕ} {at : Position} where
   pub any-onward : {bits : ℕ} {x : Read A} → Onward bytes bits at x → Onward bytes 0 at x
@@ -110,27 +107,20 @@ module _ (bytes : List ℕ) where
       any-onward (then-onward (wordAt (sizeWords block) bytes at) (word-onward bytes at within (sizeWords block) (size-read block (bitsFrom bytes at))) λ size p e w.
       cond-onward (eqb size 0) (no-further w) (any-onward (then-onward (fieldAt size bytes p) (field-onward bytes p w size) λ v q f x. no-further x)))
 
-  coefficient-onward : {A : Type 0} (at : Position) → InBytes bytes at → (c : Coefficient) → Sound (length (bitsFrom bytes at)) c
+  pair-onward : {A : Type 0} (next : ℕ) (at : Position) (x : NextPair) → Within bytes next at x
       → {more : ℕ → ℤ → Position → Read A} {done : Position → Read A}
       → ((run : ℕ) (level : ℤ) (p : Position) → InBytes bytes p → Onward bytes 0 p (more run level p)) → ((p : Position) → InBytes bytes p → Onward bytes 0 p (done p))
-      → Onward bytes 0 at (coefficientThen c at more done)
-  coefficient-onward at within (Pair run level n) h f g =
-      let w = in-bytes-advanced n within (h .inside) in
-      onward-after {bits = 0} (record { inside = w; further = omega arith }) (f run level (advanced at n) w)
-  coefficient-onward at within (EndOfBlock n) h f g =
-      let w = in-bytes-advanced n within (h .inside) in
-      onward-after {bits = 0} (record { inside = w; further = omega arith }) (g (advanced at n) w)
-  coefficient-onward at within NoCode h f g = stopped
-  coefficient-onward at within Short h f g = stopped
+      → Onward bytes 0 at (pairThen x more done)
+  pair-onward next at (NextPair.Pair run level p) h f g = onward-after {bits = 0} (h .ahead) (f run level p (h .ahead .inside))
+  pair-onward next at (NextPair.End p) h f g = onward-after {bits = 0} h (g p (h .inside))
+  pair-onward next at (NextPair.Refused refusal p) h f g = stopped
 
   pairs-from : (n : ℕ) (first : Bool) (next : ℕ) (at : Position) → InBytes bytes at → Onward bytes 0 at (pairsFrom n first next bytes at)
   unfolding pairsFrom
   pairs-from zero first next at within = stopped
   pairs-from (suc n) first next at within =
-      coefficient-onward at within (coefficientOf (wordsOf first) (bitsFrom bytes at)) (coefficient-sound first bytes at)
-      (λ run level p w.
-      only-onward (leb (next + run) 63) stopped
-      (then-onward (pairsFrom n false (next + run + 1) bytes p) (pairs-from n false (next + run + 1) p w) λ pairs q e x. no-further x))
+      pair-onward next at (nextPairAt first next bytes at) (pair-within bytes at within next first)
+      (λ run level p w. then-onward (pairsFrom n false (next + run + 1) bytes p) (pairs-from n false (next + run + 1) p w) λ pairs q e x. no-further x)
       (λ p w. no-further w)
 
   pub pairs-onward : (intra : Bool) (at : Position) → InBytes bytes at → Onward bytes 0 at (pairsAt intra bytes at)

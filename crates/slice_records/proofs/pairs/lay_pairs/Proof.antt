@@ -8,16 +8,13 @@ use lib.ListN.{length}
 use mir.Syntax.{w16}
 use mir.Val.{toZ, ofZ}
 use mir.ValLaws.{toZ-ofZ}
-use Rattle.bits.specs.Bits.{bitsFrom}
 use Rattle.byte_layout.proofs.Laws.Laid.{laid-length}
-use Rattle.coefficient_codes.specs.Coefficient.{wordsOf, coefficientOf}
 use Rattle.record_layout.specs.Records.{pairBytes, levelsBytes}
-use Rattle.slice_syntax.specs.Blocks.{pairsAt}
-use Rattle.slice_syntax.specs.Answers.{nextPairOf}
+use Rattle.slice_syntax.specs.Blocks.{nextPairAt, pairsAt}
 use Rattle.slice_syntax.specs.declared.coefficient.NextPair.the-variants as NextPair
 use Rattle.slice_records.specs.declared.laying.Laying.the-variants.{Done}
 use Rattle.slice_records.proofs.Laws.Laying.{laid-as, not-laid}
-use Rattle.slice_records.proofs.Laws.Pairs.{Begun, begun-none, begun-refused, begun-end, begun-length, begun-laid, begun-more, begun-same, pair-within}
+use Rattle.slice_records.proofs.Laws.Pairs.{Begun, begun-none, begun-refused, begun-end, begun-length, begun-laid, begun-more, begun-same, begun-pair}
 use Rattle.slice_records.proofs.pairs.lay_pairs.Statement.{statement}
 use Rattle.slice_records.proofs.pairs.lay_pairs.Tie as tie
 
@@ -71,7 +68,7 @@ module _ (c : tie.After-slice-known2 Inv-loop μ-loop) where
   abbrev looped : tie.At-loop Inv-loop μ-loop
   looped = turned .before
 
-  ended : nextPairOf (looped .loop .next) (coefficientOf (wordsOf (looped .loop .first)) (bitsFrom (looped .before .before .before .before .args .bytes .now) (looped .loop .at))) (looped .loop .at) ≡ NextPair.End (laidCount .before .before .before .after .given .0 .0)
+  ended : nextPairAt (looped .loop .first) (looped .loop .next) (looped .before .before .before .before .args .bytes .now) (looped .loop .at) ≡ NextPair.End (laidCount .before .before .before .after .given .0 .0)
   ended = sym (turned .read-next-pair .ensures) ∙ laidCount .before .before .before .after .given .1
 
 sub-size : tie.Need-sub-size Inv-loop μ-loop
@@ -106,11 +103,11 @@ module _ (c : tie.After-slice-known3 Inv-loop μ-loop) where
   abbrev begun : tie.At-loop Inv-loop μ-loop
   begun = read .before
 
-  pair : nextPairOf (begun .loop .next) (coefficientOf (wordsOf (begun .loop .first)) (bitsFrom (begun .before .before .before .before .args .bytes .now) (begun .loop .at))) (begun .loop .at) ≡ NextPair.Pair (told .before .run .given .0 .0) (told .before .run .given .0 .1 .0) (told .before .run .given .0 .1 .1 .0)
+  pair : nextPairAt (begun .loop .first) (begun .loop .next) (begun .before .before .before .before .args .bytes .now) (begun .loop .at) ≡ NextPair.Pair (told .before .run .given .0 .0) (told .before .run .given .0 .1 .0) (told .before .run .given .0 .1 .1 .0)
   pair = sym (read .read-next-pair .ensures) ∙ told .before .run .given .1
 
   lands : begun .loop .next + told .before .run .given .0 .0 ≤ 63
-  lands = pair-within _ _ _ _ (begun .loop .inv) pair .0
+  lands = begun-pair _ _ _ _ (begun .loop .inv) pair .lands
 
   same : let level = told .before .run .given .0 .1 .0 in toZ w16 (ofZ w16 level) ≡ level
   same = toZ-ofZ w16 (told .before .run .given .0 .1 .0) (record { sfits = told .known-told3 .given .1 .0 .1 })

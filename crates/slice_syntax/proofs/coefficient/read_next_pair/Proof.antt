@@ -11,7 +11,7 @@ use Rattle.bits.specs.Bits.{bitsFrom}
 use Rattle.bits.proofs.Rest.{rest-length}
 use Rattle.coefficient_codes.specs.Coefficient.{wordsOf, coefficientOf}
 use Rattle.coefficient_codes.specs.declared.coefficient.Coefficient.the-variants.{Pair, EndOfBlock}
-use Rattle.slice_syntax.specs.Answers.{nextPairOf}
+use Rattle.slice_syntax.specs.Blocks.{nextPairOf}
 use Rattle.slice_syntax.proofs.Laws.Coefficient.{pair-read, end-read}
 use Rattle.slice_syntax.proofs.coefficient.read_next_pair.Statement.{statement}
 use Rattle.slice_syntax.proofs.coefficient.read_next_pair.Tie as tie
