@@ -126,14 +126,14 @@ head-then {flags} l rest (Head.legal {increment} {scale} good e) r =
 head-then l rest (Head.refused other) r = refused other
 
 pub symbols-read : (c : MacroblockContext) (intraMatrix nonIntraMatrix : List ℕ) (fields : MacroblockFields) → Matching fields → SymbolsRead (symbolsOf c intraMatrix nonIntraMatrix (macroblockBody fields))
-unfolding symbolsOf macroblockOf afterHeadOf macroblockBody residueBytes
+unfolding symbolsOf macroblockOf afterHeadOf macroblockBody
 symbols-read c intraMatrix nonIntraMatrix fields matching =
     let first = headBytes (fields .flags) (fields .increment) (fields .scale) in
-    let second = vectorsBytes fields in
-    let third = residueBytes fields in
+    let second = vectorsBytes (fields .flags) (fields .forward) (fields .backward) in
+    let third = residueBytes (fields .flags) (fields .pattern) (fields .blocks) in
     head-then (first ++ (second ++ third)) _ (head-read (c .head) (fields .flags) (fields .increment) (fields .scale) (second ++ third)) λ increment scale good.
     rw (drop-append-seam first (second ++ third))
-    (vectors-then (second ++ third) _ (vectors-read fields (c .«forward_f») (c .«backward_f») third) λ vectors.
+    (vectors-then (second ++ third) _ (vectors-read (fields .flags) (fields .forward) (fields .backward) (c .«forward_f») (c .«backward_f») third) λ vectors.
     rw (drop-append-seam second third)
     (after-residue (symbolsWith _ vectors)
     (residue-read _ intraMatrix nonIntraMatrix (startingPasts (c .dc) increment) (fields .pattern) (fields .blocks) (pattern-not-intra (c .head .coding) (fields .flags) good) (matching .coded))))

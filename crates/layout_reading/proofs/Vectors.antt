@@ -22,7 +22,7 @@ use Rattle.macroblock_symbols.specs.declared.vectors.Vectors.{Vectors}
 use Rattle.macroblock_symbols.specs.declared.vectors.VectorsAnswer.{VectorsAnswer}
 use Rattle.macroblock_symbols.specs.declared.vectors.VectorsAnswer.the-variants as Vectors
 use Rattle.macroblock_symbols.specs.Vectors.{gives, givenCodes, codesThen, vectorsOf}
-use Rattle.record_layout.specs.Records.{MacroblockFields, codeBytes, codesBytes, givenCodesBytes, vectorsBytes}
+use Rattle.record_layout.specs.Records.{codeBytes, codesBytes, givenCodesBytes, vectorsBytes}
 use Rattle.layout_reading.specs.Framed.{Framed}
 use Rattle.layout_reading.proofs.Framed.{framed}
 
@@ -69,14 +69,14 @@ codes-then : {size total : ℕ} {a : CodesAnswer} (rest : VectorCodes → Cursor
 codes-then rest (legal {codes} {cursor} e) r = r codes cursor e
 codes-then rest (refused other) r = refused other
 
-pub vectors-read : (fields : MacroblockFields) (forward backward : ℕ) (rest : List ℕ)
-    → VectorsRead (length (vectorsBytes fields)) (vectorsOf (fields .flags) forward backward (vectorsBytes fields ++ rest))
-unfolding vectorsOf vectorsBytes
-vectors-read fields forward backward rest =
-    let first = givenCodesBytes (gives (fields .flags) 2) (fields .forward) in
-    let second = givenCodesBytes (gives (fields .flags) 4) (fields .backward) in
+pub vectors-read : (flags : ℕ) (forwardCodes backwardCodes : VectorCodes) (forward backward : ℕ) (rest : List ℕ)
+    → VectorsRead (length (vectorsBytes flags forwardCodes backwardCodes)) (vectorsOf flags forward backward (vectorsBytes flags forwardCodes backwardCodes ++ rest))
+unfolding vectorsOf
+vectors-read flags forwardCodes backwardCodes forward backward rest =
+    let first = givenCodesBytes (gives flags 2) forwardCodes in
+    let second = givenCodesBytes (gives flags 4) backwardCodes in
     rw (append-assoc first second rest)
-    (codes-then _ (given-read (gives (fields .flags) 2) forward (fields .forward) (second ++ rest)) λ a after-first same.
+    (codes-then _ (given-read (gives flags 2) forward forwardCodes (second ++ rest)) λ a after-first same.
     rw (same, drop-append-seam first (second ++ rest))
-    (codes-then _ (given-read (gives (fields .flags) 4) backward (fields .backward) rest) λ b after-second end.
+    (codes-then _ (given-read (gives flags 4) backward backwardCodes rest) λ b after-second end.
     legal {cursor = record { at = length first + after-second .at }} (omega (arith, length-append first second))))

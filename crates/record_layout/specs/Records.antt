@@ -48,8 +48,11 @@ pub record BlockFields : Type 0 where
   pub difference : ℤ
   pub pairs : List PairFields
 
+abbrev pub differenceBytes : Bool → ℤ → List ℕ
+differenceBytes intra difference = cond intra (signedWordBytes difference) []
+
 unfoldable pub blockBytes : Bool → BlockFields → List ℕ
-blockBytes intra block = cond intra (signedWordBytes (block .difference)) [] ++ levelsBytes (block .pairs)
+blockBytes intra block = differenceBytes intra (block .difference) ++ levelsBytes (block .pairs)
 
 -- the coded blocks, one behind the other
 abbrev pub blocksBytes : Bool → List BlockFields → List ℕ
@@ -71,6 +74,17 @@ codesBytes codes =
 abbrev pub givenCodesBytes : Bool → VectorCodes → List ℕ
 givenCodesBytes given codes = cond given (codesBytes codes) []
 
+-- "forward codes ..; backward codes"
+abbrev pub vectorsBytes : ℕ → VectorCodes → VectorCodes → List ℕ
+vectorsBytes flags forward backward = givenCodesBytes (gives flags 2) forward ++ givenCodesBytes (gives flags 4) backward
+
+-- "pattern byte; blocks"
+unfoldable pub patternBytes : ℕ → ℕ → List ℕ
+patternBytes flags pattern = cond (gives flags 8) (pattern ∷ []) []
+
+abbrev pub residueBytes : ℕ → ℕ → List BlockFields → List ℕ
+residueBytes flags pattern blocks = patternBytes flags pattern ++ blocksBytes (gives flags 16) blocks
+
 -- the fields of a macroblock; one that the type doesn't give is not laid out. The blocks are the coded ones, in their order
 pub record MacroblockFields : Type 0 where
   pub flags : ℕ
@@ -81,20 +95,10 @@ pub record MacroblockFields : Type 0 where
   pub pattern : ℕ
   pub blocks : List BlockFields
 
--- "forward codes ..; backward codes"
-unfoldable pub vectorsBytes : MacroblockFields → List ℕ
-vectorsBytes fields =
-    givenCodesBytes (gives (fields .flags) 2) (fields .forward) ++ givenCodesBytes (gives (fields .flags) 4) (fields .backward)
-
--- "pattern byte; blocks"
-unfoldable pub patternBytes : ℕ → ℕ → List ℕ
-patternBytes flags pattern = cond (gives flags 8) (pattern ∷ []) []
-
-unfoldable pub residueBytes : MacroblockFields → List ℕ
-residueBytes fields = patternBytes (fields .flags) (fields .pattern) ++ blocksBytes (gives (fields .flags) 16) (fields .blocks)
-
 unfoldable pub macroblockBody : MacroblockFields → List ℕ
-macroblockBody fields = headBytes (fields .flags) (fields .increment) (fields .scale) ++ (vectorsBytes fields ++ residueBytes fields)
+macroblockBody fields =
+    headBytes (fields .flags) (fields .increment) (fields .scale)
+    ++ (vectorsBytes (fields .flags) (fields .forward) (fields .backward) ++ residueBytes (fields .flags) (fields .pattern) (fields .blocks))
 
 abbrev pub macroblockRecord : MacroblockFields → List ℕ
 macroblockRecord fields = recordBytes macroblock (macroblockBody fields)

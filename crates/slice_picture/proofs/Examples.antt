@@ -12,7 +12,7 @@ use Rattle.bits.specs.Bits.{bitsOf, bits, leadingNumber, allZeros, bitsFrom}
 use Rattle.blocks.specs.Blocks.{isCoded, firstPosition}
 use Rattle.layout_reading.specs.Matching.{codedPattern}
 use Rattle.byte_layout.specs.Bytes.{complement, wordBytes}
-use Rattle.record_layout.specs.Records.{joined, recordHead, recordBytes, sliceBody, sliceRecords, pairBytes, levelsBytes, blockBytes, headBytes, codeBytes, codesBytes, vectorsBytes, patternBytes, residueBytes, macroblockBody}
+use Rattle.record_layout.specs.Records.{joined, recordHead, recordBytes, sliceBody, sliceRecords, pairBytes, levelsBytes, blockBytes, headBytes, codeBytes, codesBytes, patternBytes, macroblockBody}
 use Rattle.code_tables.specs.Code.{digitsOf, word, isPrefix, codeOf, fieldOf}
 use Rattle.code_tables.specs.AnnexB.{incrementWords, increments, incrementsAfterEscape, intraTypes, predictedTypes, bidirectionalTypes, typesOf, patterns, motionCodes, luminanceSizes, chrominanceSizes, sharedWords, firstCoefficients, nextCoefficients, byteWords, largePositive, largeNegative}
 use Rattle.coefficient_codes.specs.Coefficient.{signedOf, largeOf, levelOf, escapedOf, finishedOf, wordsOf, coefficientOf}
@@ -87,5 +87,5 @@ expectations [] = []
 expectations (c ∷ cs) = c .expected ∷ expectations cs
 
 worked : outcomes cases ≡ expectations cases
-unfolding rawSliceOutcome headerWith legalHeader legalSize legalCodings only fitted rawSliceOf sliceHeadOf afterHeadAt sliceStartOf startPrefix tab bits bitsFrom bitsOf isPrefix codeOf fieldOf leadingNumber allZeros afterExtra nextAt macroblocksFrom startAddress incrementAt afterStuffing amountOf afterEscape increments incrementWords incrementsAfterEscape word digitsOf headAt typesOf intraTypes predictedTypes bidirectionalTypes scaleAt vectorsAt givenVectorAt vectorAt motionAt residualAt motionCodes restAt residueAt patternAt patterns codedPattern blocksFrom codedBlockAt blockAt givenDifferenceAt isCoded firstPosition differenceAt sizeWords luminanceSizes chrominanceSizes dcDifferenceOf pairsAt pairsFrom nextPairOf wordsOf firstCoefficients nextCoefficients sharedWords coefficientOf finishedOf signedOf escapedOf levelOf largeOf largePositive largeNegative byteWords macroblockAt joined recordHead recordBytes sliceBody sliceRecords pairBytes levelsBytes blockBytes headBytes codeBytes codesBytes vectorsBytes patternBytes residueBytes macroblockBody complement wordBytes
+unfolding rawSliceOutcome headerWith legalHeader legalSize legalCodings only fitted rawSliceOf sliceHeadOf afterHeadAt sliceStartOf startPrefix tab bits bitsFrom bitsOf isPrefix codeOf fieldOf leadingNumber allZeros afterExtra nextAt macroblocksFrom startAddress incrementAt afterStuffing amountOf afterEscape increments incrementWords incrementsAfterEscape word digitsOf headAt typesOf intraTypes predictedTypes bidirectionalTypes scaleAt vectorsAt givenVectorAt vectorAt motionAt residualAt motionCodes restAt residueAt patternAt patterns codedPattern blocksFrom codedBlockAt blockAt givenDifferenceAt isCoded firstPosition differenceAt sizeWords luminanceSizes chrominanceSizes dcDifferenceOf pairsAt pairsFrom nextPairOf wordsOf firstCoefficients nextCoefficients sharedWords coefficientOf finishedOf signedOf escapedOf levelOf largeOf largePositive largeNegative byteWords macroblockAt joined recordHead recordBytes sliceBody sliceRecords pairBytes levelsBytes blockBytes headBytes codeBytes codesBytes patternBytes macroblockBody complement wordBytes
 worked = refl

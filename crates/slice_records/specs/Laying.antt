@@ -1,16 +1,12 @@
 -- What a function answers that reads a part of a slice and lays its bytes into a buffer, and what the buffer then holds.
-use mathlib.Core.List.{List, [], _++_}
+use mathlib.Core.List.{List, _++_}
 use mathlib.Core.Path.{_≡_}
-use mathlib.Core.Bool.{Bool, cond}
 use Prim.Native.Nat.{ℕ, _+_}
-use lib.IntN.{ℤ}
 use lib.ListN.{length}
 use Rattle.symbols.specs.declared.vector_codes.VectorCode.{VectorCode}
-use Rattle.macroblock_symbols.specs.Vectors.{gives}
 use Rattle.macroblock_symbols.specs.declared.vectors.Vectors.{Vectors}
-use Rattle.byte_layout.specs.Bytes.{signedWordBytes}
 use Rattle.byte_layout.specs.Laid.{laid, farthest}
-use Rattle.record_layout.specs.Records.{codeBytes, givenCodesBytes, patternBytes, blocksBytes}
+use Rattle.record_layout.specs.Records.{codeBytes, vectorsBytes, residueBytes}
 use Rattle.bits.specs.declared.Position.{Position}
 use Rattle.slice_syntax.specs.Read.{Read, read, refused}
 use Rattle.slice_syntax.specs.Macroblock.{HeadFields, ResidueFields, RestFields}
@@ -53,21 +49,18 @@ farthestBlock = farthest + 991
 abbrev pub farthestPairs : ℕ
 farthestPairs = farthest + 993
 
--- the bytes of the parts that have no definition of their own in document 01's layout
+-- the bytes of a part, from the fields that are read
 abbrev pub componentBytes : VectorCode → List ℕ
 componentBytes component = codeBytes (component .code) (component .residual)
 
 abbrev pub bothBytes : ℕ → Vectors → List ℕ
-bothBytes flags vectors = givenCodesBytes (gives flags 2) (vectors .forward) ++ givenCodesBytes (gives flags 4) (vectors .backward)
+bothBytes flags vectors = vectorsBytes flags (vectors .forward) (vectors .backward)
 
 abbrev pub patternAndBlocks : ℕ → ResidueFields → List ℕ
-patternAndBlocks flags residue = patternBytes flags (residue .pattern) ++ blocksBytes (gives flags 16) (residue .blocks)
+patternAndBlocks flags residue = residueBytes flags (residue .pattern) (residue .blocks)
 
 abbrev pub restBytes : ℕ → RestFields → List ℕ
 restBytes flags rest = bothBytes flags (rest .vectors) ++ patternAndBlocks flags (rest .residue)
-
-abbrev pub differenceBytes : Bool → ℤ → List ℕ
-differenceBytes intra difference = cond intra (signedWordBytes difference) []
 
 abbrev pub headAnswer : Read HeadFields → Head
 headAnswer (read head p) = Head.Read (head .flags) (head .scale) p

@@ -7,9 +7,9 @@ ghost use Prim.Native.Nat.{_<_, _≤_};
 ghost use Rattle.bits.specs.Bits.{InBytes};
 ghost use Rattle.blocks.specs.Blocks.{isCoded};
 ghost use Rattle.code_tables.specs.Table.{codeTable};
-ghost use Rattle.record_layout.specs.Records.{blockBytes, blocksBytes};
+ghost use Rattle.record_layout.specs.Records.{differenceBytes, blockBytes, blocksBytes};
 ghost use Rattle.slice_syntax.specs.Blocks.{givenDifferenceAt, blockAt, codedBlockAt, blocksFrom};
-ghost use Rattle.slice_records.specs.Laying.{layingOf, LaidAt, farthestBlocks, farthestBlock, differenceBytes};
+ghost use Rattle.slice_records.specs.Laying.{layingOf, LaidAt, farthestBlocks, farthestBlock};
 
 // The DC difference of an intra block.
 fn lay_difference(

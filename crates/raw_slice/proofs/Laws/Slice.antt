@@ -15,7 +15,7 @@ use Rattle.byte_layout.specs.Laid.{laid, offsetAfter}
 use Rattle.byte_layout.specs.Bytes.{wordBytes}
 use Rattle.byte_layout.proofs.Laws.Laid.{laid-append}
 use Rattle.record_layout.specs.Records.{joined, recordHead, recordBytes, sliceBody, sliceRecord, MacroblockFields, headBytes, macroblockBody, macroblockRecord, sliceRecords}
-use Rattle.record_layout.proofs.Laws.Lengths.{record-length}
+use Rattle.record_layout.proofs.Laws.Lengths.{record-length, head-short}
 use Rattle.format3.specs.Record.{macroblock}
 use Rattle.code_tables.specs.Code.{Word, codeOf}
 use Rattle.code_tables.specs.declared.code.Code.{Code}
@@ -32,7 +32,6 @@ use Rattle.slice_records.specs.declared.laying.Laying.{Laying}
 use Rattle.slice_records.specs.declared.laying.Laying.the-variants.{Done, Refused}
 use Rattle.slice_records.proofs.Laws.Laying.{laid-as, not-laid}
 use Rattle.slice_records.proofs.Laws.Few.{Of, of, none, of-then, of-any, rest-short}
-use Rattle.slice_records.proofs.Laws.Lengths.{head-short}
 use Rattle.slice_records.proofs.Laws.Macroblock.{body-of}
 use Rattle.raw_slice.specs.Laying.{endOf}
 

@@ -6,7 +6,7 @@ use lib.IntN.{pos}
 use lib.ListN.{replicate}
 use Rattle.macroblock_symbols.specs.Vectors.{noCodes}
 use Rattle.byte_layout.specs.Bytes.{complement, wordBytes}
-use Rattle.record_layout.specs.Records.{joined, BlockFields, MacroblockFields, recordHead, recordBytes, sliceBody, sliceRecord, levelsBytes, blockBytes, headBytes, codeBytes, codesBytes, vectorsBytes, patternBytes, residueBytes, macroblockBody, macroblockRecord}
+use Rattle.record_layout.specs.Records.{joined, BlockFields, MacroblockFields, recordHead, recordBytes, sliceBody, sliceRecord, levelsBytes, blockBytes, headBytes, codeBytes, codesBytes, patternBytes, macroblockBody, macroblockRecord}
 
 -- `0004 03 080000`
 slice-printed : sliceRecord 8 0 ≡ 0 ∷ 4 ∷ 3 ∷ 8 ∷ 0 ∷ 0 ∷ []
@@ -19,10 +19,10 @@ plain flags blocks = record { flags = flags; increment = 1; scale = 0; forward =
 
 -- `0016 04 100001` and 18 bytes 00
 intra-printed : macroblockRecord (plain 16 (replicate 6 (record { difference = pos 0; pairs = [] }))) ≡ (0 ∷ 22 ∷ 4 ∷ 16 ∷ 0 ∷ 1 ∷ []) ++ replicate 18 0
-unfolding recordBytes recordHead macroblockBody headBytes vectorsBytes residueBytes patternBytes blockBytes levelsBytes joined wordBytes complement
+unfolding recordBytes recordHead macroblockBody headBytes patternBytes blockBytes levelsBytes joined wordBytes complement
 intra-printed = refl
 
 -- `0008 04 02000100000000`
 forward-printed : macroblockRecord (plain 2 []) ≡ 0 ∷ 8 ∷ 4 ∷ 2 ∷ 0 ∷ 1 ∷ 0 ∷ 0 ∷ 0 ∷ 0 ∷ []
-unfolding recordBytes recordHead macroblockBody headBytes vectorsBytes residueBytes patternBytes codesBytes codeBytes joined wordBytes complement
+unfolding recordBytes recordHead macroblockBody headBytes patternBytes codesBytes codeBytes joined wordBytes complement
 forward-printed = refl

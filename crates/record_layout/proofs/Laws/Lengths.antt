@@ -8,7 +8,7 @@ use lib.ListN.{length, length-append}
 use Rattle.symbols.specs.declared.vector_codes.VectorCodes.{VectorCodes}
 use Rattle.macroblock_symbols.specs.Vectors.{gives}
 use Rattle.byte_layout.specs.Bytes.{wordBytes}
-use Rattle.record_layout.specs.Records.{joined, PairFields, BlockFields, MacroblockFields, recordHead, recordBytes, pairBytes, pairsBytes, levelsBytes, blockBytes, blocksBytes, headBytes, codeBytes, codesBytes, givenCodesBytes, vectorsBytes, patternBytes, residueBytes, macroblockBody}
+use Rattle.record_layout.specs.Records.{joined, PairFields, BlockFields, MacroblockFields, recordHead, recordBytes, pairBytes, pairsBytes, levelsBytes, blockBytes, blocksBytes, headBytes, codeBytes, codesBytes, givenCodesBytes, patternBytes, macroblockBody}
 
 pub record-length : (kind : ℕ) (body : List ℕ) → length (recordBytes kind body) ≡ 3 + length body
 unfolding recordBytes recordHead wordBytes
@@ -40,7 +40,7 @@ pub data FewPairs : List BlockFields → Type 0 where
   none : FewPairs []
   more : {block : BlockFields} {blocks : List BlockFields} → length (block .pairs) ≤ 64 → FewPairs blocks → FewPairs (block ∷ blocks)
 
-block-short : (intra : Bool) (block : BlockFields) → length (block .pairs) ≤ 64 → length (blockBytes intra block) ≤ 195
+pub block-short : (intra : Bool) (block : BlockFields) → length (block .pairs) ≤ 64 → length (blockBytes intra block) ≤ 195
 block-short true block few = omega (arith, intra-length block)
 block-short false block few = omega (arith, inter-length block)
 
@@ -54,20 +54,20 @@ byte-short : (given : Bool) (n : ℕ) → length (cond given (n ∷ []) []) ≤ 
 byte-short true n = omega arith
 byte-short false n = omega arith
 
-head-short : (flags increment scale : ℕ) → length (headBytes flags increment scale) ≤ 4
+pub head-short : (flags increment scale : ℕ) → length (headBytes flags increment scale) ≤ 4
 unfolding headBytes wordBytes
 head-short flags increment scale = omega (arith, byte-short (gives flags 1) scale)
 
-given-short : (given : Bool) (codes : VectorCodes) → length (givenCodesBytes given codes) ≤ 4
+pub given-short : (given : Bool) (codes : VectorCodes) → length (givenCodesBytes given codes) ≤ 4
 given-short true codes = omega (arith, codes-length codes)
 given-short false codes = omega arith
 
-pattern-short : (flags pattern : ℕ) → length (patternBytes flags pattern) ≤ 1
+pub pattern-short : (flags pattern : ℕ) → length (patternBytes flags pattern) ≤ 1
 unfolding patternBytes
 pattern-short flags pattern = byte-short (gives flags 8) pattern
 
 pub macroblock-short : (fields : MacroblockFields) → length (fields .blocks) ≤ 6 → FewPairs (fields .blocks) → length (macroblockBody fields) ≤ 1183
-unfolding macroblockBody vectorsBytes residueBytes
+unfolding macroblockBody
 macroblock-short fields six few =
     let flags = fields .flags in
     let head = headBytes flags (fields .increment) (fields .scale) in

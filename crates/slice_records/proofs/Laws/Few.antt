@@ -17,7 +17,7 @@ use Rattle.macroblock_symbols.specs.Vectors.{gives}
 use Rattle.layout_reading.specs.Matching.{codedPattern}
 use Rattle.record_layout.specs.Records.{joined, PairFields, BlockFields, blockBytes, patternBytes, blocksBytes}
 use Rattle.record_layout.proofs.Laws.Laying.{joined-append}
-use Rattle.record_layout.proofs.Laws.Lengths.{intra-length, inter-length}
+use Rattle.record_layout.proofs.Laws.Lengths.{block-short, pattern-short}
 use Rattle.code_tables.proofs.Laws.Prefix.{case}
 use Rattle.coefficient_codes.specs.Coefficient.{wordsOf, coefficientOf}
 use Rattle.coefficient_codes.specs.declared.coefficient.Coefficient.{Coefficient}
@@ -26,7 +26,7 @@ use Rattle.slice_syntax.specs.Read.{Read, read, refused, readThen}
 use Rattle.slice_syntax.specs.Blocks.{nextPairOf, pairThen, pairsFrom, pairsAt, givenDifferenceAt, blockAt, codedBlockAt, blocksFrom}
 use Rattle.slice_syntax.specs.Macroblock.{ResidueFields, RestFields, vectorsAt, patternAt, residueAt, restAt}
 use Rattle.slice_records.specs.Laying.{bothBytes, patternAndBlocks, restBytes}
-use Rattle.slice_records.proofs.Laws.Lengths.{both-short, pattern-short}
+use Rattle.slice_records.proofs.Laws.Lengths.{both-short}
 
 -- what holds of each value that is read
 pub data Of {A : Type 0} (P : A → Type 0) : Read A → Type 0 where
@@ -90,17 +90,13 @@ block-few intra block bytes at =
     of-then (pairsAt intra bytes p) (pairs-few intra bytes p) λ pairs q h. of (record { few = h })
 
 -- ---- bytes
-pub levels-short : (intra : Bool) (block : BlockFields) → FewIn block → length (blockBytes intra block) ≤ 195
-levels-short true block h = omega (arith, intra-length block, h .few)
-levels-short false block h = omega (arith, inter-length block, h .few)
-
 pub record ShortBlocks (intra : Bool) (blocks : List BlockFields) : Type 0 where
   pub short : length (blocksBytes intra blocks) ≤ 195
 
 pub coded-short : (coded intra : Bool) (block : ℕ) (bytes : List ℕ) (at : Position) → Of (ShortBlocks intra) (codedBlockAt coded intra block bytes at)
 unfolding codedBlockAt joined
 coded-short true intra block bytes at =
-    of-then (blockAt intra block bytes at) (block-few intra block bytes at) λ fields p h. of (record { short = rw (append-nil (blockBytes intra fields)) (levels-short intra fields h) })
+    of-then (blockAt intra block bytes at) (block-few intra block bytes at) λ fields p h. of (record { short = rw (append-nil (blockBytes intra fields)) (block-short intra fields (h .few)) })
 coded-short false intra block bytes at = of {a = []} (record { short = omega arith })
 
 pub record ShortIn (intra : Bool) (n : ℕ) (blocks : List BlockFields) : Type 0 where

@@ -11,8 +11,8 @@ use Rattle.symbols.specs.declared.vector_codes.VectorCodes.{VectorCodes}
 use Rattle.macroblock_symbols.specs.declared.vectors.Vectors.{Vectors}
 use Rattle.macroblock_symbols.specs.Vectors.{gives}
 use Rattle.byte_layout.specs.Bytes.{wordBytes}
-use Rattle.record_layout.specs.Records.{codeBytes, givenCodesBytes, headBytes, patternBytes}
-use Rattle.record_layout.proofs.Laws.Lengths.{codes-length}
+use Rattle.record_layout.specs.Records.{codeBytes, givenCodesBytes, differenceBytes}
+use Rattle.record_layout.proofs.Laws.Lengths.{given-short}
 use Rattle.bits.specs.Bits.{bitsFrom}
 use Rattle.bits.specs.declared.Position.{Position}
 use Rattle.code_tables.specs.AnnexB.{patterns}
@@ -21,15 +21,11 @@ use Rattle.codes.proofs.Laws.Range.{pattern-read}
 use Rattle.slice_syntax.specs.Read.{read, wordAt, fieldAt}
 use Rattle.slice_syntax.specs.Macroblock.{scaleAt, patternAt}
 use Rattle.slice_syntax.proofs.Laws.Read.{word-below, field-below}
-use Rattle.slice_records.specs.Laying.{componentBytes, bothBytes, differenceBytes}
+use Rattle.slice_records.specs.Laying.{componentBytes, bothBytes}
 
 pub component-length : (component : VectorCode) → length (componentBytes component) ≡ 2
 unfolding codeBytes
 component-length component = refl
-
-pub given-short : (given : Bool) (codes : VectorCodes) → length (givenCodesBytes given codes) ≤ 4
-given-short true codes = omega (arith, codes-length codes)
-given-short false codes = omega arith
 
 pub both-short : (flags : ℕ) (vectors : Vectors) → length (bothBytes flags vectors) ≤ 8
 both-short flags vectors =
@@ -44,18 +40,6 @@ pub difference-short : (intra : Bool) (difference : ℤ) → length (differenceB
 unfolding wordBytes
 difference-short true difference = omega arith
 difference-short false difference = omega arith
-
-byte-short : (given : Bool) (n : ℕ) → length (cond given (n ∷ []) []) ≤ 1
-byte-short true n = omega arith
-byte-short false n = omega arith
-
-pub pattern-short : (flags pattern : ℕ) → length (patternBytes flags pattern) ≤ 1
-unfolding patternBytes
-pattern-short flags pattern = byte-short (gives flags 8) pattern
-
-pub head-short : (flags increment scale : ℕ) → length (headBytes flags increment scale) ≤ 4
-unfolding headBytes wordBytes
-head-short flags increment scale = omega (arith, byte-short (gives flags 1) scale)
 
 -- ---- values that are read fit a byte
 pub scale-small : (flags : ℕ) (bytes : List ℕ) (at : Position) {v : ℕ} {p : Position} → scaleAt flags bytes at ≡ read v p → v < 256

@@ -9,7 +9,7 @@ use Rattle.refusals.specs.declared.Refusal.{Refusal}
 use Rattle.bits.specs.declared.Position.{Position}
 use Rattle.byte_layout.specs.Laid.{laid}
 use Rattle.byte_layout.proofs.Laws.Laid.{laid-append}
-use Rattle.record_layout.specs.Records.{recordHead, recordBytes, headBytes, vectorsBytes, residueBytes, macroblockBody}
+use Rattle.record_layout.specs.Records.{recordHead, recordBytes, headBytes, macroblockBody}
 use Rattle.record_layout.proofs.Laws.Laying.{laid-record}
 use Rattle.record_layout.proofs.Laws.Lengths.{record-length}
 use Rattle.slice_syntax.specs.Read.{Read, read, refused}
@@ -33,7 +33,7 @@ module _ (place kind : ℕ) (head rest : List ℕ) {n m size : ℕ} (h : n ≡ l
 -- the body of a macroblock, from its head and the rest
 pub body-of : (increment : ℕ) (head : HeadFields) (rest : RestFields)
     → macroblockBody (fieldsWith increment head rest) ≡ headBytes (head .flags) increment (head .scale) ++ restBytes (head .flags) rest
-unfolding macroblockBody vectorsBytes residueBytes
+unfolding macroblockBody
 body-of increment head rest = refl
 
 module _ (h : Header) (increment : ℕ) (bytes : List ℕ) (at : Position) where

@@ -7,13 +7,12 @@ use borrow.Author.Needs.{needs}
 use lib.IntN.{ℤ}
 use Rattle.bits.specs.Bits.{InBytes}
 use Rattle.bits.specs.declared.Position.{Position}
-use Rattle.record_layout.specs.Records.{PairFields, BlockFields, levelsBytes, blockBytes}
+use Rattle.record_layout.specs.Records.{PairFields, BlockFields, levelsBytes, differenceBytes, blockBytes}
 use Rattle.record_layout.proofs.Laws.Lengths.{levels-length}
 use Rattle.slice_syntax.specs.Read.{Read}
 use Rattle.slice_syntax.specs.Blocks.{givenDifferenceAt, pairsAt, blockAt}
 use Rattle.slice_syntax.proofs.Laws.Read.{reached}
 use Rattle.slice_syntax.proofs.Laws.Onward.{given-difference-onward}
-use Rattle.slice_records.specs.Laying.{differenceBytes}
 use Rattle.slice_records.proofs.Laws.Laying.{Part, part-done, part-refused, not-laid, first-refused, second-refused, both-laid}
 use Rattle.slice_records.proofs.Laws.Lengths.{difference-short}
 use Rattle.slice_records.proofs.Laws.Few.{of-read, pairs-few}

@@ -9,7 +9,6 @@ use Rattle.byte_layout.specs.Bytes.{wordBytes}
 use Rattle.byte_layout.specs.Laid.{laid}
 use Rattle.slice_syntax.specs.Read.{read}
 use Rattle.slice_syntax.specs.Blocks.{differenceAt, givenDifferenceAt}
-use Rattle.slice_records.specs.Laying.{differenceBytes}
 use Rattle.slice_records.proofs.Laws.Laying.{laid-as, not-laid}
 use Rattle.slice_records.proofs.Laws.Answers.{difference-read, difference-refused}
 use Rattle.slice_records.proofs.coded_blocks.lay_difference.Statement.{statement}

@@ -8,6 +8,7 @@ use lib.ListN.{length}
 use Rattle.format3.specs.Record.{macroblock}
 use Rattle.bits.specs.Bits.{InBytes}
 use Rattle.record_layout.specs.Records.{headBytes, recordBytes, macroblockRecord}
+use Rattle.record_layout.proofs.Laws.Lengths.{head-short}
 use Rattle.slice_syntax.specs.Read.{Read, read}
 use Rattle.slice_syntax.specs.Macroblock.{HeadFields, RestFields, headAt, restAt, fieldsWith}
 use Rattle.slice_syntax.proofs.Laws.Read.{reached}
@@ -16,7 +17,6 @@ use Rattle.slice_records.specs.Laying.{restBytes}
 use Rattle.slice_records.specs.declared.laying.Laying.the-variants.{Done}
 use Rattle.slice_records.proofs.Laws.Laying.{Part, part-done, part-refused, laid-as, not-laid}
 use Rattle.slice_records.proofs.Laws.Answers as Answers
-use Rattle.slice_records.proofs.Laws.Lengths.{head-short}
 use Rattle.slice_records.proofs.Laws.Few.{of-read, rest-short}
 use Rattle.slice_records.proofs.Laws.Macroblock.{record-size, record-laid, body-of, head-refused, rest-refused, macroblock-read}
 use Rattle.slice_records.proofs.macroblock.lay_macroblock.Statement.{statement}

@@ -9,6 +9,7 @@ use Rattle.layout_reading.specs.Matching.{codedPattern}
 use Rattle.bits.specs.Bits.{InBytes}
 use Rattle.bits.specs.declared.Position.{Position}
 use Rattle.record_layout.specs.Records.{BlockFields, patternBytes, blocksBytes}
+use Rattle.record_layout.proofs.Laws.Lengths.{pattern-short}
 use Rattle.slice_syntax.specs.Read.{Read, read}
 use Rattle.slice_syntax.specs.Blocks.{blocksFrom}
 use Rattle.slice_syntax.specs.Macroblock.{ResidueFields, patternAt, residueAt}
@@ -16,7 +17,7 @@ use Rattle.slice_syntax.proofs.Laws.Read.{step-read, step-refused, reached}
 use Rattle.slice_syntax.proofs.Laws.Onward.{pattern-onward}
 use Rattle.slice_records.specs.Laying.{layingOf, LaidAt, patternAndBlocks}
 use Rattle.slice_records.proofs.Laws.Laying.{Part, part-done, part-refused, laid-as, not-laid, first-refused, second-refused, both-laid}
-use Rattle.slice_records.proofs.Laws.Lengths.{pattern-short, pattern-small}
+use Rattle.slice_records.proofs.Laws.Lengths.{pattern-small}
 use Rattle.slice_records.proofs.Laws.Few.{of-read, blocks-short}
 use Rattle.slice_records.proofs.Laws.Blocks.{blocks-as}
 use Rattle.slice_records.proofs.macroblock.lay_residue.Statement.{statement}

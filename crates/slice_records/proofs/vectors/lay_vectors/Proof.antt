@@ -10,6 +10,7 @@ use Rattle.macroblock_symbols.specs.Vectors.{gives}
 use Rattle.bits.specs.Bits.{InBytes}
 use Rattle.bits.specs.declared.Position.{Position}
 use Rattle.record_layout.specs.Records.{givenCodesBytes}
+use Rattle.record_layout.proofs.Laws.Lengths.{given-short}
 use Rattle.slice_syntax.specs.Read.{Read}
 use Rattle.slice_syntax.specs.Vectors.{givenVectorAt}
 use Rattle.slice_syntax.specs.Macroblock.{vectorsAt}
@@ -17,7 +18,6 @@ use Rattle.slice_syntax.proofs.Laws.Read.{reached}
 use Rattle.slice_syntax.proofs.Laws.Onward.{given-onward}
 use Rattle.slice_records.specs.Laying.{bothBytes}
 use Rattle.slice_records.proofs.Laws.Laying.{Part, part-done, part-refused, not-laid, first-refused, second-refused, both-laid}
-use Rattle.slice_records.proofs.Laws.Lengths.{given-short}
 use Rattle.slice_records.proofs.vectors.lay_vectors.Statement.{statement}
 use Rattle.slice_records.proofs.vectors.lay_vectors.Tie as tie
 
