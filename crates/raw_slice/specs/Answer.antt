@@ -1,5 +1,4 @@
 -- The entry's answer and the buffer at exit (request No. 2).
-use mathlib.Core.Bool.{Bool, true, false}
 use mathlib.Core.List.{List, _++_}
 use Prim.Native.Nat.{ℕ}
 use lib.Dec.{leb}

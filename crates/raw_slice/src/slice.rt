@@ -5,7 +5,7 @@ use picture_header::header::Header;
 use slice_records::laying::Laying;
 use slice_syntax::step::Step;
 ghost use mathlib.Core.Path.{_≡_};
-ghost use Prim.Native.Nat.{_<_, _≤_};
+ghost use Prim.Native.Nat.{_≤_};
 ghost use Rattle.picture_header.specs.Header.{HeaderWithin};
 ghost use Rattle.bits.specs.Bits.{InBytes};
 ghost use Rattle.code_tables.specs.Table.{codeTable};

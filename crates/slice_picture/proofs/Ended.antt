@@ -1,14 +1,11 @@
 -- The laws of the entry: what is written is the records, and a refused slice leaves the buffer as it was. Assumes nothing.
-use mathlib.Core.Bool.{true, false}
 use mathlib.Core.List.{List, _++_}
 use mathlib.Core.Path.{_≡_, refl}
-use Prim.Native.Nat.{ℕ, _≤_}
-use native.Mathlib.Omega.{arith}
+use Prim.Native.Nat.{ℕ}
 use lib.Dec.{leb}
 use lib.ListN.{length, drop}
 use borrow.Author.Tests.{leb-true}
 use Rattle.refusals.specs.Refusal as Refusals
-use Rattle.refusals.specs.declared.Refusal.{Refusal}
 use Rattle.refusals.specs.declared.Refusal.the-variants.{RecordsLength}
 use Rattle.format3.specs.Chain.{only}
 use Rattle.picture_header.specs.Header.{headerWith}
@@ -17,11 +14,10 @@ use Rattle.picture_header.specs.declared.header.HeaderFields.{HeaderFields}
 use Rattle.picture_header.specs.declared.header.HeaderAnswer.{HeaderAnswer}
 use Rattle.picture_header.specs.declared.header.HeaderAnswer.the-variants as Header
 use Rattle.picture_laws.proofs.AcceptanceLaws.{number-not-accepted}
-use Rattle.bits.specs.declared.Position.{Position}
 use Rattle.code_tables.proofs.Laws.Prefix.{case}
 use Rattle.slice_syntax.specs.Read.{Read, read, refused}
 use Rattle.slice_syntax.specs.Slice.{SliceFields, firstBit, rawSliceOf, recordsOf}
-use Rattle.raw_slice.specs.Answer.{Outcome, acceptedWith, refusedOutcome, fitted, readOutcome, headerOutcome, rawSliceOutcome}
+use Rattle.raw_slice.specs.Answer.{Outcome, fitted, readOutcome, headerOutcome, rawSliceOutcome}
 use Rattle.slice_picture.specs.Ended.{Taken, Ended}
 use Rattle.slice_picture.specs.Ended as Ended
 

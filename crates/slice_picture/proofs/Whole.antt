@@ -2,8 +2,7 @@
 use mathlib.Core.Bool.{Bool, true, false, cond}
 use mathlib.Core.List.{List, [], _∷_, _++_}
 use mathlib.Core.Path.{_≡_, refl}
-use Prim.Native.Nat.{ℕ, zero, suc, _+_, _≤_}
-use native.Mathlib.Omega.{arith}
+use Prim.Native.Nat.{ℕ, zero, suc, _+_}
 use lib.IntN.{ℤ}
 use lib.ListN.{length, take, drop, length-append}
 use lib.Seq.{take-append-seam}
@@ -15,16 +14,16 @@ use Rattle.bits.specs.declared.Position.{Position}
 use Rattle.blocks.specs.Blocks.{isCoded}
 use Rattle.macroblock_symbols.specs.Vectors.{gives}
 use Rattle.picture.specs.Picture.{pictureOf}
-use Rattle.record_layout.specs.Records.{BlockFields, MacroblockFields}
+use Rattle.record_layout.specs.Records.{BlockFields}
 use Rattle.record_layout.proofs.Laws.Lengths.{FewPairs}
 use Rattle.record_layout.proofs.Laws.Lengths as Few
 use Rattle.layout_reading.specs.Framed.{Framed}
-use Rattle.layout_reading.specs.Matching.{codedPattern, codedFrom, Matching}
-use Rattle.layout_picture.specs.Whole.{WholeMacroblock, WholeMacroblocks, WholeRecords, fileOf}
+use Rattle.layout_reading.specs.Matching.{codedPattern, codedFrom}
+use Rattle.layout_picture.specs.Whole.{WholeMacroblock, WholeMacroblocks, fileOf}
 use Rattle.layout_picture.specs.Whole as Whole
 use Rattle.layout_picture.proofs.Picture.{picture-framed, slice-whole, macroblock-whole}
 use Rattle.code_tables.proofs.Laws.Prefix.{case}
-use Rattle.slice_syntax.specs.Read.{Read, read, refused}
+use Rattle.slice_syntax.specs.Read.{read}
 use Rattle.slice_syntax.specs.Blocks.{blockAt, codedBlockAt, blocksFrom}
 use Rattle.slice_syntax.specs.Increment.{incrementAt}
 use Rattle.slice_syntax.specs.Macroblock.{headAt, vectorsAt, patternAt, residueAt, restAt, fieldsWith, ResidueFields, RestFields, macroblockAt}

@@ -1,8 +1,8 @@
 -- How the entry ends: refused, with the buffer as it was; or accepted, with the records of the slice.
-use mathlib.Core.List.{List, _++_}
+use mathlib.Core.List.{List}
 use mathlib.Core.Path.{_≡_}
 use Prim.Native.Nat.{ℕ, _≤_}
-use lib.ListN.{length, drop}
+use lib.ListN.{length}
 use Rattle.refusals.specs.declared.Refusal.{Refusal}
 use Rattle.picture_header.specs.Header.{headerWith}
 use Rattle.picture_header.specs.declared.header.Header.{Header}

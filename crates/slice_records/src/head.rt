@@ -3,7 +3,6 @@ use bits::Position;
 use refusals::Refusal;
 use slice_syntax::step::Step;
 ghost use mathlib.Core.Path.{_≡_};
-ghost use Prim.Native.Nat.{_≤_};
 ghost use Rattle.bits.specs.Bits.{InBytes};
 ghost use Rattle.code_tables.specs.Table.{codeTable};
 ghost use Rattle.slice_syntax.specs.Answers.{stepOf};

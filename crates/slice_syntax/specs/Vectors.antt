@@ -3,7 +3,7 @@ use mathlib.Core.Bool.{Bool, cond}
 use mathlib.Core.List.{List}
 use Prim.Native.Nat.{ℕ, _-_}
 use lib.Dec.{eqb, ltb}
-use lib.IntN.{ℤ, pos, _-ℤ_}
+use lib.IntN.{pos, _-ℤ_}
 use Rattle.symbols.specs.declared.vector_codes.VectorCode.{VectorCode}
 use Rattle.symbols.specs.declared.vector_codes.VectorCodes.{VectorCodes}
 use Rattle.macroblock_symbols.specs.Vectors.{noCodes}

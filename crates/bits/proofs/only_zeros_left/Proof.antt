@@ -5,8 +5,6 @@ use Rattle.bits.specs.Bits.{leadingNumber, bitsFrom}
 use Rattle.bits.proofs.Zeros.{not-zeros, zeros-past, rest-zeros}
 use Rattle.bits.proofs.only_zeros_left.Statement.{statement}
 use Rattle.bits.proofs.only_zeros_left.Tie as tie
-use Rattle.bits.proofs.only_zeros_left.Reads as reads
-use Rattle.bits.proofs.only_zeros_left.Lts as lts
 use Rattle.bits.proofs.next_bits.Reads as next-bits-reads
 use Rattle.bits.proofs.zero_bytes.Reads as zero-bytes-reads
 

@@ -7,8 +7,6 @@ use Rattle.bits.specs.Bits.{bits, allZeros}
 use Rattle.bits.proofs.Zeros.{zero-more, zero-none, zero-end}
 use Rattle.bits.proofs.zero_bytes.Statement.{statement}
 use Rattle.bits.proofs.zero_bytes.Tie as tie
-use Rattle.bits.proofs.zero_bytes.Reads as reads
-use Rattle.bits.proofs.zero_bytes.Lts as lts
 
 abbrev Inv-loop : tie.InvT-loop
 Inv-loop bytes from i₀ i = (i ≤ length bytes) × (allZeros (bits (drop from bytes)) ≡ allZeros (bits (drop i bytes)))

@@ -8,7 +8,7 @@ use native.Mathlib.Decide.{decLe}
 use native.Mathlib.Omega.{arith}
 use lib.Dec.{T, eqb, ltb, leb, eqb→eq}
 use lib.IntN.{pos, _-ℤ_}
-use lib.ListN.{length, drop, take-append-drop}
+use lib.ListN.{drop, take-append-drop}
 use lib.Seq.{drop-drop}
 use borrow.Author.Tests.{eqb-true, eqb-false, leb-true, leb-false, eq-eqb}
 use Rattle.bits.specs.declared.Window.{Window}

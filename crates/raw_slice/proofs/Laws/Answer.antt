@@ -1,8 +1,8 @@
 -- The entry's answer, by what is measured; and the numbers that a header takes. Assumes nothing.
-use mathlib.Core.Bool.{Bool, true, false}
+use mathlib.Core.Bool.{true}
 use mathlib.Core.List.{List, [], _∷_, _++_}
-use mathlib.Core.Path.{_≡_, refl, sym, ap, _∙_}
-use Prim.Native.Nat.{ℕ, _+_, _*_, _<_, _≤_, min}
+use mathlib.Core.Path.{_≡_, refl, ap, _∙_}
+use Prim.Native.Nat.{ℕ, _+_, _*_, _<_, _≤_}
 use native.Mathlib.Omega.{arith}
 use lib.Dec.{leb}
 use lib.ListN.{length, drop}
@@ -15,11 +15,10 @@ use Rattle.picture_header.specs.Size.{legalSize}
 use Rattle.picture_header.specs.Header.{legalHeader, headerValue, headerWith}
 use Rattle.picture_header.specs.declared.header.Header.{Header}
 use Rattle.picture_header.specs.declared.header.HeaderFields.{HeaderFields}
-use Rattle.picture_header.specs.declared.header.HeaderAnswer.{HeaderAnswer}
 use Rattle.picture_header.specs.declared.header.HeaderAnswer.the-variants as Header
 use Rattle.picture_header.proofs.Laws.Header.{made-within}
 use Rattle.bits.specs.declared.Position.{Position}
-use Rattle.byte_layout.specs.Laid.{laid, farthest, offsetAfter}
+use Rattle.byte_layout.specs.Laid.{farthest, offsetAfter}
 use Rattle.byte_layout.proofs.Laws.Laid.{laid-whole}
 use Rattle.code_tables.proofs.Laws.Prefix.{case}
 use Rattle.slice_syntax.specs.Read.{Read, read, refused}
@@ -28,7 +27,7 @@ use Rattle.slice_records.specs.Laying.{LaidAt}
 use Rattle.slice_records.specs.declared.laying.Laying.{Laying}
 use Rattle.slice_records.specs.declared.laying.Laying.the-variants.{Done, Refused}
 use Rattle.raw_slice.specs.Laying.{endOf}
-use Rattle.raw_slice.specs.Answer.{Outcome, refusedOutcome, acceptedWith, fitted, readOutcome}
+use Rattle.raw_slice.specs.Answer.{refusedOutcome, acceptedWith, fitted, readOutcome}
 
 pub empty-list : (l : List ℕ) → length l ≡ 0 → l ≡ []
 empty-list [] e = refl

@@ -1,13 +1,13 @@
 -- The macroblocks of a slice, one at a time: what is still to be read comes behind those that are laid. Assumes nothing.
-use mathlib.Core.Bool.{Bool, true, false}
+use mathlib.Core.Bool.{true, false}
 use mathlib.Core.List.{List, [], _∷_, _++_, append-assoc, append-nil}
 use mathlib.Core.Path.{_≡_, refl, sym, ap, _∙_}
-use Prim.Native.Nat.{ℕ, zero, suc, _+_, _-_, _<_, _≤_, min}
+use Prim.Native.Nat.{ℕ, zero, suc, _+_, _-_, _<_, _≤_}
 use native.Mathlib.Omega.{arith}
 use lib.ListN.{length, length-append}
 use Rattle.refusals.specs.declared.Refusal.{Refusal}
 use Rattle.picture_header.specs.declared.header.Header.{Header}
-use Rattle.bits.specs.Bits.{InBytes, allZeros, bitsFrom, offset}
+use Rattle.bits.specs.Bits.{InBytes, allZeros, bitsFrom}
 use Rattle.bits.specs.declared.Position.{Position}
 use Rattle.bits.proofs.Rest.{rest-length}
 use Rattle.byte_layout.specs.Laid.{laid, farthest, offsetAfter}

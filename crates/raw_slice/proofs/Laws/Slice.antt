@@ -1,7 +1,7 @@
 -- A slice's records: its own, its first macroblock's, and those of the others. Assumes nothing.
-use mathlib.Core.List.{List, [], _∷_, _++_}
+use mathlib.Core.List.{List, _∷_, _++_}
 use mathlib.Core.Path.{_≡_, refl, sym, ap, _∙_}
-use Prim.Native.Nat.{ℕ, zero, suc, _+_, _≤_, min}
+use Prim.Native.Nat.{ℕ, zero, suc, _+_, _≤_}
 use native.Mathlib.Omega.{arith}
 use lib.Dec.{eqb, leb}
 use lib.ListN.{length, length-append}
@@ -17,7 +17,7 @@ use Rattle.byte_layout.proofs.Laws.Laid.{laid-append}
 use Rattle.record_layout.specs.Records.{joined, recordHead, recordBytes, sliceBody, sliceRecord, MacroblockFields, headBytes, macroblockBody, macroblockRecord, sliceRecords}
 use Rattle.record_layout.proofs.Laws.Lengths.{record-length, head-short}
 use Rattle.format3.specs.Record.{macroblock}
-use Rattle.code_tables.specs.Code.{Word, codeOf}
+use Rattle.code_tables.specs.Code.{codeOf}
 use Rattle.code_tables.specs.declared.code.Code.{Code}
 use Rattle.code_tables.specs.declared.code.Code.the-variants.{Value, NoCode, Short}
 use Rattle.code_tables.specs.AnnexB.{increments, incrementsAfterEscape, stuffing, incrementEscape}
@@ -29,7 +29,7 @@ use Rattle.slice_syntax.specs.Macroblock.{HeadFields, RestFields, headAt, restA
 use Rattle.slice_syntax.specs.Slice.{SliceFields, macroblocksAt, startAddress, sliceHeadOf, afterHeadAt, rawSliceOf, recordsOf}
 use Rattle.slice_records.specs.Laying.{LaidAt, restBytes}
 use Rattle.slice_records.specs.declared.laying.Laying.{Laying}
-use Rattle.slice_records.specs.declared.laying.Laying.the-variants.{Done, Refused}
+use Rattle.slice_records.specs.declared.laying.Laying.the-variants.{Done}
 use Rattle.slice_records.proofs.Laws.Laying.{laid-as, not-laid}
 use Rattle.slice_records.proofs.Laws.Few.{Of, of, none, of-then, of-any, rest-short}
 use Rattle.slice_records.proofs.Laws.Macroblock.{body-of}

@@ -1,7 +1,7 @@
 -- What the readers of a slice's start say of what is read. Assumes nothing.
 use mathlib.Core.List.{List}
 use mathlib.Core.Path.{_≡_, refl, ap, subst}
-use Prim.Native.Nat.{ℕ, _+_, _≤_, _<_}
+use Prim.Native.Nat.{ℕ, _+_, _≤_}
 use lib.ListN.{length}
 use native.Mathlib.Omega.{arith}
 use Rattle.refusals.specs.declared.Refusal.{Refusal}
@@ -14,7 +14,7 @@ use Rattle.slice_syntax.specs.Slice.{SliceHead, firstBit, afterExtra, sliceHead
 use Rattle.slice_syntax.specs.Answers.{skippedOf}
 use Rattle.slice_syntax.specs.declared.extra.Skipped.{Skipped}
 use Rattle.slice_syntax.specs.declared.extra.Skipped.the-variants as Skipped
-use Rattle.slice_syntax.proofs.Laws.Read.{Onward, Ahead, reached, taken, first-inside, code-onward, field-onward}
+use Rattle.slice_syntax.proofs.Laws.Read.{Onward, reached, taken, first-inside, code-onward, field-onward}
 use Rattle.slice_syntax.proofs.Laws.Onward.{extra-onward}
 use Rattle.slice_syntax.proofs.Laws.Words.{start-read}
 use Rattle.raw_slice.specs.Laying.{sliceHeadAnswer}

@@ -1,5 +1,5 @@
 -- The blocks of a macroblock, one at a time. Assumes nothing.
-use mathlib.Core.Bool.{Bool, true, false}
+use mathlib.Core.Bool.{Bool}
 use mathlib.Core.List.{List, [], _∷_, _++_, append-assoc, append-nil}
 use mathlib.Core.Path.{_≡_, refl, sym, ap, subst, _∙_}
 use Prim.Native.Nat.{ℕ, zero, suc, _+_, _-_, _*_, _<_, _≤_}
@@ -17,7 +17,6 @@ use Rattle.slice_syntax.specs.Read.{Read, read, refused, readThen}
 use Rattle.slice_syntax.specs.Blocks.{codedBlockAt, blocksFrom}
 use Rattle.slice_records.specs.Laying.{layingOf, LaidAt}
 use Rattle.slice_records.specs.declared.laying.Laying.{Laying}
-use Rattle.slice_records.specs.declared.laying.Laying.the-variants.{Done}
 use Rattle.slice_records.proofs.Laws.Laying.{Part, laid-as, not-laid}
 use Rattle.slice_records.proofs.Laws.Few.{of-read, coded-short}
 

@@ -1,13 +1,12 @@
 -- How many bytes the parts of a macroblock have. Assumes nothing.
-use mathlib.Core.Bool.{Bool, true, false, cond}
-use mathlib.Core.List.{List, [], _∷_, _++_}
-use mathlib.Core.Path.{_≡_, refl, sym, _∙_}
-use Prim.Native.Nat.{ℕ, _+_, _*_, _^_, _<_, _≤_}
+use mathlib.Core.Bool.{Bool, true, false}
+use mathlib.Core.List.{List}
+use mathlib.Core.Path.{_≡_, refl}
+use Prim.Native.Nat.{ℕ, _<_, _≤_}
 use native.Mathlib.Omega.{arith}
 use lib.IntN.{ℤ}
 use lib.ListN.{length, length-append}
 use Rattle.symbols.specs.declared.vector_codes.VectorCode.{VectorCode}
-use Rattle.symbols.specs.declared.vector_codes.VectorCodes.{VectorCodes}
 use Rattle.macroblock_symbols.specs.declared.vectors.Vectors.{Vectors}
 use Rattle.macroblock_symbols.specs.Vectors.{gives}
 use Rattle.byte_layout.specs.Bytes.{wordBytes}

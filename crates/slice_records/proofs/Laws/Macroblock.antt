@@ -1,6 +1,6 @@
 -- A record laid in three parts: its head, the rest of its body, and then its length and kind before them. Assumes nothing.
 use mathlib.Core.List.{List, _++_}
-use mathlib.Core.Path.{_≡_, refl, sym, ap, _∙_}
+use mathlib.Core.Path.{_≡_, refl, sym, _∙_}
 use Prim.Native.Nat.{ℕ, _+_}
 use native.Mathlib.Omega.{arith}
 use lib.ListN.{length, length-append}
@@ -12,7 +12,7 @@ use Rattle.byte_layout.proofs.Laws.Laid.{laid-append}
 use Rattle.record_layout.specs.Records.{recordHead, recordBytes, headBytes, macroblockBody}
 use Rattle.record_layout.proofs.Laws.Laying.{laid-record}
 use Rattle.record_layout.proofs.Laws.Lengths.{record-length}
-use Rattle.slice_syntax.specs.Read.{Read, read, refused}
+use Rattle.slice_syntax.specs.Read.{read, refused}
 use Rattle.slice_syntax.specs.Macroblock.{HeadFields, RestFields, headAt, restAt, fieldsWith, macroblockAt}
 use Rattle.slice_records.specs.Laying.{restBytes}
 

@@ -1,23 +1,21 @@
 -- Stuffing dropped and escapes added in, code by code. Assumes nothing.
-use mathlib.Core.Bool.{Bool, true, false}
 use mathlib.Core.List.{List}
-use mathlib.Core.Path.{_≡_, refl, sym, _∙_}
+use mathlib.Core.Path.{_≡_, refl, sym}
 use Prim.Native.Nat.{ℕ, zero, suc, _+_, _*_, _<_, _≤_}
 use native.Mathlib.Omega.{arith}
-use lib.Dec.{eqb, leb}
 use lib.ListN.{length}
 use borrow.Author.Tests.{eq-eqb, ne-eqb, le-leb, lt-leb}
 use Rattle.refusals.specs.declared.Refusal.{Refusal}
 use Rattle.refusals.specs.declared.Refusal.the-variants.{SliceCode}
 use Rattle.format3.specs.Chain.{only}
-use Rattle.bits.specs.Bits.{InBytes, bitsFrom, offset}
+use Rattle.bits.specs.Bits.{InBytes, bitsFrom}
 use Rattle.bits.specs.declared.Position.{Position}
 use Rattle.bits.proofs.Rest.{rest-length}
 use Rattle.code_tables.specs.AnnexB.{increments, incrementsAfterEscape, stuffing, incrementEscape}
 use Rattle.codes.proofs.Laws.Range.{increment-read, increment-after-escape-read}
 use Rattle.slice_syntax.specs.Read.{Read, read, refused, wordAt}
 use Rattle.slice_syntax.specs.Increment.{afterStuffing, amountOf, afterEscape}
-use Rattle.slice_syntax.proofs.Laws.Read.{Ahead, Onward, stopped, onward, reached, then-onward, no-further, word-onward}
+use Rattle.slice_syntax.proofs.Laws.Read.{Ahead, reached, word-onward}
 
 -- ---- stuffing: from here on, the same is read as from the start on
 pub record Stuffed (bytes : List ℕ) (whole : Read ℕ) (at : Position) : Type 0 where

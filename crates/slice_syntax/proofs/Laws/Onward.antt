@@ -1,8 +1,7 @@
 -- Each part of a slice that is read ends within the bytes, no earlier than it starts. Assumes nothing.
 use mathlib.Core.Bool.{Bool, true, false, cond, not}
-use mathlib.Core.List.{List, [], _∷_}
-use mathlib.Core.Path.{_≡_, refl}
-use Prim.Native.Nat.{ℕ, zero, suc, _+_, _≤_}
+use mathlib.Core.List.{List}
+use Prim.Native.Nat.{ℕ, zero, suc, _+_}
 use native.Mathlib.Omega.{arith}
 use lib.Dec.{eqb, ltb, leb}
 use lib.IntN.{ℤ}
@@ -18,13 +17,13 @@ use Rattle.code_tables.specs.AnnexB.{increments, incrementsAfterEscape, stuffin
 use Rattle.codes.proofs.Laws.Range.{increment-read, increment-after-escape-read, type-read, pattern-read, motion-code-read}
 use Rattle.slice_syntax.specs.declared.coefficient.NextPair.{NextPair}
 use Rattle.slice_syntax.specs.declared.coefficient.NextPair.the-variants as NextPair
-use Rattle.slice_syntax.specs.Read.{Read, read, refused, wordAt, fieldAt}
+use Rattle.slice_syntax.specs.Read.{Read, wordAt, fieldAt}
 use Rattle.slice_syntax.specs.Increment.{afterStuffing, amountOf, afterEscape, incrementAt}
 use Rattle.slice_syntax.specs.Vectors.{residualAt, motionAt, vectorAt, givenVectorAt}
 use Rattle.slice_syntax.specs.Blocks.{sizeWords, differenceAt, nextPairAt, pairThen, pairsFrom, pairsAt, givenDifferenceAt, blockAt, codedBlockAt, blocksFrom}
 use Rattle.slice_syntax.specs.Macroblock.{scaleAt, headAt, vectorsAt, patternAt, residueAt, restAt, macroblockAt}
 use Rattle.slice_syntax.specs.Slice.{afterExtra, nextAt}
-use Rattle.slice_syntax.proofs.Laws.Read.{Ahead, Onward, onward, stopped, onward-after, then-onward, no-further, word-onward, field-onward}
+use Rattle.slice_syntax.proofs.Laws.Read.{Onward, onward, stopped, onward-after, then-onward, no-further, word-onward, field-onward}
 use Rattle.slice_syntax.proofs.Laws.Words.{size-read}
 use Rattle.slice_syntax.proofs.Laws.Coefficient.{Within, pair-within}
 

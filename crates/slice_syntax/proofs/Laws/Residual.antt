@@ -1,14 +1,13 @@
 -- A residual has at most six bits. Assumes nothing.
-use mathlib.Core.Bool.{Bool, true, false}
 use mathlib.Core.List.{List}
 use mathlib.Core.Path.{_≡_}
-use Prim.Native.Nat.{ℕ, _-_, _^_, _<_, _≤_}
+use Prim.Native.Nat.{ℕ, _-_, _<_, _≤_}
 use native.Mathlib.Omega.{arith}
 use lib.Dec.{eqb, ltb}
 use lib.Pow.{pow-mono}
 use Rattle.bits.specs.declared.Position.{Position}
 use Rattle.code_tables.proofs.Laws.Prefix.{case}
-use Rattle.slice_syntax.specs.Read.{Read, read, fieldAt}
+use Rattle.slice_syntax.specs.Read.{read, fieldAt}
 use Rattle.slice_syntax.specs.Vectors.{residualAt}
 use Rattle.slice_syntax.proofs.Laws.Read.{field-below}
 

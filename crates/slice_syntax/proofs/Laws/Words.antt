@@ -1,10 +1,10 @@
 -- What is known of a code of a block's DC size, or of the start code. Assumes nothing.
 use mathlib.Core.List.{List}
 use mathlib.Core.Path.{_≡_, refl}
-use Prim.Native.Nat.{ℕ, _+_, _≤_}
+use Prim.Native.Nat.{ℕ, _+_}
 use native.Mathlib.Omega.{arith}
 use lib.Dec.{T, ltb, leb, leb→le}
-use lib.ListN.{length, drop, length-drop}
+use lib.ListN.{drop, length-drop}
 use borrow.Author.Tests.{ltb-false}
 use Rattle.bits.proofs.Number.{Binary, binary-drop}
 use Rattle.code_tables.specs.declared.code.Code.{Code}

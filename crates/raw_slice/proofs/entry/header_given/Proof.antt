@@ -1,5 +1,4 @@
 -- `header_given` meets its contract: a number above a byte's is above each limit of a header. Assumes nothing.
-use mathlib.Core.Path.{_≡_}
 use native.Mathlib.Omega.{arith}
 use borrow.Author.Needs.{needs}
 use Rattle.raw_slice.proofs.Laws.Answer.{illegal}

@@ -1,5 +1,4 @@
 -- `measure` meets its contract: nothing is laid into an empty part. Assumes nothing.
-use mathlib.Core.List.{[]}
 use mathlib.Core.Path.{_≡_, refl}
 use borrow.Author.Needs.{needs}
 use lib.ListN.{length}

@@ -1,5 +1,4 @@
 -- `refused` meets its contract: its number is the refusal's. Assumes nothing.
-use mathlib.Core.Path.{_≡_}
 use borrow.Author.Needs.{needs}
 use Rattle.raw_slice.proofs.entry.refused.Statement.{statement}
 use Rattle.raw_slice.proofs.entry.refused.Tie as tie

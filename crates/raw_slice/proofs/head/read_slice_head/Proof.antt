@@ -1,5 +1,5 @@
 -- `read_slice_head` meets its contract: the start code, the scale, and the extra information dropped. Assumes nothing.
-use mathlib.Core.Path.{_≡_, refl}
+use mathlib.Core.Path.{_≡_}
 use Prim.Native.Nat.{_+_}
 use native.Mathlib.Omega.{arith}
 use borrow.Author.Needs.{needs}

@@ -1,12 +1,11 @@
 -- `lay_macroblocks` meets its contract: each record is laid behind those before it, until only zero bits are left. Assumes nothing.
-use mathlib.Core.Path.{_≡_, refl, sym, ap, _∙_}
-use Prim.Native.Nat.{ℕ, _*_, _-_, _≤_}
+use mathlib.Core.Path.{_≡_, refl, sym, _∙_}
+use Prim.Native.Nat.{_*_, _-_}
 use native.Mathlib.Omega.{arith}
 use borrow.Author.Needs.{needs}
 use lib.ListN.{length}
-use mathlib.Core.Bool.{true, false}
+use mathlib.Core.Bool.{false}
 use Rattle.bits.specs.Bits.{offset, allZeros, bitsFrom}
-use Rattle.byte_layout.specs.Laid.{farthest}
 use Rattle.record_layout.specs.Records.{macroblockRecord}
 use Rattle.slice_syntax.specs.Slice.{nextAt, macroblocksAt}
 use Rattle.slice_records.proofs.Laws.Laying.{Part, part-done, part-refused, laid-as, not-laid}

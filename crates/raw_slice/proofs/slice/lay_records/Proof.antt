@@ -1,11 +1,11 @@
 -- `lay_records` meets its contract: the slice's record, its first macroblock's, and those of the others. Assumes nothing.
-use mathlib.Core.Path.{_≡_, refl, sym}
-use Prim.Native.Nat.{ℕ, _≤_}
+use mathlib.Core.Path.{_≡_, refl}
+use Prim.Native.Nat.{_≤_}
 use native.Mathlib.Omega.{arith}
 use borrow.Author.Needs.{needs}
 use Rattle.bits.specs.Bits.{InBytes}
 use Rattle.record_layout.specs.Records.{macroblockRecord}
-use Rattle.slice_syntax.specs.Read.{Read, read}
+use Rattle.slice_syntax.specs.Read.{read}
 use Rattle.slice_syntax.specs.Increment.{incrementAt}
 use Rattle.slice_syntax.specs.Macroblock.{macroblockAt}
 use Rattle.slice_syntax.specs.Slice.{startAddress, macroblocksAt}

@@ -1,9 +1,8 @@
 -- `lay_blocks` meets its contract: each coded block is laid behind those before it. Assumes nothing.
-use mathlib.Core.Path.{_≡_, refl, sym, ap, _∙_}
-use Prim.Native.Nat.{ℕ, _+_, _-_, _<_, _≤_}
+use mathlib.Core.Path.{refl}
+use Prim.Native.Nat.{_-_, _≤_}
 use native.Mathlib.Omega.{arith}
 use borrow.Author.Needs.{needs}
-use lib.ListN.{length}
 use Rattle.bits.specs.Bits.{InBytes}
 use Rattle.blocks.specs.Blocks.{isCoded}
 use Rattle.record_layout.specs.Records.{blocksBytes}

@@ -1,5 +1,5 @@
 -- `lay_coded_block` meets its contract: a list of one block, or of none. Assumes nothing.
-use mathlib.Core.Path.{_≡_, refl, sym, _∙_}
+use mathlib.Core.Path.{refl, sym, _∙_}
 use borrow.Author.Needs.{needs}
 use Rattle.byte_layout.specs.Laid.{laid}
 use Rattle.record_layout.specs.Records.{joined}

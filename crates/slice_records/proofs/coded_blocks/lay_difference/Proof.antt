@@ -1,5 +1,5 @@
 -- `lay_difference` meets its contract: an intra block's difference is laid, and nothing of another's. Assumes nothing.
-use mathlib.Core.Path.{_≡_, refl, sym, _∙_}
+use mathlib.Core.Path.{_≡_, refl}
 use borrow.Author.Needs.{needs}
 use borrow.Author.Tests.{not-true, not-false}
 use mir.Syntax.{w16}

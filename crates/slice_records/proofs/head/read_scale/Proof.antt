@@ -1,5 +1,5 @@
 -- `read_scale` meets its contract: the test is that of `scaleAt`. Assumes nothing.
-use mathlib.Core.Path.{_≡_, sym, _∙_}
+use mathlib.Core.Path.{sym, _∙_}
 use native.Mathlib.Omega.{arith}
 use borrow.Author.Needs.{needs}
 use Rattle.slice_syntax.specs.Macroblock.{scaleAt}

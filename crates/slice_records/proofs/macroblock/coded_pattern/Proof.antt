@@ -1,5 +1,5 @@
 -- `coded_pattern` meets its contract: the tests are those of `codedPattern`. Assumes nothing.
-use mathlib.Core.Path.{_≡_, sym, _∙_}
+use mathlib.Core.Path.{sym, _∙_}
 use borrow.Author.Needs.{needs}
 use Rattle.layout_reading.specs.Matching.{codedPattern}
 use Rattle.slice_records.proofs.macroblock.coded_pattern.Statement.{statement}

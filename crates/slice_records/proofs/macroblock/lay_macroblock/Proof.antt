@@ -1,16 +1,15 @@
 -- `lay_macroblock` meets its contract: the head, the rest, and then the record's length and kind before them. Assumes nothing.
-use mathlib.Core.List.{List, _++_}
-use mathlib.Core.Path.{_≡_, refl, sym, ap, _∙_}
-use Prim.Native.Nat.{ℕ, _+_, _≤_}
+use mathlib.Core.List.{List}
+use mathlib.Core.Path.{_≡_, refl, ap}
+use Prim.Native.Nat.{ℕ, _≤_}
 use native.Mathlib.Omega.{arith}
 use borrow.Author.Needs.{needs}
-use lib.ListN.{length}
 use Rattle.format3.specs.Record.{macroblock}
 use Rattle.bits.specs.Bits.{InBytes}
-use Rattle.record_layout.specs.Records.{headBytes, recordBytes, macroblockRecord}
+use Rattle.record_layout.specs.Records.{headBytes, macroblockRecord}
 use Rattle.record_layout.proofs.Laws.Lengths.{head-short}
 use Rattle.slice_syntax.specs.Read.{Read, read}
-use Rattle.slice_syntax.specs.Macroblock.{HeadFields, RestFields, headAt, restAt, fieldsWith}
+use Rattle.slice_syntax.specs.Macroblock.{HeadFields, RestFields, headAt, restAt}
 use Rattle.slice_syntax.proofs.Laws.Read.{reached}
 use Rattle.slice_syntax.proofs.Laws.Onward.{head-onward}
 use Rattle.slice_records.specs.Laying.{restBytes}

@@ -1,5 +1,5 @@
 -- `lay_pattern` meets its contract: the test is that of `patternBytes`. Assumes nothing.
-use mathlib.Core.Path.{_≡_, refl, sym, _∙_}
+use mathlib.Core.Path.{refl, sym, _∙_}
 use borrow.Author.Needs.{needs}
 use Rattle.byte_layout.specs.Laid.{laid}
 use Rattle.record_layout.specs.Records.{patternBytes}

@@ -1,5 +1,5 @@
 -- `read_pattern` meets its contract: the test is that of `patternAt`. Assumes nothing.
-use mathlib.Core.Path.{_≡_, sym, _∙_}
+use mathlib.Core.Path.{sym, _∙_}
 use borrow.Author.Needs.{needs}
 use Rattle.slice_syntax.specs.Macroblock.{patternAt}
 use Rattle.slice_records.proofs.macroblock.read_pattern.Statement.{statement}

@@ -1,5 +1,4 @@
 -- `first_position` meets its contract: the test is that of `firstPosition`. Assumes nothing.
-use mathlib.Core.Path.{_≡_}
 use Rattle.blocks.specs.Blocks.{firstPosition}
 use Rattle.slice_records.proofs.pairs.first_position.Statement.{statement}
 use Rattle.slice_records.proofs.pairs.first_position.Tie as tie

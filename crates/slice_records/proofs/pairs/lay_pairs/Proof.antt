@@ -1,7 +1,6 @@
 -- `lay_pairs` meets its contract: each pair is laid behind those before it, and the count, last, before them all. Assumes nothing.
-use mathlib.Core.List.{List}
 use mathlib.Core.Path.{_≡_, refl, sym, ap, _∙_}
-use Prim.Native.Nat.{ℕ, _+_, _-_, _≤_}
+use Prim.Native.Nat.{_+_, _-_, _≤_}
 use native.Mathlib.Omega.{arith}
 use borrow.Author.Needs.{needs}
 use lib.ListN.{length}
@@ -9,10 +8,9 @@ use mir.Syntax.{w16}
 use mir.Val.{toZ, ofZ}
 use mir.ValLaws.{toZ-ofZ}
 use Rattle.byte_layout.proofs.Laws.Laid.{laid-length}
-use Rattle.record_layout.specs.Records.{pairBytes, levelsBytes}
+use Rattle.record_layout.specs.Records.{levelsBytes}
 use Rattle.slice_syntax.specs.Blocks.{nextPairAt, pairsAt}
 use Rattle.slice_syntax.specs.declared.coefficient.NextPair.the-variants as NextPair
-use Rattle.slice_records.specs.declared.laying.Laying.the-variants.{Done}
 use Rattle.slice_records.proofs.Laws.Laying.{laid-as, not-laid}
 use Rattle.slice_records.proofs.Laws.Pairs.{Begun, begun-none, begun-refused, begun-end, begun-length, begun-laid, begun-more, begun-same, begun-pair}
 use Rattle.slice_records.proofs.pairs.lay_pairs.Statement.{statement}

@@ -1,8 +1,7 @@
 -- `lay_given_vector` meets its contract: nothing is laid where the type gives no codes. Assumes nothing.
-use mathlib.Core.Path.{_≡_, refl, sym, _∙_}
+use mathlib.Core.Path.{refl, sym, _∙_}
 use borrow.Author.Needs.{needs}
 use Rattle.byte_layout.specs.Laid.{laid}
-use Rattle.record_layout.specs.Records.{givenCodesBytes}
 use Rattle.slice_syntax.specs.Vectors.{givenVectorAt}
 use Rattle.slice_records.proofs.Laws.Laying.{laid-as}
 use Rattle.slice_records.proofs.vectors.lay_given_vector.Statement.{statement}

@@ -1,10 +1,10 @@
 -- `lay_motion` meets its contract: the code and the residual that are read are laid. Assumes nothing.
-use mathlib.Core.Path.{_≡_, refl, sym, _∙_}
+use mathlib.Core.Path.{_≡_, refl}
 use borrow.Author.Needs.{needs}
 use mir.Syntax.{w8}
 use mir.Val.{toZ, ofZ}
 use mir.ValLaws.{toZ-ofZ}
-use Rattle.slice_syntax.specs.Read.{read, refused}
+use Rattle.slice_syntax.specs.Read.{read}
 use Rattle.slice_syntax.specs.Vectors.{motionAt}
 use Rattle.record_layout.specs.Records.{codeBytes}
 use Rattle.slice_records.specs.Laying.{componentBytes}

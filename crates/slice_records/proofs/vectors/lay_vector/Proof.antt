@@ -1,5 +1,5 @@
 -- `lay_vector` meets its contract: one component behind the other. Assumes nothing.
-use mathlib.Core.Path.{_≡_, refl}
+use mathlib.Core.Path.{refl}
 use native.Mathlib.Omega.{arith}
 use borrow.Author.Needs.{needs}
 use Rattle.symbols.specs.declared.vector_codes.VectorCode.{VectorCode}

@@ -1,5 +1,4 @@
 -- `amount` meets its contract: the test is that of `amountOf`. Assumes nothing.
-use mathlib.Core.Path.{_≡_}
 use borrow.Author.Tests.{eq-eqb, ne-eqb}
 use Rattle.slice_syntax.specs.Increment.{amountOf}
 use Rattle.slice_syntax.proofs.increment.amount.Statement.{statement}

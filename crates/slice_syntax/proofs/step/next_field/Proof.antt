@@ -1,5 +1,4 @@
 -- `next_field` meets its contract: a number of n bits ends within the bytes. Assumes nothing.
-use mathlib.Core.Path.{_≡_}
 use native.Mathlib.Omega.{arith}
 use borrow.Author.Needs.{needs}
 use Rattle.slice_syntax.proofs.Laws.Read.{field-fits}

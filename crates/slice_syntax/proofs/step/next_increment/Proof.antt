@@ -1,5 +1,4 @@
 -- `next_increment` meets its contract: a code that is read ends within the bytes. Assumes nothing.
-use mathlib.Core.Path.{_≡_}
 use native.Mathlib.Omega.{arith}
 use borrow.Author.Needs.{needs}
 use Rattle.bits.specs.Bits.{bitsFrom}

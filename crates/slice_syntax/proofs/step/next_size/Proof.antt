@@ -1,5 +1,4 @@
 -- `next_size` meets its contract: the test is that of `sizeWords`, and a code that is read ends within the bytes. Assumes nothing.
-use mathlib.Core.Path.{_≡_}
 use native.Mathlib.Omega.{arith}
 use borrow.Author.Needs.{needs}
 use borrow.Author.Tests.{lt-ltb, le-ltb}

@@ -1,9 +1,7 @@
 -- `next_start` meets its contract: a start code ends within the bytes. Assumes nothing.
-use mathlib.Core.Path.{_≡_}
 use native.Mathlib.Omega.{arith}
 use borrow.Author.Needs.{needs}
-use lib.ListN.{length}
-use Rattle.bits.specs.Bits.{InBytes, bitsFrom}
+use Rattle.bits.specs.Bits.{bitsFrom}
 use Rattle.bits.proofs.Rest.{rest-binary}
 use Rattle.codes.specs.SliceStart.{sliceStartOf}
 use Rattle.slice_syntax.specs.Slice.{firstBit}

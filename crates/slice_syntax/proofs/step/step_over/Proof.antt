@@ -1,5 +1,5 @@
 -- `step_over` meets its contract: each arm is the clause of `readCode` at its case. Assumes nothing.
-use mathlib.Core.Path.{_≡_, subst}
+use mathlib.Core.Path.{subst}
 use borrow.Author.Needs.{needs}
 use Rattle.code_tables.specs.declared.code.Code.{Code}
 use Rattle.slice_syntax.specs.Answers.{CodeFits}

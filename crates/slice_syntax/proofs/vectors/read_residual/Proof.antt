@@ -1,6 +1,4 @@
 -- `read_residual` meets its contract: the tests are those of `residualAt`. Assumes nothing.
-use mathlib.Core.Path.{_≡_}
-use native.Mathlib.Omega.{arith}
 use borrow.Author.Needs.{needs}
 use borrow.Author.Tests.{eq-eqb, ne-eqb, lt-ltb, le-ltb}
 use Rattle.slice_syntax.specs.Vectors.{residualAt}
