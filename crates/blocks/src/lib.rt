@@ -139,7 +139,7 @@ fn legal_count(intra: bool, count: u8) -> bool
 }
 
 // Where the first pair lands if its run is 0.
-fn first_position(intra: bool) -> usize
+pub fn first_position(intra: bool) -> usize
     ensures { λ r. ⌜ r ≡ firstPosition intra ⌝ }
 {
     if intra {

@@ -5,18 +5,10 @@ use slice_syntax::coefficient::NextPair;
 ghost use mathlib.Core.Path.{_≡_};
 ghost use Prim.Native.Nat.{_≤_};
 ghost use Rattle.bits.specs.Bits.{InBytes};
-ghost use Rattle.blocks.specs.Blocks.{firstPosition};
 ghost use Rattle.code_tables.specs.Table.{codeTable};
 ghost use Rattle.record_layout.specs.Records.{levelsBytes};
 ghost use Rattle.slice_syntax.specs.Blocks.{pairsAt};
 ghost use Rattle.slice_records.specs.Laying.{layingOf, LaidAt, farthestPairs};
-
-// Where a run of 0 lands first.
-fn first_position(intra: bool) -> usize
-    ensures { λ r. ⌜ r ≡ firstPosition intra ⌝ }
-{
-    if intra { 1 } else { 0 }
-}
 
 pub fn lay_pairs(
     codes: &[u16; 4608],
@@ -32,7 +24,7 @@ pub fn lay_pairs(
 {
     let mut at = from;
     let mut first = !intra;
-    let mut next = first_position(intra);
+    let mut next = blocks::first_position(intra);
     let mut count: u8 = 0;
     let mut end = place + 1;
     loop {

@@ -1,3 +1,4 @@
+-- `only_zeros_left` meets its contract: where the next 32 bits are zeros, so is what is left of the byte, and what is left behind it is the bytes. Assumes nothing.
 use mathlib.Core.Path.{_≡_, ap, sym, _∙_}
 use borrow.Author.Needs.{needs}
 use Rattle.bits.specs.declared.Window.{Window}
@@ -5,14 +6,10 @@ use Rattle.bits.specs.Bits.{leadingNumber, bitsFrom}
 use Rattle.bits.proofs.Zeros.{not-zeros, zeros-past, rest-zeros}
 use Rattle.bits.proofs.only_zeros_left.Statement.{statement}
 use Rattle.bits.proofs.only_zeros_left.Tie as tie
-use Rattle.bits.proofs.next_bits.Reads as next-bits-reads
-use Rattle.bits.proofs.zero_bytes.Reads as zero-bytes-reads
 
--- src/lib.rt:123:9
 next-bits-requires : tie.Need-next-bits-requires
 next-bits-requires c κs = search needs
 
--- src/lib.rt:125:9
 -- the window's number is that of the next 32 bits
 number : (c : tie.After-next-bits) → c .next-bits .result .bits ≡ leadingNumber 32 (bitsFrom (c .before .before .args .bytes .now) (c .before .before .args .at))
 number c = ap (λ (w : Window). w .bits) (c .next-bits .ensures)
@@ -22,21 +19,17 @@ returns c =
     let b = c .before .before in
     sym (not-zeros (b .before .before .args .bytes .now) (b .before .before .args .at) (λ e. c .if1 .taken (number b ∙ e)))
 
--- src/lib.rt:129:9
 returns-2 : tie.Need-returns-2
 returns-2 c =
     let s = c .before .before .before .before .before in
     sym (zeros-past (s .args .bytes .now) (s .args .at) (c .if2 .taken))
 
--- src/lib.rt:131:23
 add-zero-bytes : tie.Need-add-zero-bytes
 add-zero-bytes c = search needs
 
--- src/lib.rt:131:5
 zero-bytes-requires : tie.Need-zero-bytes-requires
 zero-bytes-requires c κs = search needs
 
--- src/lib.rt:119:1
 returns-3 : tie.Need-returns-3
 returns-3 c =
     let b = c .before .before .before .before in

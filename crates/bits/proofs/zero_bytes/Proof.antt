@@ -1,3 +1,4 @@
+-- `zero_bytes` meets its contract: the bytes passed are zero, so that all are if those left are. Assumes nothing.
 use mathlib.Core.Path.{_≡_, refl, sym, _∙_}
 use Prim.Native.Nat.{_-_, _≤_}
 use native.Mathlib.Omega.{arith}
@@ -14,37 +15,30 @@ Inv-loop bytes from i₀ i = (i ≤ length bytes) × (allZeros (bits (drop from 
 abbrev μ-loop : tie.MeasureT-loop
 μ-loop bytes from i₀ i = length bytes - i
 
--- src/lib.rt:109:5
 loop-holds : tie.Need-loop-holds Inv-loop μ-loop
 loop-holds c = (omega arith, refl)
 
--- src/lib.rt:110:12
 shared-slice-read-if1 : tie.Need-shared-slice-read-if1 Inv-loop μ-loop
 shared-slice-read-if1 c = search needs
 
--- src/lib.rt:111:13
 returns : tie.Need-returns Inv-loop μ-loop
 returns c =
     let k = c .before in
     let l = k .before .before in
     sym (l .loop .inv .1 ∙ zero-none (l .before .args .bytes .now) (l .loop .i) (k .before .loop-test .taken) (k .shared-slice-known .given (l .loop .i) .fits) (c .if1 .taken))
 
--- src/lib.rt:113:9
 add-i : tie.Need-add-i Inv-loop μ-loop
 add-i c = search needs
 
--- src/lib.rt:109:5
 loop-less : tie.Need-loop-less Inv-loop μ-loop
 loop-less c = search needs
 
--- src/lib.rt:109:5
 loop-again : tie.Need-loop-again Inv-loop μ-loop
 loop-again c =
     let k = c .before in
     let l = k .before .before in
     (omega arith, l .loop .inv .1 ∙ zero-more (l .before .args .bytes .now) (l .loop .i) (k .before .loop-test .taken) (k .shared-slice-known .given (l .loop .i) .fits) (c .if1 .left))
 
--- src/lib.rt:104:1
 returns-2 : tie.Need-returns-2 Inv-loop μ-loop
 returns-2 c =
     let l = c .before in
