@@ -4,6 +4,7 @@ use mathlib.Core.Bool.{cond}
 use Prim.Native.Nat.{ℕ, zero, suc, _+_, _*_, _/_, _%_, _^_}
 use lib.Dec.{eqb}
 use lib.ListN.{getD}
+use Rattle.lists.specs.Joined.{joined}
 use Rattle.lists.specs.Tab.{tab}
 use Rattle.bits.specs.Bits.{bitsOf}
 use Rattle.code_tables.specs.declared.code.Code.{Code}
@@ -61,10 +62,6 @@ entryOf r n v = packed (codeOf (r .words) (bitsOf (r .zeros + n) v))
 unfoldable pub upTo : ℕ → (ℕ → ℕ → ℕ) → List ℕ
 upTo zero f = 0 ∷ []
 upTo (suc n) f = upTo n f ++ tab (2 ^ n) (f n)
-
-unfoldable pub joined : (Row → List ℕ) → List Row → List ℕ
-joined f [] = []
-joined f (r ∷ rs) = f r ++ joined f rs
 
 -- the entries of eight bits
 unfoldable pub codeTable : List ℕ

@@ -8,6 +8,7 @@ use borrow.Author.Tests.{le-leb, lt-leb, eq-eqb}
 use lib.Dec.{leb}
 use lib.IntN.{ℤ}
 use lib.ListN.{length, take, drop, length-append, length-drop}
+use Rattle.lists.specs.Joined.{joined}
 use Rattle.refusals.specs.Refusal.{accepted, numberOf}
 use Rattle.refusals.specs.declared.Refusal.{Refusal}
 use Rattle.refusals.specs.declared.Refusal.the-variants.{FileEnds}
@@ -30,7 +31,7 @@ use Rattle.picture_state.specs.declared.state.PictureState.{PictureState}
 use Rattle.picture.specs.Step.{takenAt}
 use Rattle.picture.specs.Picture.{Picture, isComplete, runFrom, pictureOf}
 use Rattle.byte_layout.specs.Bytes.{wordBytes}
-use Rattle.record_layout.specs.Records.{joined, recordHead, recordBytes, MacroblockFields, macroblockRecord, sliceRecords}
+use Rattle.record_layout.specs.Records.{recordHead, recordBytes, MacroblockFields, macroblockRecord, sliceRecords}
 use Rattle.record_layout.proofs.Laws.Lengths.{FewPairs}
 use Rattle.layout_reading.specs.Framed.{Framed}
 use Rattle.layout_reading.specs.Matching.{Matching}

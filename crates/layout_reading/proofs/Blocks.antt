@@ -9,6 +9,7 @@ use lib.Dec.{leb}
 use lib.IntN.{ℤ}
 use lib.ListN.{length, drop, length-append}
 use lib.Seq.{drop-drop, drop-append-seam}
+use Rattle.lists.specs.Joined.{joined}
 use Rattle.refusals.specs.Refusal.{numberOf}
 use Rattle.refusals.specs.declared.Refusal.{Refusal}
 use Rattle.format3.specs.Chain.{only}
@@ -33,7 +34,7 @@ use Rattle.blocks.specs.declared.BlockAnswer.{BlockAnswer}
 use Rattle.blocks.specs.declared.BlockAnswer.the-variants as Block
 use Rattle.blocks.specs.Blocks.{dcOf, pastOf, withPast, firstPosition, countOf, levelsOf, afterLevels, dcThen, intraBlockOf, interBlockOf, isCoded, codingOf, blockOf, afterBlock, blocksOf}
 use Rattle.byte_layout.specs.Bytes.{wordBytes}
-use Rattle.record_layout.specs.Records.{joined, PairFields, BlockFields, pairBytes, pairsBytes, levelsBytes, blockBytes, blocksBytes}
+use Rattle.record_layout.specs.Records.{PairFields, BlockFields, pairBytes, pairsBytes, levelsBytes, blockBytes, blocksBytes}
 use Rattle.record_layout.proofs.Laws.Lengths.{levels-length}
 use Rattle.layout_reading.specs.Framed.{Framed}
 use Rattle.layout_reading.specs.Matching.{codedFrom}

@@ -1,4 +1,5 @@
 pub mod Tab
+pub mod Joined
 pub mod Scatter
 pub mod Part
 pub mod Test

@@ -4,15 +4,11 @@ use mathlib.Core.List.{List, [], _∷_, _++_}
 use Prim.Native.Nat.{ℕ, _+_}
 use lib.IntN.{ℤ}
 use lib.ListN.{length}
+use Rattle.lists.specs.Joined.{joined}
 use Rattle.format3.specs.Record.{slice, macroblock}
 use Rattle.symbols.specs.declared.vector_codes.VectorCodes.{VectorCodes}
 use Rattle.macroblock_symbols.specs.Vectors.{gives}
 use Rattle.byte_layout.specs.Bytes.{signedByte, wordBytes, signedWordBytes}
-
--- the bytes of each, one behind the other
-unfoldable pub joined : {A : Type 0} → (A → List ℕ) → List A → List ℕ
-joined bytes [] = []
-joined bytes (first ∷ rest) = bytes first ++ joined bytes rest
 
 -- "Each is a 2-byte length (of what comes after it), a kind byte and a body"
 unfoldable pub recordHead : ℕ → ℕ → List ℕ

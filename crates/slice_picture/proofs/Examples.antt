@@ -3,6 +3,7 @@ use mathlib.Core.List.{List, [], _∷_}
 use mathlib.Core.Path.{_≡_, refl}
 use Prim.Native.Nat.{ℕ}
 use lib.ListN.{replicate}
+use Rattle.lists.specs.Joined.{joined}
 use Rattle.lists.specs.Tab.{tab}
 use Rattle.format3.specs.Chain.{only}
 use Rattle.picture_header.specs.Size.{legalSize}
@@ -12,7 +13,7 @@ use Rattle.bits.specs.Bits.{bitsOf, bits, leadingNumber, allZeros, bitsFrom}
 use Rattle.blocks.specs.Blocks.{isCoded, firstPosition}
 use Rattle.layout_reading.specs.Matching.{codedPattern}
 use Rattle.byte_layout.specs.Bytes.{complement, wordBytes}
-use Rattle.record_layout.specs.Records.{joined, recordHead, recordBytes, sliceBody, sliceRecords, pairBytes, levelsBytes, blockBytes, headBytes, codeBytes, codesBytes, patternBytes, macroblockBody}
+use Rattle.record_layout.specs.Records.{recordHead, recordBytes, sliceBody, sliceRecords, pairBytes, levelsBytes, blockBytes, headBytes, codeBytes, codesBytes, patternBytes, macroblockBody}
 use Rattle.code_tables.specs.Code.{digitsOf, word, isPrefix, codeOf, fieldOf}
 use Rattle.code_tables.specs.AnnexB.{incrementWords, increments, incrementsAfterEscape, intraTypes, predictedTypes, bidirectionalTypes, typesOf, patterns, motionCodes, luminanceSizes, chrominanceSizes, sharedWords, firstCoefficients, nextCoefficients, byteWords, largePositive, largeNegative}
 use Rattle.coefficient_codes.specs.Coefficient.{signedOf, largeOf, levelOf, escapedOf, finishedOf, wordsOf, coefficientOf}

@@ -9,6 +9,7 @@ use lib.Arith.{digits-div}
 use lib.Dec.{eqb}
 use lib.ListN.{length}
 use borrow.Author.Tests.{eqb-true, eqb-false, eq-eqb, ne-eqb}
+use Rattle.lists.specs.Joined.{joined}
 use Rattle.lists.specs.Tab.{tab}
 use Rattle.lists.proofs.Tab.{tab-ext}
 use Rattle.bits.specs.Bits.{bitsOf}
@@ -16,7 +17,7 @@ use Rattle.bits.proofs.Number.{bits-low}
 use Rattle.code_tables.specs.declared.code.Code.{Code}
 use Rattle.code_tables.specs.declared.code.Code.the-variants.{Value, NoCode, Short}
 use Rattle.code_tables.specs.Code.{Word, isPrefix, codeOf}
-use Rattle.code_tables.specs.Table.{Row, packed, entryOf, upTo, joined}
+use Rattle.code_tables.specs.Table.{Row, packed, entryOf, upTo}
 use Rattle.code_tables.proofs.Laws.Prefix.{case}
 
 -- what is left of a word, and the code that it is

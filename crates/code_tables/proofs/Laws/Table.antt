@@ -10,6 +10,7 @@ use lib.Dec.{T, ltb, ltb→lt, lt→ltb}
 use lib.ListN.{length, getD, length-append, List·getD-append}
 use lib.Seq.{getD-append-add}
 use borrow.Author.Tests.{ne-eqb}
+use Rattle.lists.specs.Joined.{joined}
 use Rattle.lists.specs.Tab.{tab}
 use Rattle.lists.proofs.Tab.{tab-length, tab-at}
 use Rattle.lists.proofs.Test.{and-left, and-right}
@@ -17,7 +18,7 @@ use Rattle.bits.specs.Bits.{bitsOf}
 use Rattle.code_tables.specs.declared.code.Code.the-variants.{Value, Short}
 use Rattle.code_tables.specs.Code.{Word, word, digitsOf, isPrefix, codeOf}
 use Rattle.code_tables.specs.AnnexB.{incrementWords, increments, incrementsAfterEscape, intraTypes, predictedTypes, bidirectionalTypes, patterns, motionCodes, luminanceSizes, chrominanceSizes, sharedWords, nextCoefficients, byteWords, largePositive, largeNegative}
-use Rattle.code_tables.specs.Table.{Row, row, rows, rowAt, packed, unpackedOf, entryOf, upTo, joined, codeTable, endTable}
+use Rattle.code_tables.specs.Table.{Row, row, rows, rowAt, packed, unpackedOf, entryOf, upTo, codeTable, endTable}
 use Rattle.code_tables.proofs.Laws.Prefix.{case, and-both, code-found, code-short, code-later, everyWord, every-other, code-tested}
 
 -- an entry beyond the first list

@@ -5,6 +5,7 @@ use mathlib.Core.Path.{_≡_, refl, sym, ap, _∙_}
 use Prim.Native.Nat.{ℕ, zero, suc, _+_, _-_, _<_, _≤_}
 use native.Mathlib.Omega.{arith}
 use lib.ListN.{length, length-append}
+use Rattle.lists.specs.Joined.{joined}
 use Rattle.refusals.specs.declared.Refusal.{Refusal}
 use Rattle.picture_header.specs.declared.header.Header.{Header}
 use Rattle.bits.specs.Bits.{InBytes, allZeros, bitsFrom}
@@ -12,7 +13,7 @@ use Rattle.bits.specs.declared.Position.{Position}
 use Rattle.bits.proofs.Rest.{rest-length}
 use Rattle.byte_layout.specs.Laid.{laid, farthest, offsetAfter}
 use Rattle.byte_layout.proofs.Laws.Laid.{laid-length, laid-farthest}
-use Rattle.record_layout.specs.Records.{joined, MacroblockFields, macroblockRecord}
+use Rattle.record_layout.specs.Records.{MacroblockFields, macroblockRecord}
 use Rattle.record_layout.proofs.Laws.Laying.{joined-append, laid-more}
 use Rattle.slice_syntax.specs.Read.{Read, read, refused, readThen}
 use Rattle.slice_syntax.specs.Increment.{incrementAt}

@@ -6,6 +6,7 @@ use native.Mathlib.Omega.{arith}
 use lib.Dec.{eqb, leb}
 use lib.ListN.{length, length-append}
 use borrow.Author.Tests.{leb-true}
+use Rattle.lists.specs.Joined.{joined}
 use Rattle.refusals.specs.declared.Refusal.{Refusal}
 use Rattle.format3.specs.Chain.{only}
 use Rattle.picture_header.specs.declared.header.Header.{Header}
@@ -14,7 +15,7 @@ use Rattle.bits.specs.declared.Position.{Position}
 use Rattle.byte_layout.specs.Laid.{laid, offsetAfter}
 use Rattle.byte_layout.specs.Bytes.{wordBytes}
 use Rattle.byte_layout.proofs.Laws.Laid.{laid-append}
-use Rattle.record_layout.specs.Records.{joined, recordHead, recordBytes, sliceBody, sliceRecord, MacroblockFields, headBytes, macroblockBody, macroblockRecord, sliceRecords}
+use Rattle.record_layout.specs.Records.{recordHead, recordBytes, sliceBody, sliceRecord, MacroblockFields, headBytes, macroblockBody, macroblockRecord, sliceRecords}
 use Rattle.record_layout.proofs.Laws.Lengths.{record-length, head-short}
 use Rattle.format3.specs.Record.{macroblock}
 use Rattle.code_tables.specs.Code.{codeOf}

@@ -4,9 +4,10 @@ use mathlib.Core.Path.{_≡_, refl}
 use Prim.Native.Nat.{ℕ}
 use lib.IntN.{pos}
 use lib.ListN.{replicate}
+use Rattle.lists.specs.Joined.{joined}
 use Rattle.macroblock_symbols.specs.Vectors.{noCodes}
 use Rattle.byte_layout.specs.Bytes.{complement, wordBytes}
-use Rattle.record_layout.specs.Records.{joined, BlockFields, MacroblockFields, recordHead, recordBytes, sliceBody, sliceRecord, levelsBytes, blockBytes, headBytes, codeBytes, codesBytes, patternBytes, macroblockBody, macroblockRecord}
+use Rattle.record_layout.specs.Records.{BlockFields, MacroblockFields, recordHead, recordBytes, sliceBody, sliceRecord, levelsBytes, blockBytes, headBytes, codeBytes, codesBytes, patternBytes, macroblockBody, macroblockRecord}
 
 -- `0004 03 080000`
 slice-printed : sliceRecord 8 0 ≡ 0 ∷ 4 ∷ 3 ∷ 8 ∷ 0 ∷ 0 ∷ []

@@ -5,10 +5,11 @@ use mathlib.Core.Path.{_≡_, refl}
 use Prim.Native.Nat.{ℕ, _+_, _*_, _≤_}
 use native.Mathlib.Omega.{arith}
 use lib.ListN.{length, length-append}
+use Rattle.lists.specs.Joined.{joined}
 use Rattle.symbols.specs.declared.vector_codes.VectorCodes.{VectorCodes}
 use Rattle.macroblock_symbols.specs.Vectors.{gives}
 use Rattle.byte_layout.specs.Bytes.{wordBytes}
-use Rattle.record_layout.specs.Records.{joined, PairFields, BlockFields, MacroblockFields, recordHead, recordBytes, pairBytes, pairsBytes, levelsBytes, blockBytes, blocksBytes, headBytes, codeBytes, codesBytes, givenCodesBytes, patternBytes, macroblockBody}
+use Rattle.record_layout.specs.Records.{PairFields, BlockFields, MacroblockFields, recordHead, recordBytes, pairBytes, pairsBytes, levelsBytes, blockBytes, blocksBytes, headBytes, codeBytes, codesBytes, givenCodesBytes, patternBytes, macroblockBody}
 
 pub record-length : (kind : ℕ) (body : List ℕ) → length (recordBytes kind body) ≡ 3 + length body
 unfolding recordBytes recordHead wordBytes

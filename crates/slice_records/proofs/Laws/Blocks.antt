@@ -5,13 +5,14 @@ use mathlib.Core.Path.{_≡_, refl, sym, ap, subst, _∙_}
 use Prim.Native.Nat.{ℕ, zero, suc, _+_, _-_, _*_, _<_, _≤_}
 use native.Mathlib.Omega.{arith}
 use lib.ListN.{length, length-append}
+use Rattle.lists.specs.Joined.{joined}
 use Rattle.refusals.specs.declared.Refusal.{Refusal}
 use Rattle.bits.specs.Bits.{InBytes}
 use Rattle.bits.specs.declared.Position.{Position}
 use Rattle.blocks.specs.Blocks.{isCoded}
 use Rattle.byte_layout.specs.Laid.{laid}
 use Rattle.byte_layout.proofs.Laws.Laid.{laid-length, laid-append}
-use Rattle.record_layout.specs.Records.{joined, BlockFields, blockBytes, blocksBytes}
+use Rattle.record_layout.specs.Records.{BlockFields, blockBytes, blocksBytes}
 use Rattle.record_layout.proofs.Laws.Laying.{joined-append}
 use Rattle.slice_syntax.specs.Read.{Read, read, refused, readThen}
 use Rattle.slice_syntax.specs.Blocks.{codedBlockAt, blocksFrom}

@@ -8,6 +8,7 @@ use lib.Dec.{leb}
 use lib.IntN.{ℤ}
 use lib.ListN.{length, length-append}
 use borrow.Author.Tests.{leb-true}
+use Rattle.lists.specs.Joined.{joined}
 use Rattle.refusals.specs.declared.Refusal.{Refusal}
 use Rattle.format3.specs.Chain.{only}
 use Rattle.bits.specs.Bits.{bitsFrom}
@@ -15,7 +16,7 @@ use Rattle.bits.specs.declared.Position.{Position}
 use Rattle.blocks.specs.Blocks.{isCoded, firstPosition}
 use Rattle.macroblock_symbols.specs.Vectors.{gives}
 use Rattle.layout_reading.specs.Matching.{codedPattern}
-use Rattle.record_layout.specs.Records.{joined, PairFields, BlockFields, blockBytes, patternBytes, blocksBytes}
+use Rattle.record_layout.specs.Records.{PairFields, BlockFields, blockBytes, patternBytes, blocksBytes}
 use Rattle.record_layout.proofs.Laws.Laying.{joined-append}
 use Rattle.record_layout.proofs.Laws.Lengths.{block-short, pattern-short}
 use Rattle.code_tables.proofs.Laws.Prefix.{case}

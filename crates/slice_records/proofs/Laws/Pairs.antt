@@ -6,13 +6,14 @@ use Prim.Native.Nat.{ℕ, zero, suc, _+_, _-_, _*_, _≤_}
 use native.Mathlib.Omega.{arith}
 use lib.IntN.{ℤ}
 use lib.ListN.{length, length-append}
+use Rattle.lists.specs.Joined.{joined}
 use Rattle.refusals.specs.declared.Refusal.{Refusal}
 use Rattle.bits.specs.Bits.{InBytes}
 use Rattle.bits.specs.declared.Position.{Position}
 use Rattle.blocks.specs.Blocks.{firstPosition}
 use Rattle.byte_layout.specs.Laid.{laid}
 use Rattle.byte_layout.proofs.Laws.Laid.{laid-length}
-use Rattle.record_layout.specs.Records.{joined, PairFields, pairBytes, pairsBytes, levelsBytes}
+use Rattle.record_layout.specs.Records.{PairFields, pairBytes, pairsBytes, levelsBytes}
 use Rattle.record_layout.proofs.Laws.Laying.{laid-count, laid-more}
 use Rattle.record_layout.proofs.Laws.Lengths.{pairs-length, levels-length}
 use Rattle.slice_syntax.specs.Read.{Read, read, refused, readThen}

@@ -1,8 +1,8 @@
 -- `lay_coded_block` meets its contract: a list of one block, or of none. Assumes nothing.
 use mathlib.Core.Path.{refl, sym, _∙_}
 use borrow.Author.Needs.{needs}
+use Rattle.lists.specs.Joined.{joined}
 use Rattle.byte_layout.specs.Laid.{laid}
-use Rattle.record_layout.specs.Records.{joined}
 use Rattle.slice_syntax.specs.Blocks.{blockAt, codedBlockAt}
 use Rattle.slice_records.proofs.Laws.Laying.{laid-as}
 use Rattle.slice_records.proofs.Laws.Blocks.{one-block}
