@@ -34,7 +34,7 @@ fn lay_motion(
     }
 }
 
-// The codes of a direction: across, then down.
+// The codes of a direction: horizontal, then vertical.
 fn lay_vector(
     codes: &[u16; 4608],
     bytes: &[u8],

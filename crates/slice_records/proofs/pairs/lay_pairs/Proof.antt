@@ -60,14 +60,14 @@ module _ (c : tie.After-slice-known2 Inv-loop μ-loop) where
   abbrev laidCount : tie.After-lay-u8 Inv-loop μ-loop
   laidCount = c .before .before
 
-  abbrev turned : tie.After-read-next-pair Inv-loop μ-loop
-  turned = laidCount .before .before .before .before .before
+  abbrev paired : tie.After-read-next-pair Inv-loop μ-loop
+  paired = laidCount .before .before .before .before .before
 
   abbrev looped : tie.At-loop Inv-loop μ-loop
-  looped = turned .before
+  looped = paired .before
 
   ended : nextPairAt (looped .loop .first) (looped .loop .next) (looped .before .before .before .before .args .bytes .now) (looped .loop .at) ≡ NextPair.End (laidCount .before .before .before .after .given .0 .0)
-  ended = sym (turned .read-next-pair .ensures) ∙ laidCount .before .before .before .after .given .1
+  ended = sym (paired .read-next-pair .ensures) ∙ laidCount .before .before .before .after .given .1
 
 sub-size : tie.Need-sub-size Inv-loop μ-loop
 sub-size c = omega (arith, looped c .loop .inv .behindThem)
