@@ -1,4 +1,4 @@
--- What reading a part of a slice comes to (request No. 2). "Bits count from 0 at the most significant".
+-- What reading a part of a slice comes to (request No. 2; its readings, which these definitions quote, are in docs/DECISIONS.md, "Raw slices").
 use mathlib.Core.List.{List}
 use Prim.Native.Nat.{ℕ}
 use Rattle.refusals.specs.declared.Refusal.{Refusal}
