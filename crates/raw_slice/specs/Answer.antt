@@ -39,12 +39,13 @@ refusedAnswer refusal p = record { number = numberOf refusal; written = 0; byte 
 abbrev pub refusedOutcome : Refusal → Position → List ℕ → Outcome
 refusedOutcome refusal p buffer = record { answer = refusedAnswer refusal p; buffer = buffer }
 
--- "Accepted: byte and bit where the unread rest starts (byte = length, bit 0 if nothing is left)"; "accepted, what lies past the records is untouched"
+-- "Accepted: byte and bit where the unread rest starts (byte = length, bit 0 if nothing is left)"
+abbrev pub acceptedAnswer : ℕ → Position → RawSliceAnswer
+acceptedAnswer written p = record { number = accepted; written = written; byte = p .byte; bit = p .bit }
+
+-- "accepted, what lies past the records is untouched"
 abbrev pub acceptedWith : List ℕ → Position → List ℕ → Outcome
-acceptedWith records p buffer = record {
-  answer = record { number = accepted; written = length records; byte = p .byte; bit = p .bit };
-  buffer = records ++ drop (length records) buffer;
-}
+acceptedWith records p buffer = record { answer = acceptedAnswer (length records) p; buffer = records ++ drop (length records) buffer }
 
 -- "26 only for a slice that is otherwise accepted; byte and bit 0"
 unfoldable pub fitted : List ℕ → Position → List ℕ → Outcome

@@ -1,7 +1,9 @@
 -- What the functions answer that lay many records: where the last one ends, however far that is.
-use mathlib.Core.List.{List}
+use mathlib.Core.Bool.{cond}
+use mathlib.Core.List.{List, _++_}
 use Prim.Native.Nat.{ℕ}
-use lib.ListN.{length}
+use lib.Dec.{leb}
+use lib.ListN.{length, take, drop}
 use Rattle.byte_layout.specs.Laid.{offsetAfter}
 use Rattle.slice_syntax.specs.Read.{Read, read, refused}
 use Rattle.slice_syntax.specs.Slice.{SliceHead}
@@ -18,3 +20,7 @@ endOf bytes place (refused refusal p) = Refused refusal p
 abbrev pub sliceHeadAnswer : Read SliceHead → SliceHeadAnswer
 sliceHeadAnswer (read head p) = Head.Read (head .row) (head .scale) p
 sliceHeadAnswer (refused refusal p) = Head.Refused refusal p
+
+-- a buffer with the first bytes of a list at its start, where the list has so many
+unfoldable pub withFront : ℕ → List ℕ → List ℕ → List ℕ
+withFront size list buffer = cond (leb size (length list)) (take size list ++ drop size buffer) buffer

@@ -7,13 +7,17 @@ use refusals::Refusal;
 use slice_records::laying::Laying;
 ghost use mathlib.Core.Path.{_≡_};
 ghost use Prim.Native.Nat.{_≤_};
+ghost use lib.Dec.{leb};
+ghost use lib.ListN.{length, take};
 ghost use Rattle.picture_header.specs.Header.{headerWith, HeaderWithin};
-ghost use Rattle.code_tables.specs.Table.{codeTable};
-ghost use Rattle.slice_syntax.specs.Slice.{rawSliceOf, recordsOf};
-ghost use Rattle.raw_slice.specs.Laying.{endOf};
-ghost use Rattle.raw_slice.specs.Answer.{given, refusedAnswer, readOutcome, rawSliceOutcome};
+ghost use Rattle.slice_syntax.specs.Slice.{rawSliceOf};
+ghost use Rattle.raw_slice.specs.Laying.{withFront};
+ghost use Rattle.raw_slice.specs.Answer.{given, refusedAnswer, acceptedAnswer, readOutcome, rawSliceOutcome};
 
 const LARGEST: u32 = 255;
+
+// Records of up to so many bytes are laid apart from the buffer first, so that their slice is read once.
+const ROOM: usize = 65536;
 
 // The number of the answer, the bytes written, and the byte and bit where the refused code or the unread rest starts.
 pub struct RawSliceAnswer {
@@ -34,35 +38,56 @@ fn refused(refusal: Refusal, at: Position) -> RawSliceAnswer
     }
 }
 
-// Where the slice ends and how long its records are, or its refusal: it is read over an empty part of the buffer, into which nothing can be laid.
-fn measure(codes: &[u16; 4608], bytes: &[u8], header: Header, buffer: &mut [u8]) -> Laying
-    requires { ⌜ (now codes ≡ codeTable) × HeaderWithin header × (header .size .height ≤ 36) ⌝ }
-    ensures { λ r. ⌜ r ≡ endOf recordsOf 0 (rawSliceOf header (now (bytes .entry))) ⌝ }
-    ensures { λ _. ⌜ now (buffer .exit) ≡ now (buffer .entry) ⌝ }
+fn accepted(end: Position, size: usize) -> RawSliceAnswer
+    ensures { λ r. ⌜ r ≡ acceptedAnswer size end ⌝ }
 {
-    crate::slice::lay_slice(codes, bytes, header, &mut buffer[0..0])
+    RawSliceAnswer {
+        number: refusals::ACCEPTED,
+        written: size,
+        byte: end.byte,
+        bit: end.bit,
+    }
 }
 
-// The slice is read twice: first measured, and, if it is accepted and its records fit, once more over the buffer.
-fn read_into(bytes: &[u8], header: Header, buffer: &mut [u8]) -> RawSliceAnswer
+fn front(list: &[u8], size: usize) -> &[u8]
+    requires { ⌜ size ≤ length (now list) ⌝ }
+    ensures { λ r. ⌜ now r ≡ take size (now (list .entry)) ⌝ }
+{
+    &list[..size]
+}
+
+// So many bytes put at the buffer's start, where there are so many.
+fn put_front(from: &[u8], size: usize, buffer: &mut [u8]) -> bool
+    requires { ⌜ size ≤ length (now buffer) ⌝ }
+    ensures { λ r. ⌜ r ≡ leb size (length (now (from .entry))) ⌝ }
+    ensures { λ _. ⌜ now (buffer .exit) ≡ withFront size (now (from .entry)) (now (buffer .entry)) ⌝ }
+{
+    if from.len() < size {
+        return false;
+    }
+    bytes::copy(front(from, size), buffer);
+    true
+}
+
+// The slice is read over the room, so that the buffer stays as it is where the slice is refused. Its records are copied from there, if they
+// lie there whole; else it is read once more, over the buffer.
+fn read_into(bytes: &[u8], header: Header, room: &mut [u8], buffer: &mut [u8]) -> RawSliceAnswer
     requires { ⌜ HeaderWithin header × (header .size .height ≤ 36) ⌝ }
     ensures { λ r. ⌜ r ≡ readOutcome (rawSliceOf header (now (bytes .entry))) (now (buffer .entry)) .answer ⌝ }
     ensures { λ _. ⌜ now (buffer .exit) ≡ readOutcome (rawSliceOf header (now (bytes .entry))) (now (buffer .entry)) .buffer ⌝ }
 {
     let codes = code_tables::table::code_table();
-    match measure(&codes, bytes, header, buffer) {
+    match crate::slice::lay_slice(&codes, bytes, header, room) {
         Laying::Refused(refusal, at) => refused(refusal, at),
         Laying::Done(end, size) => {
             if buffer.len() < size {
                 return refused(Refusal::RecordsLength, Position { byte: 0, bit: 0 });
             }
-            crate::slice::lay_slice(&codes, bytes, header, buffer);
-            RawSliceAnswer {
-                number: refusals::ACCEPTED,
-                written: size,
-                byte: end.byte,
-                bit: end.bit,
+            if put_front(room, size, buffer) {
+                return accepted(end, size);
             }
+            crate::slice::lay_slice(&codes, bytes, header, buffer);
+            accepted(end, size)
         }
     }
 }
@@ -118,6 +143,9 @@ pub fn read_slice(
 {
     match header_given(width, height, coding_type, forward_f_code, backward_f_code) {
         HeaderAnswer::Refused(refusal) => refused(refusal, Position { byte: 0, bit: 0 }),
-        HeaderAnswer::Legal(header) => read_into(bytes, header, buffer),
+        HeaderAnswer::Legal(header) => {
+            let mut room = [0u8; ROOM];
+            read_into(bytes, header, &mut room, buffer)
+        }
     }
 }

@@ -1,11 +1,12 @@
 -- The entry's answer, by what is measured; and the numbers that a header takes. Assumes nothing.
-use mathlib.Core.Bool.{true}
+use mathlib.Core.Bool.{true, false}
 use mathlib.Core.List.{List, [], _∷_, _++_}
 use mathlib.Core.Path.{_≡_, refl, ap, _∙_}
 use Prim.Native.Nat.{ℕ, _+_, _*_, _<_, _≤_}
 use native.Mathlib.Omega.{arith}
 use lib.Dec.{leb}
 use lib.ListN.{length, drop}
+use lib.Seq.{take-append-seam}
 use borrow.Author.Tests.{leb-true, le-leb, lt-leb}
 use Rattle.refusals.specs.declared.Refusal.{Refusal}
 use Rattle.refusals.specs.declared.Refusal.the-variants as Refusal
@@ -19,19 +20,15 @@ use Rattle.picture_header.specs.declared.header.HeaderAnswer.the-variants as He
 use Rattle.picture_header.proofs.Laws.Header.{made-within}
 use Rattle.bits.specs.declared.Position.{Position}
 use Rattle.byte_layout.specs.Laid.{farthest, offsetAfter}
-use Rattle.byte_layout.proofs.Laws.Laid.{laid-whole}
+use Rattle.byte_layout.proofs.Laws.Laid.{laid-length, laid-whole}
 use Rattle.code_tables.proofs.Laws.Prefix.{case}
 use Rattle.slice_syntax.specs.Read.{Read, read, refused}
 use Rattle.slice_syntax.specs.Slice.{SliceFields, firstBit, recordsOf}
 use Rattle.slice_records.specs.Laying.{LaidAt}
 use Rattle.slice_records.specs.declared.laying.Laying.{Laying}
 use Rattle.slice_records.specs.declared.laying.Laying.the-variants.{Done, Refused}
-use Rattle.raw_slice.specs.Laying.{endOf}
+use Rattle.raw_slice.specs.Laying.{endOf, withFront}
 use Rattle.raw_slice.specs.Answer.{refusedOutcome, acceptedWith, fitted, readOutcome}
-
-pub empty-list : (l : List ℕ) → length l ≡ 0 → l ≡ []
-empty-list [] e = refl
-empty-list (x ∷ l) e = absurd (omega arith)
 
 -- ---- what is measured
 pub record Measured (x : Read SliceFields) (p : Position) (n : ℕ) : Type 0 where
@@ -82,6 +79,31 @@ module _ (x : Read SliceFields) {p : Position} {n : ℕ} (m : Measured x p n) (b
 
   pub laid-there : {after : List ℕ} → n ≤ length buffer → LaidAt recordsOf 0 buffer after x → after ≡ recordsOf (m .slice) ++ drop (length (recordsOf (m .slice))) buffer
   laid-there h l = l .whole (m .slice) p (m .is) ∙ laid-whole (recordsOf (m .slice)) buffer (short-enough h)
+
+-- where records lie whole at the start of some room, its front is the records
+pub front-there : (x : Read SliceFields) {p : Position} {n : ℕ} (m : Measured x p n) (before : List ℕ) {after : List ℕ} → length before < farthest → LaidAt recordsOf 0 before after x
+    → leb n (length after) ≡ true → (buffer : List ℕ) → withFront n after buffer ≡ recordsOf (m .slice) ++ drop (length (recordsOf (m .slice))) buffer
+unfolding withFront
+front-there x {p} {n} m before {after} room l t buffer = rw t (rw (size, there) (ap (λ (b : List ℕ). b ++ drop (length records) buffer) (take-append-seam records (drop (length records) before))))
+  where
+    records : List ℕ
+    records = recordsOf (m .slice)
+
+    same : length after ≡ length before
+    same = ap length (l .whole (m .slice) p (m .is)) ∙ laid-length 0 records before
+
+    fits : n ≤ length before
+    fits = omega (arith, leb-true n (length after) t, same)
+
+    size : n ≡ length records
+    size = whole-size x m before room fits
+
+    there : after ≡ records ++ drop (length records) before
+    there = laid-there x m before room fits l
+
+pub front-absent : (n : ℕ) (list buffer : List ℕ) → leb n (length list) ≡ false → withFront n list buffer ≡ buffer
+unfolding withFront
+front-absent n list buffer t = rw t
 
 -- ---- the numbers that a header takes
 pub record Small (f : HeaderFields) : Type 0 where

@@ -1,6 +1,6 @@
--- `read_into` meets its contract: what is measured says what is refused; else the records are laid whole. Assumes nothing.
-use mathlib.Core.Path.{_≡_, sym, ap, subst, _∙_}
+-- `read_into` meets its contract: what is laid into the room says what is refused; else the records are copied or laid whole. Assumes nothing.
 use mathlib.Core.List.{List}
+use mathlib.Core.Path.{_≡_, refl, sym, ap, subst, _∙_}
 use Prim.Native.Nat.{ℕ, _<_, _≤_}
 use native.Mathlib.Omega.{arith}
 use borrow.Author.Needs.{needs}
@@ -8,26 +8,21 @@ use lib.ListN.{length}
 use Rattle.bits.specs.declared.Position.{Position}
 use Rattle.byte_layout.specs.Laid.{farthest}
 use Rattle.slice_syntax.specs.Read.{Read}
-use Rattle.slice_syntax.specs.Slice.{SliceFields, recordsOf, rawSliceOf}
+use Rattle.slice_syntax.specs.Slice.{SliceFields, rawSliceOf, recordsOf}
 use Rattle.slice_records.specs.Laying.{LaidAt}
-use Rattle.raw_slice.specs.Answer.{Outcome}
-use Rattle.raw_slice.specs.declared.entry.RawSliceAnswer.{RawSliceAnswer}
-use Rattle.raw_slice.proofs.Laws.Answer.{Measured, measured, unmeasured, too-long, it-fits, whole-size, laid-there}
+use Rattle.raw_slice.specs.Answer.{Outcome, acceptedAnswer, acceptedWith, readOutcome}
+use Rattle.raw_slice.proofs.Laws.Answer.{Measured, measured, unmeasured, too-long, it-fits, whole-size, laid-there, front-there, front-absent}
 use Rattle.raw_slice.proofs.entry.read_into.Statement.{statement}
 use Rattle.raw_slice.proofs.entry.read_into.Tie as tie
 
 abbrev slice : (s : tie.Start) → Read SliceFields
 slice s = rawSliceOf (s .args .header) (s .args .bytes .now)
 
--- the answer to an accepted slice, by the size of its records
-answer-of : (p : Position) {n m : ℕ} → n ≡ m → _≡_ {A = RawSliceAnswer} (record { number = 0; written = n; byte = p .byte; bit = p .bit }) (record { number = 0; written = m; byte = p .byte; bit = p .bit })
-answer-of p e = λ i. record { number = 0; written = e i; byte = p .byte; bit = p .bit }
-
 code-table-requires : tie.Need-code-table-requires
 code-table-requires c κs = search needs
 
-measure-requires : tie.Need-measure-requires
-measure-requires c κs = search needs
+lay-slice-requires : tie.Need-lay-slice-requires
+lay-slice-requires c κs = search needs
 
 enum-known-refusal : tie.Need-enum-known-refusal
 enum-known-refusal c = search needs
@@ -39,17 +34,20 @@ enum-known-end : tie.Need-enum-known-end
 enum-known-end c = search needs
 
 module _ (c : tie.After-known-told2) where
-  abbrev called : tie.After-measure
+  abbrev called : tie.After-lay-slice
   called = c .before .before .before .before .before
 
   abbrev start : tie.Start
-  start = called .before .before .before .before .before .before
+  start = called .before .before .before .before .before .before .before
 
-  accepted : Measured (slice start) (c .before .end .given .0 .0) (c .before .end .given .0 .1 .0)
-  accepted = measured (slice start) (called .measure .ensures .0) (c .before .end .given .1)
+  accepted-slice : Measured (slice start) (c .before .end .given .0 .0) (c .before .end .given .0 .1 .0)
+  accepted-slice = measured (slice start) (called .lay-slice .ensures .0) (c .before .end .given .1)
 
-  room : length (start .args .buffer .now) < farthest
-  room = omega (arith, start .good)
+  buffer-short : length (start .args .buffer .now) < farthest
+  buffer-short = omega (arith, start .good)
+
+  room-short : length (start .args .room .now) < farthest
+  room-short = omega (arith, start .good)
 
 refused-requires-2 : tie.Need-refused-requires-2
 refused-requires-2 c κs = search needs
@@ -60,38 +58,80 @@ same-length c = search needs
 returns : tie.Need-returns
 returns c =
     let t = c .before .before in
-    let same = called t .measure .ensures .1 in
-    let e = too-long (slice (start t)) (accepted t) (start t .args .buffer .now) (room t) (omega (arith, c .before .if1 .taken, ap length same)) in
-    (c .refused2 .ensures ∙ ap (λ (o : Outcome). o .answer) (sym e), same ∙ ap (λ (o : Outcome). o .buffer) (sym e))
+    let e = too-long (slice (start t)) (accepted-slice t) (start t .args .buffer .now) (buffer-short t) (c .before .if1 .taken) in
+    (c .refused2 .ensures ∙ ap (λ (o : Outcome). o .answer) (sym e), ap (λ (o : Outcome). o .buffer) (sym e))
 
-lay-slice-requires : tie.Need-lay-slice-requires
-lay-slice-requires c κs = search needs
+put-front-requires : tie.Need-put-front-requires
+put-front-requires c κs = search needs
+
+accepted-requires : tie.Need-accepted-requires
+accepted-requires c κs = search needs
 
 same-length-2 : tie.Need-same-length-2
 same-length-2 c = search needs
 
-returns-2 : tie.Need-returns-2
-returns-2 c =
-    let l = c .before .before .before .before .before .before in
-    let s = l .before .before .before .before .before .before in
-    let e = unmeasured (slice s) (l .measure .ensures .0) (c .before .before .refusal .given .1) in
-    rw e (c .refused .ensures, l .measure .ensures .1)
-
 same-length-3 : tie.Need-same-length-3
 same-length-3 c = search needs
 
+module _ (c : tie.Else1) where
+  abbrev told : tie.After-known-told2
+  told = c .before
+
+  fits : told .before .end .given .0 .1 .0 ≤ length (start told .args .buffer .now)
+  fits = c .if1 .left
+
+  outcome : readOutcome (slice (start told)) (start told .args .buffer .now) ≡ acceptedWith (recordsOf (accepted-slice told .slice)) (told .before .end .given .0 .0) (start told .args .buffer .now)
+  outcome = it-fits (slice (start told)) (accepted-slice told) (start told .args .buffer .now) (buffer-short told) fits
+
+  answered : acceptedAnswer (told .before .end .given .0 .1 .0) (told .before .end .given .0 .0) ≡ readOutcome (slice (start told)) (start told .args .buffer .now) .answer
+  answered =
+      ap (λ (n : ℕ). acceptedAnswer n (told .before .end .given .0 .0)) (whole-size (slice (start told)) (accepted-slice told) (start told .args .buffer .now) (buffer-short told) fits)
+      ∙ ap (λ (o : Outcome). o .answer) (sym outcome)
+
+returns-2 : tie.Need-returns-2
+returns-2 c =
+    let put = c .before .before .before .before in
+    let e = put .before .before .before in
+    let t = told e in (
+      c .accepted .ensures ∙ answered e,
+      put .put-front .ensures .1
+      ∙ front-there (slice (start t)) (accepted-slice t) (start t .args .room .now) (room-short t) (called t .lay-slice .ensures .1) (sym (put .put-front .ensures .0) ∙ c .before .if2 .taken) (start t .args .buffer .now)
+      ∙ ap (λ (o : Outcome). o .buffer) (sym (outcome e)),
+    )
+
+lay-slice-requires-2 : tie.Need-lay-slice-requires-2
+lay-slice-requires-2 c κs = search needs
+
+accepted-requires-2 : tie.Need-accepted-requires-2
+accepted-requires-2 c κs = search needs
+
+same-length-4 : tie.Need-same-length-4
+same-length-4 c = search needs
+
 returns-3 : tie.Need-returns-3
 returns-3 c =
-    let l = c .before .before in
-    let t = l .before .before .before .before in
-    let same = called t .measure .ensures .1 in
-    let fits : t .before .end .given .0 .1 .0 ≤ length (start t .args .buffer .now) = omega (arith, l .before .before .before .if1 .left, ap length same) in
-    let e = it-fits (slice (start t)) (accepted t) (start t .args .buffer .now) (room t) fits in
-    let size = whole-size (slice (start t)) (accepted t) (start t .args .buffer .now) (room t) fits in (
-      answer-of (t .before .end .given .0 .0) size ∙ ap (λ (o : Outcome). o .answer) (sym e),
-      laid-there (slice (start t)) (accepted t) (start t .args .buffer .now) (room t) fits
-          (subst (λ (b : List ℕ). LaidAt recordsOf 0 b (l .lay-slice .last .1 .1 .1 .0) (slice (start t))) same (l .lay-slice .ensures .1))
-          ∙ ap (λ (o : Outcome). o .buffer) (sym e),
+    let l = c .before .before .before .before .before .before in
+    let s = l .before .before .before .before .before .before .before in
+    let e = unmeasured (slice s) (l .lay-slice .ensures .0) (c .before .before .refusal .given .1) in
+    rw e (c .refused .ensures, refl)
+
+same-length-5 : tie.Need-same-length-5
+same-length-5 c = search needs
+
+same-length-6 : tie.Need-same-length-6
+same-length-6 c = search needs
+
+returns-4 : tie.Need-returns-4
+returns-4 c =
+    let again = c .before .before .before in
+    let put = again .before .before .before .before .before .before in
+    let e = put .before .before .before in
+    let t = told e in
+    let same : put .put-front .last .1 .1 .0 ≡ start t .args .buffer .now = put .put-front .ensures .1 ∙ front-absent _ _ _ (sym (put .put-front .ensures .0) ∙ again .before .before .before .if2 .left) in (
+      c .accepted2 .ensures ∙ answered e,
+      laid-there (slice (start t)) (accepted-slice t) (start t .args .buffer .now) (buffer-short t) (fits e)
+          (subst (λ (b : List ℕ). LaidAt recordsOf 0 b (again .lay-slice2 .last .1 .1 .1 .0) (slice (start t))) same (again .lay-slice2 .ensures .1))
+          ∙ ap (λ (o : Outcome). o .buffer) (sym (outcome e)),
     )
 
 pub read-into-spec : {M : Type 1} → statement M
@@ -99,15 +139,22 @@ read-into-spec =
     tie.close
     (tie.spec
     code-table-requires
-    measure-requires
+    lay-slice-requires
     enum-known-refusal
     refused-requires
     enum-known-end
     refused-requires-2
     same-length
     returns
-    lay-slice-requires
+    put-front-requires
+    accepted-requires
     same-length-2
-    returns-2
     same-length-3
-    returns-3)
+    returns-2
+    lay-slice-requires-2
+    accepted-requires-2
+    same-length-4
+    returns-3
+    same-length-5
+    same-length-6
+    returns-4)
