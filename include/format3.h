@@ -153,6 +153,8 @@ uint32_t format3_show_record(
  * field of the syntax is one. `byte` and `bit` say where a code starts, the bits of a byte counted from 0, the most
  * significant first.
  *
+ * The call needs about 90 KB of stack.
+ *
  * Answers 0, 8, 24, 25 or 26.
  * Accepted (0): `written` is the length of the records, which are at the start of `records`; the bytes after them are as
  * they were before the call. `byte` and `bit` are where the unread rest starts: the slice's length and 0 where nothing is

@@ -7,7 +7,9 @@ use crate::decoder::refusals::Refusal;
 use crate::decoder::{Entries, Given, ENTRIES};
 use crate::fixtures::{stream_fixtures, StreamFixture};
 use crate::generator::codes::{all_words, counted};
-use crate::generator::{damaged_bytes, edge_slices, slice_case, small_slice_cases, SliceCase};
+use crate::generator::{
+    damaged_bytes, edge_slices, long_slice_cases, slice_case, small_slice_cases, SliceCase,
+};
 use crate::random::Random;
 use crate::stream;
 
@@ -64,6 +66,19 @@ pub fn changed_slices(tested: &Entries, seed: u64) -> Result<usize, String> {
         }
     }
     Ok(compared)
+}
+
+/// Slices with long records, accepted and refused. Fails as well where the records of an accepted one are not long.
+pub fn long_slices(tested: &Entries, seed: u64) -> Result<usize, String> {
+    let cases = long_slice_cases(seed);
+    for (number, case) in cases.iter().enumerate() {
+        let what = || format!("long slice {number} of seed {seed}");
+        let answer = same_slice(tested, case, what)?;
+        if answer == 0 && case.buffer.len() <= 1 << 16 {
+            return Err(format!("{} is not long", what()));
+        }
+    }
+    Ok(cases.len())
 }
 
 /// Slices that end in a code, at every place and after every bit of it.

@@ -1,7 +1,9 @@
 //! The comparison itself: it finds nothing between the other decoder and itself, and finds wrong implementations.
 
 use format3_tests::compare::{changed_fields, coefficients, pictures, transforms, vectors};
-use format3_tests::compare_slices::{changed_slices, ended_slices, slices, stream_slices};
+use format3_tests::compare_slices::{
+    changed_slices, ended_slices, long_slices, slices, stream_slices,
+};
 use format3_tests::decoder::{Answer, Entries, ReadSlice, Reconstruct, SliceAnswer, ENTRIES};
 
 const SEED: u64 = 2;
@@ -16,6 +18,7 @@ fn compare(tested: &Entries) -> Result<(), String> {
     changed_slices(tested, SEED)?;
     ended_slices(tested)?;
     stream_slices(tested, SEED)?;
+    long_slices(tested, SEED)?;
     slices(tested, SEED, 6000)?;
     Ok(())
 }

@@ -8,7 +8,7 @@ use format3_tests::compare::{
     changed_fields, coefficients, panel, pictures, require_every_answer, transforms, vectors,
 };
 use format3_tests::compare_slices::{
-    changed_slices, ended_slices, require_every_slice_answer, slices, stream_slices,
+    changed_slices, ended_slices, long_slices, require_every_slice_answer, slices, stream_slices,
 };
 use format3_tests::library::ENTRIES;
 use format3_tests::{exit_code, panel_argument};
@@ -63,6 +63,7 @@ fn compare_slices(count: u64, seed: u64) -> Result<(), String> {
     let changed: Result<usize, String> = changed.sum();
     println!("{} changed slices", changed?);
     println!("{} slices of streams", stream_slices(&ENTRIES, seed)?);
+    println!("{} long slices", long_slices(&ENTRIES, seed)?);
     let counts = slices(&ENTRIES, seed, count)?;
     println!("{count} slices, by answer: {counts:?}");
     require_every_slice_answer(&counts)

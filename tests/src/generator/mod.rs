@@ -15,7 +15,7 @@ pub use file::File;
 pub use reels::{reel, Reel};
 pub use slice_damage::damaged_bytes;
 pub use slice_edges::edge_slices;
-pub use slices::{slice_case, small_slice_cases, SliceCase};
+pub use slices::{long_slice_cases, slice_case, small_slice_cases, SliceCase};
 
 use crate::decoder::file::PictureType;
 use crate::decoder::size::Size;

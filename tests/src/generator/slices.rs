@@ -98,7 +98,7 @@ fn given(header: &Header) -> Given {
 }
 
 /// More than the records of any slice that is made here.
-const LARGE: usize = 1 << 16;
+const LARGE: usize = 1 << 20;
 
 /// The length of the records of an accepted slice; else 0.
 fn records_length(case: &SliceCase) -> usize {
@@ -150,6 +150,35 @@ pub fn small_slice_cases(seed: u64) -> [SliceCase; 3] {
         };
         written(random, header, style)
     })
+}
+
+/// Slices whose records take more than 65,536 bytes, one of each type: in a buffer that holds them, in one that is a byte too
+/// short, and cut before their last byte.
+pub fn long_slice_cases(seed: u64) -> Vec<SliceCase> {
+    let mut cases = Vec::new();
+    for picture_type in TYPES {
+        let random = &mut Random::new(&[seed, u64::from(picture_type.letter()), 6]);
+        let size = Size {
+            width: 22,
+            height: 18,
+        };
+        let header = random_header(random, picture_type, size);
+        let style = SliceStyle {
+            macroblocks: 600,
+            most_pairs: 64,
+            extra_once_in: 8,
+            stuffing_once_in: 8,
+            escape_once_in: 8,
+        };
+        let whole = written(random, header, style);
+        let mut short = whole.clone();
+        short.buffer.truncate(records_length(&whole) - 1);
+        let mut cut = whole.clone();
+        cut.slice = bytes_of(&whole.codes);
+        cut.slice.pop();
+        cases.extend([whole, short, cut]);
+    }
+    cases
 }
 
 impl SliceCase {

@@ -95,8 +95,8 @@ returns-2 c =
     let t = told e in (
       c .accepted .ensures ∙ answered e,
       put .put-front .ensures .1
-      ∙ front-there (slice (start t)) (accepted-slice t) (start t .args .room .now) (room-short t) (called t .lay-slice .ensures .1) (sym (put .put-front .ensures .0) ∙ c .before .if2 .taken) (start t .args .buffer .now)
-      ∙ ap (λ (o : Outcome). o .buffer) (sym (outcome e)),
+          ∙ front-there (slice (start t)) (accepted-slice t) (start t .args .room .now) (room-short t) (called t .lay-slice .ensures .1) (sym (put .put-front .ensures .0) ∙ c .before .if2 .taken) (start t .args .buffer .now)
+          ∙ ap (λ (o : Outcome). o .buffer) (sym (outcome e)),
     )
 
 lay-slice-requires-2 : tie.Need-lay-slice-requires-2
