@@ -547,7 +547,8 @@ static bool is_legal(const struct given *given)
         && is_f_code(given->type == B_PICTURE, given->backward_f_code);
 }
 
-/* Once over an empty buffer, to see whether the slice is accepted and its records fit, and once over the caller's. */
+/* As the library: over an array, so that the buffer stays as it is where the slice is refused; then the records are copied, or, where they are longer than
+ * that, laid by reading the slice again. */
 uint32_t plain_read_slice(
     const uint8_t *slice, size_t slice_length,
     uint32_t width, uint32_t height, uint32_t coding_type,
@@ -556,7 +557,8 @@ uint32_t plain_read_slice(
     size_t *written, size_t *byte, size_t *bit)
 {
     struct given given = {width, height, coding_type, forward_f_code, backward_f_code};
-    struct reader reader = {.bytes = slice, .length = slice_length};
+    uint8_t room[65536];
+    struct reader reader = {.bytes = slice, .length = slice_length, .records = room, .records_length = sizeof room};
     *written = *byte = *bit = 0;
     if (!tables.filled)
         fill_tables();
@@ -569,8 +571,12 @@ uint32_t plain_read_slice(
     }
     if (reader.written > records_length)
         return FORMAT3_RECORDS_LENGTH;
-    reader = (struct reader){.bytes = slice, .length = slice_length, .records = records, .records_length = records_length};
-    read_slice(&reader, &given);
+    if (reader.written <= sizeof room) {
+        memcpy(records, room, reader.written);
+    } else {
+        reader = (struct reader){.bytes = slice, .length = slice_length, .records = records, .records_length = records_length};
+        read_slice(&reader, &given);
+    }
     *written = reader.written;
     *byte = reader.at / 8;
     *bit = reader.at % 8;

@@ -153,14 +153,14 @@ static int once(const char *path, enum extent extent)
     return 0;
 }
 
-/* Plain C reads every slice twice: once to see whether it is accepted. */
+/* Read once each: no slice of the streams has records longer than plain C's array. */
 static int codes(const char *path)
 {
 #ifdef PLAIN_CENSUS
     struct bytes bytes = read_stream(path);
     memset(&plain_census, 0, sizeof plain_census);
     play(bytes, SLICES_ALONE);
-    printf("%lu\n", plain_census.codes / 2);
+    printf("%lu\n", plain_census.codes);
     free(bytes.data);
     return 0;
 #else
