@@ -1,4 +1,4 @@
-// What is read and laid: the position after it and the length of its bytes; or a refusal.
+// What is read and laid: the position after it and the length of its bytes, or, of many records, the offset after them; or a refusal.
 use bits::Position;
 use refusals::Refusal;
 
