@@ -132,7 +132,7 @@ uint32_t format3_vector(uint32_t f_code, int32_t past, int32_t code, uint32_t re
  * Answers 0, 3 (also for an offset at or past the file's end) or 4; where it is refused, all three are 0. */
 uint32_t format3_show_record(
     const uint8_t *file, size_t file_length, size_t offset,
-    size_t *kind, size_t *start, size_t *length);
+    uint8_t *kind, size_t *start, size_t *length);
 
 /* The records of a raw slice: the bytes of one slice of an MPEG-1 video stream, from its start code 00 00 01 on, turned by
  * the tables of Annex B of ISO/IEC 11172-2 into one slice record and a macroblock record for each coded macroblock, one

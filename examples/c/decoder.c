@@ -20,7 +20,8 @@ void start_decoder(struct decoder *decoder)
 struct header header_of(const uint8_t *file, size_t length)
 {
     struct header header = {0, 0, UNKNOWN_TYPE};
-    size_t kind, start, body_length;
+    uint8_t kind;
+    size_t start, body_length;
     format3_show_record(file, length, FIRST_RECORD, &kind, &start, &body_length);
     if (kind != FORMAT3_KIND_HEADER || body_length != HEADER_BODY)
         return header;

@@ -79,7 +79,8 @@ static const uint8_t GREY[41] = {3, 0, 8, 1, 1, 1, 1, 0, 0, 0, 0, 0, 4, 3, 8, 0,
 static void shown(
     size_t file_length, size_t offset, uint32_t number, long expected_kind, long expected_start, long expected_length)
 {
-    size_t kind = 9, start = 9, length = 9;
+    uint8_t kind = 9;
+    size_t start = 9, length = 9;
     expect("record answer", number, format3_show_record(GREY, file_length, offset, &kind, &start, &length));
     expect("record kind", expected_kind, (long)kind);
     expect("record start", expected_start, (long)start);

@@ -54,7 +54,7 @@ extern "C" {
         file: *const u8,
         file_len: usize,
         offset: usize,
-        kind: *mut usize,
+        kind: *mut u8,
         start: *mut usize,
         length: *mut usize,
     ) -> u32;
@@ -127,7 +127,7 @@ fn vector(f_code: i32, past: i32, code: i32, residual: i32) -> (u32, i32) {
 
 fn show_record(file: &[u8], offset: usize) -> (u32, Shown) {
     let mut shown = Shown {
-        kind: UNWRITTEN,
+        kind: UNWRITTEN as u8,
         start: UNWRITTEN,
         length: UNWRITTEN,
     };

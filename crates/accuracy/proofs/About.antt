@@ -4,7 +4,7 @@ use mathlib.Core.List.{[], _∷_}
 use mathlib.Core.Path.{_≡_, refl}
 use native.Mathlib.Omega.{arith}
 use lib.IntN.{ℤ, pos, negℤ, _+ℤ_, _-ℤ_, _*ℤ_}
-use Rattle.accuracy.specs.Fraction.{Fraction, wholeFraction, plus, times, negative, sumOf}
+use Rattle.accuracy.specs.Fraction.{Fraction, wholeFraction, plus, times, negation, sumOf}
 use Rattle.integers.proofs.Bound.{within-add, within-neg, within-mul, within-self, within-more, within-eq}
 use Rattle.integers.proofs.Difference.{as-sub, subs}
 use Rattle.integers.proofs.Solve.{constant, _:+_, _:-_, _:*_, solve-by, X0, X1, X2, X3, X4, X5, X6, X7}
@@ -53,8 +53,8 @@ about-sum {S} {e} z f (suc n) h = more (about-plus (about-sum z f n (λ k p. h k
     more : {x : ℤ} {g : Fraction} → About S (n * e + e) x g → About S (suc n * e) x g
     more {g} p = record { about = within-more (p .about) (omega arith) }
 
-pub about-negative : {S e : ℕ} {z : ℤ} {f : Fraction} → About S e z f → About S e (pos 0 -ℤ z) (negative f)
-about-negative {S} {e} {z} {f} p = record { about = within-eq (turn z (f .numerator) (pos (f .denominator)) (pos S)) (within-neg (p .about)) }
+pub about-negation : {S e : ℕ} {z : ℤ} {f : Fraction} → About S e z f → About S e (pos 0 -ℤ z) (negation f)
+about-negation {S} {e} {z} {f} p = record { about = within-eq (turn z (f .numerator) (pos (f .denominator)) (pos S)) (within-neg (p .about)) }
   where
     turn : (z x d s : ℤ) → (pos 0 -ℤ z) *ℤ d -ℤ s *ℤ (pos 0 -ℤ x) ≡ negℤ (z *ℤ d -ℤ s *ℤ x)
     turn z x d s = rw (as-sub z, as-sub x, as-sub d, as-sub s) (simp subs (omega arith))

@@ -1,192 +1,195 @@
--- The ends hold the cosines: 2^30 times each of seven members with document 01's properties lies between its ends, in every linearly ordered
+-- The ends hold the cosines: 2^30 times each of seven elements with document 01's properties lies between its ends, in every linearly ordered
 -- commutative ring. It rests on squares of whole numbers, computed. Assumes nothing.
 use Prim.Native.Nat.{ℕ, zero, suc, _+_, _*_, _^_, _≤_, _<_}
 use mathlib.Core.Path.{_≡_, sym, ap, _∙_, subst}
 use native.Mathlib.Omega.{arith}
 use lib.Dec.{lit<, lit≤}
-use Rattle.accuracy.proofs.OrderedRing.{nought-plus, times-nought, square-times, below-atMost, atMost-trans, not-below, atMost-plus, times-atMost, times-cancel, square-below, whole-plus, whole-times, whole-below, whole-atMost}
-use Rattle.accuracy.specs.Cosines.{two, double, squareOfDouble, Cosines, Between}
+use Rattle.accuracy.proofs.OrderedRing.{zero-plus, times-zero, square-times, less-at-most, at-most-trans, not-less, at-most-plus, times-at-most, times-cancel, square-less, whole-plus, whole-times, whole-less, whole-at-most}
+use Rattle.accuracy.specs.Cosines.{two, double, squareOfDouble, Cosines, HeldBetween, EndsHold}
 use Rattle.accuracy.specs.Ends.{lowEnds, highEnds, lowEnd, highEnd}
 use Rattle.accuracy.specs.OrderedRing.{OrderedRing, AtMost, whole}
 
 module _ (S : OrderedRing) where
-  abbrev Member : Type 0
-  Member = S .Member
-
   infixl 6 _⊕_
-  abbrev _⊕_ : Member → Member → Member
-  a ⊕ b = S .plus a b
-
   infixl 7 _⊗_
-  abbrev _⊗_ : Member → Member → Member
-  a ⊗ b = S .times a b
+  infix 4 _≺_
+  open OrderedRing S using (Element, plus as _⊕_, times as _⊗_, Less as _≺_)
 
-  abbrev n# : ℕ → Member
-  n# n = whole S n
-
-  -- 2^30 times twice a member
-  abbrev scaled : Member → Member
-  scaled a = n# (2 ^ 30) ⊗ double S a
+  -- 2^30 times twice an element
+  abbrev scaled : Element → Element
+  scaled a = whole S (2 ^ 30) ⊗ double S a
 
   -- x lies between two whole numbers
-  record Bounds (low high : ℕ) (x : Member) : Type 0 where
-    lower : AtMost S (n# low) x
-    upper : AtMost S x (n# high)
+  record Bounds (low high : ℕ) (x : Element) : Type 0 where
+    lower : AtMost S (whole S low) x
+    upper : AtMost S x (whole S high)
 
   -- x² + p = q, and the squares of low and high, with p, are around q: so x is between low and high
-  squeeze : (low high : ℕ) (x p q : Member) → 0 < high → S .Below (S .nought) x → x ⊗ x ⊕ p ≡ q
-      → AtMost S (n# (low * low) ⊕ p) q → AtMost S q (n# (high * high) ⊕ p) → Bounds low high x
+  squeeze : (low high : ℕ) (x p q : Element) → 0 < high → S .zero ≺ x → x ⊗ x ⊕ p ≡ q
+      → AtMost S (whole S (low * low) ⊕ p) q → AtMost S q (whole S (high * high) ⊕ p) → Bounds low high x
   unfolding whole
   squeeze low high x p q hh hx e l h = record {
-    lower = not-below S x (n# low) (λ k. S .below-irreflexive q (below-atMost S q (n# (low * low) ⊕ p) q (under k) l));
-    upper = not-below S (n# high) x (λ k. S .below-irreflexive (n# (high * high) ⊕ p) (below-atMost S (n# (high * high) ⊕ p) q (n# (high * high) ⊕ p) (over k) h));
+    lower = not-less S x (whole S low) (λ k. S .less-irreflexive q (less-at-most S q (whole S (low * low) ⊕ p) q (under k) l));
+    upper = not-less S (whole S high) x (λ k. S .less-irreflexive (whole S (high * high) ⊕ p) (less-at-most S (whole S (high * high) ⊕ p) q (whole S (high * high) ⊕ p) (over k) h));
   }
     where
-      under : S .Below x (n# low) → S .Below q (n# (low * low) ⊕ p)
+      under : x ≺ whole S low → q ≺ whole S (low * low) ⊕ p
       under k =
-          subst (λ (z : Member). S .Below z (n# (low * low) ⊕ p)) e
-          (S .below-plus (x ⊗ x) (n# (low * low)) p (subst (λ (z : Member). S .Below (x ⊗ x) z) (sym (whole-times S low low)) (square-below S x (n# low) hx k)))
+          subst (λ (z : Element). z ≺ whole S (low * low) ⊕ p) e
+          (S .less-plus (x ⊗ x) (whole S (low * low)) p (subst (λ (z : Element). x ⊗ x ≺ z) (sym (whole-times S low low)) (square-less S x (whole S low) hx k)))
 
-      over : S .Below (n# high) x → S .Below (n# (high * high) ⊕ p) q
+      over : whole S high ≺ x → whole S (high * high) ⊕ p ≺ q
       over k =
-          subst (λ (z : Member). S .Below (n# (high * high) ⊕ p) z) e
-          (S .below-plus (n# (high * high)) (x ⊗ x) p (subst (λ (z : Member). S .Below z (x ⊗ x)) (sym (whole-times S high high)) (square-below S (n# high) x (whole-below S 0 high hh) k)))
+          subst (λ (z : Element). whole S (high * high) ⊕ p ≺ z) e
+          (S .less-plus (whole S (high * high)) (x ⊗ x) p (subst (λ (z : Element). z ≺ x ⊗ x) (sym (whole-times S high high)) (square-less S (whole S high) x (whole-less S 0 high hh) k)))
 
-  -- ---- the square of 2^30 times twice a member
-  positive-two : S .Below (S .nought) (two S)
+  -- ---- the square of 2^30 times twice an element
+  positive-two : S .zero ≺ two S
   positive-two =
-      S .below-trans (S .nought) (S .unit) (two S) (S .below-unit)
-      (subst (λ (z : Member). S .Below z (two S)) (nought-plus S (S .unit)) (S .below-plus (S .nought) (S .unit) (S .unit) (S .below-unit)))
+      S .less-trans (S .zero) (S .one) (two S) (S .zero-less-one)
+      (subst (λ (z : Element). z ≺ two S) (zero-plus S (S .one)) (S .less-plus (S .zero) (S .one) (S .one) (S .zero-less-one)))
 
-  two-is : n# 2 ≡ two S
+  two-is : whole S 2 ≡ two S
   unfolding whole
-  two-is = ap (λ (z : Member). z ⊕ S .unit) (nought-plus S (S .unit))
+  two-is = ap (λ (z : Element). z ⊕ S .one) (zero-plus S (S .one))
 
-  factor-positive : S .Below (S .nought) (n# (2 ^ 30))
+  factor-positive : S .zero ≺ whole S (2 ^ 30)
   unfolding whole
-  factor-positive = whole-below S 0 (2 ^ 30) (lit< tt)
+  factor-positive = whole-less S 0 (2 ^ 30) (lit< tt)
 
-  scaled-positive : (a : Member) → S .Below (S .nought) a → S .Below (S .nought) (scaled a)
-  scaled-positive a h = S .below-times (n# (2 ^ 30)) (double S a) factor-positive (S .below-times (two S) a positive-two h)
+  scaled-positive : (a : Element) → S .zero ≺ a → S .zero ≺ scaled a
+  scaled-positive a h = S .less-times (whole S (2 ^ 30)) (double S a) factor-positive (S .less-times (two S) a positive-two h)
 
   -- 2^60 × (2 + y)
-  spread : (a y : Member) → squareOfDouble S a ≡ two S ⊕ y → scaled a ⊗ scaled a ≡ n# (2 ^ 61) ⊕ n# (2 ^ 60) ⊗ y
+  spread : (a y : Element) → squareOfDouble S a ≡ two S ⊕ y → scaled a ⊗ scaled a ≡ whole S (2 ^ 61) ⊕ whole S (2 ^ 60) ⊗ y
   spread a y e =
-      square-times S (n# (2 ^ 30)) (double S a) ∙ (λ i. sym (whole-times S (2 ^ 30) (2 ^ 30)) i ⊗ e i) ∙ S .times-plus (n# (2 ^ 60)) (two S) y
-      ∙ ap (λ (z : Member). z ⊕ n# (2 ^ 60) ⊗ y) (ap (λ (z : Member). n# (2 ^ 60) ⊗ z) (sym two-is) ∙ sym (whole-times S (2 ^ 60) 2))
+      square-times S (whole S (2 ^ 30)) (double S a) ∙ (λ i. sym (whole-times S (2 ^ 30) (2 ^ 30)) i ⊗ e i) ∙ S .times-plus (whole S (2 ^ 60)) (two S) y
+      ∙ ap (λ (z : Element). z ⊕ whole S (2 ^ 60) ⊗ y) (ap (λ (z : Element). whole S (2 ^ 60) ⊗ z) (sym two-is) ∙ sym (whole-times S (2 ^ 60) 2))
 
-  -- 2^60 times twice a member is 2^30 times its scaled one
-  regroup : (b : Member) → n# (2 ^ 60) ⊗ double S b ≡ n# (2 ^ 30) ⊗ scaled b
-  regroup b = ap (λ (z : Member). z ⊗ double S b) (whole-times S (2 ^ 30) (2 ^ 30)) ∙ S .times-assoc (n# (2 ^ 30)) (n# (2 ^ 30)) (double S b)
+  -- 2^60 times twice an element is 2^30 times its scaled one
+  regroup : (b : Element) → whole S (2 ^ 60) ⊗ double S b ≡ whole S (2 ^ 30) ⊗ scaled b
+  regroup b = ap (λ (z : Element). z ⊗ double S b) (whole-times S (2 ^ 30) (2 ^ 30)) ∙ S .times-assoc (whole S (2 ^ 30)) (whole S (2 ^ 30)) (double S b)
 
   -- s + 2^30 × n, for whole numbers
-  grown : (s n : ℕ) → n# (s + 2 ^ 30 * n) ≡ n# s ⊕ n# (2 ^ 30) ⊗ n# n
-  grown s n = whole-plus S s (2 ^ 30 * n) ∙ ap (λ (z : Member). n# s ⊕ z) (whole-times S (2 ^ 30) n)
+  grown : (s n : ℕ) → whole S (s + 2 ^ 30 * n) ≡ whole S s ⊕ whole S (2 ^ 30) ⊗ whole S n
+  grown s n = whole-plus S s (2 ^ 30 * n) ∙ ap (λ (z : Element). whole S s ⊕ z) (whole-times S (2 ^ 30) n)
 
   -- and how it compares with s + 2^30 × y, where y is at least, or at most, n
-  grown-least : (m s n : ℕ) (y : Member) → m ≤ s + 2 ^ 30 * n → AtMost S (n# n) y → AtMost S (n# m) (n# s ⊕ n# (2 ^ 30) ⊗ y)
+  grown-least : (m s n : ℕ) (y : Element) → m ≤ s + 2 ^ 30 * n → AtMost S (whole S n) y → AtMost S (whole S m) (whole S s ⊕ whole S (2 ^ 30) ⊗ y)
   grown-least m s n y h l =
-      atMost-trans S (n# m) (n# s ⊕ n# (2 ^ 30) ⊗ n# n) (n# s ⊕ n# (2 ^ 30) ⊗ y) (subst (λ (z : Member). AtMost S (n# m) z) (grown s n) (whole-atMost S m (s + 2 ^ 30 * n) h))
-      (atMost-plus S (n# (2 ^ 30) ⊗ n# n) (n# (2 ^ 30) ⊗ y) (n# s) (times-atMost S (n# (2 ^ 30)) (n# n) y factor-positive l))
+      at-most-trans S (whole S m) (whole S s ⊕ whole S (2 ^ 30) ⊗ whole S n) (whole S s ⊕ whole S (2 ^ 30) ⊗ y) (subst (λ (z : Element). AtMost S (whole S m) z) (grown s n) (whole-at-most S m (s + 2 ^ 30 * n) h))
+      (at-most-plus S (whole S (2 ^ 30) ⊗ whole S n) (whole S (2 ^ 30) ⊗ y) (whole S s) (times-at-most S (whole S (2 ^ 30)) (whole S n) y factor-positive l))
 
-  grown-most : (m s n : ℕ) (y : Member) → s + 2 ^ 30 * n ≤ m → AtMost S y (n# n) → AtMost S (n# s ⊕ n# (2 ^ 30) ⊗ y) (n# m)
+  grown-most : (m s n : ℕ) (y : Element) → s + 2 ^ 30 * n ≤ m → AtMost S y (whole S n) → AtMost S (whole S s ⊕ whole S (2 ^ 30) ⊗ y) (whole S m)
   grown-most m s n y h l =
-      atMost-trans S (n# s ⊕ n# (2 ^ 30) ⊗ y) (n# s ⊕ n# (2 ^ 30) ⊗ n# n) (n# m)
-      (atMost-plus S (n# (2 ^ 30) ⊗ y) (n# (2 ^ 30) ⊗ n# n) (n# s) (times-atMost S (n# (2 ^ 30)) y (n# n) factor-positive l))
-      (subst (λ (z : Member). AtMost S z (n# m)) (grown s n) (whole-atMost S (s + 2 ^ 30 * n) m h))
+      at-most-trans S (whole S s ⊕ whole S (2 ^ 30) ⊗ y) (whole S s ⊕ whole S (2 ^ 30) ⊗ whole S n) (whole S m)
+      (at-most-plus S (whole S (2 ^ 30) ⊗ y) (whole S (2 ^ 30) ⊗ whole S n) (whole S s) (times-at-most S (whole S (2 ^ 30)) y (whole S n) factor-positive l))
+      (subst (λ (z : Element). AtMost S z (whole S m)) (grown s n) (whole-at-most S (s + 2 ^ 30 * n) m h))
 
   -- ---- one cosine from the one that its square speaks of: two comparisons of squares of whole numbers
-  abbrev Doubled : ℕ → ℕ → Member → Type 0
+  abbrev Doubled : ℕ → ℕ → Element → Type 0
   Doubled low high a = Bounds (2 * low) (2 * high) (scaled a)
 
-  from-two : (low high : ℕ) (a : Member) → S .Below (S .nought) a → squareOfDouble S a ≡ two S → 0 < high
+  from-two : (low high : ℕ) (a : Element) → S .zero ≺ a → squareOfDouble S a ≡ two S → 0 < high
       → 2 * low * (2 * low) ≤ 2 ^ 61 → 2 ^ 61 ≤ 2 * high * (2 * high) → Doubled low high a
   from-two low high a h e g l m =
-      squeeze (2 * low) (2 * high) (scaled a) (S .nought) (n# (2 ^ 61)) (omega arith) (scaled-positive a h)
-      (S .plus-nought (scaled a ⊗ scaled a) ∙ spread a (S .nought) (e ∙ sym (S .plus-nought (two S))) ∙ ap (λ (z : Member). n# (2 ^ 61) ⊕ z) (times-nought S (n# (2 ^ 60))) ∙ S .plus-nought (n# (2 ^ 61)))
-      (subst (λ (z : Member). AtMost S z (n# (2 ^ 61))) (sym (S .plus-nought _)) (whole-atMost S (2 * low * (2 * low)) (2 ^ 61) l))
-      (subst (λ (z : Member). AtMost S (n# (2 ^ 61)) z) (sym (S .plus-nought _)) (whole-atMost S (2 ^ 61) (2 * high * (2 * high)) m))
+      squeeze (2 * low) (2 * high) (scaled a) (S .zero) (whole S (2 ^ 61)) (omega arith) (scaled-positive a h)
+      (S .plus-zero (scaled a ⊗ scaled a) ∙ spread a (S .zero) (e ∙ sym (S .plus-zero (two S))) ∙ ap (λ (z : Element). whole S (2 ^ 61) ⊕ z) (times-zero S (whole S (2 ^ 60))) ∙ S .plus-zero (whole S (2 ^ 61)))
+      (subst (λ (z : Element). AtMost S z (whole S (2 ^ 61))) (sym (S .plus-zero _)) (whole-at-most S (2 * low * (2 * low)) (2 ^ 61) l))
+      (subst (λ (z : Element). AtMost S (whole S (2 ^ 61)) z) (sym (S .plus-zero _)) (whole-at-most S (2 ^ 61) (2 * high * (2 * high)) m))
 
-  from-plus : (low high low′ high′ : ℕ) (a b : Member) → S .Below (S .nought) a → squareOfDouble S a ≡ two S ⊕ double S b → 0 < high
+  from-plus : (low high low′ high′ : ℕ) (a b : Element) → S .zero ≺ a → squareOfDouble S a ≡ two S ⊕ double S b → 0 < high
       → 2 * low * (2 * low) ≤ 2 ^ 61 + 2 ^ 30 * (2 * low′) → 2 ^ 61 + 2 ^ 30 * (2 * high′) ≤ 2 * high * (2 * high) → Doubled low′ high′ b → Doubled low high a
   from-plus low high low′ high′ a b h e g l m d =
-      squeeze (2 * low) (2 * high) (scaled a) (S .nought) (n# (2 ^ 61) ⊕ n# (2 ^ 30) ⊗ scaled b) (omega arith) (scaled-positive a h)
-      (S .plus-nought (scaled a ⊗ scaled a) ∙ spread a (double S b) e ∙ ap (λ (z : Member). n# (2 ^ 61) ⊕ z) (regroup b))
-      (subst (λ (z : Member). AtMost S z (n# (2 ^ 61) ⊕ n# (2 ^ 30) ⊗ scaled b)) (sym (S .plus-nought _)) (grown-least (2 * low * (2 * low)) (2 ^ 61) (2 * low′) (scaled b) l (d .lower)))
-      (subst (λ (z : Member). AtMost S (n# (2 ^ 61) ⊕ n# (2 ^ 30) ⊗ scaled b) z) (sym (S .plus-nought _)) (grown-most (2 * high * (2 * high)) (2 ^ 61) (2 * high′) (scaled b) m (d .upper)))
+      squeeze (2 * low) (2 * high) (scaled a) (S .zero) (whole S (2 ^ 61) ⊕ whole S (2 ^ 30) ⊗ scaled b) (omega arith) (scaled-positive a h)
+      (S .plus-zero (scaled a ⊗ scaled a) ∙ spread a (double S b) e ∙ ap (λ (z : Element). whole S (2 ^ 61) ⊕ z) (regroup b))
+      (subst (λ (z : Element). AtMost S z (whole S (2 ^ 61) ⊕ whole S (2 ^ 30) ⊗ scaled b)) (sym (S .plus-zero _)) (grown-least (2 * low * (2 * low)) (2 ^ 61) (2 * low′) (scaled b) l (d .lower)))
+      (subst (λ (z : Element). AtMost S (whole S (2 ^ 61) ⊕ whole S (2 ^ 30) ⊗ scaled b) z) (sym (S .plus-zero _)) (grown-most (2 * high * (2 * high)) (2 ^ 61) (2 * high′) (scaled b) m (d .upper)))
 
-  from-minus : (low high low′ high′ : ℕ) (a b : Member) → S .Below (S .nought) a → squareOfDouble S a ≡ two S ⊕ S .negative (double S b) → 0 < high
+  from-minus : (low high low′ high′ : ℕ) (a b : Element) → S .zero ≺ a → squareOfDouble S a ≡ two S ⊕ S .negation (double S b) → 0 < high
       → 2 * low * (2 * low) + 2 ^ 30 * (2 * high′) ≤ 2 ^ 61 → 2 ^ 61 ≤ 2 * high * (2 * high) + 2 ^ 30 * (2 * low′) → Doubled low′ high′ b → Doubled low high a
   from-minus low high low′ high′ a b h e g l m d =
-      squeeze (2 * low) (2 * high) (scaled a) (n# (2 ^ 30) ⊗ scaled b) (n# (2 ^ 61)) (omega arith) (scaled-positive a h)
+      squeeze (2 * low) (2 * high) (scaled a) (whole S (2 ^ 30) ⊗ scaled b) (whole S (2 ^ 61)) (omega arith) (scaled-positive a h)
       balanced
       (grown-most (2 ^ 61) (2 * low * (2 * low)) (2 * high′) (scaled b) l (d .upper))
       (grown-least (2 ^ 61) (2 * high * (2 * high)) (2 * low′) (scaled b) m (d .lower))
     where
-      cancelled : n# (2 ^ 60) ⊗ S .negative (double S b) ⊕ n# (2 ^ 30) ⊗ scaled b ≡ S .nought
+      cancelled : whole S (2 ^ 60) ⊗ S .negation (double S b) ⊕ whole S (2 ^ 30) ⊗ scaled b ≡ S .zero
       cancelled =
-          ap (λ (z : Member). n# (2 ^ 60) ⊗ S .negative (double S b) ⊕ z) (sym (regroup b)) ∙ sym (S .times-plus (n# (2 ^ 60)) (S .negative (double S b)) (double S b))
-          ∙ ap (λ (z : Member). n# (2 ^ 60) ⊗ z) (S .plus-comm (S .negative (double S b)) (double S b) ∙ S .plus-negative (double S b)) ∙ times-nought S (n# (2 ^ 60))
+          ap (λ (z : Element). whole S (2 ^ 60) ⊗ S .negation (double S b) ⊕ z) (sym (regroup b)) ∙ sym (S .times-plus (whole S (2 ^ 60)) (S .negation (double S b)) (double S b))
+          ∙ ap (λ (z : Element). whole S (2 ^ 60) ⊗ z) (S .plus-comm (S .negation (double S b)) (double S b) ∙ S .plus-negation (double S b)) ∙ times-zero S (whole S (2 ^ 60))
 
-      balanced : scaled a ⊗ scaled a ⊕ n# (2 ^ 30) ⊗ scaled b ≡ n# (2 ^ 61)
+      balanced : scaled a ⊗ scaled a ⊕ whole S (2 ^ 30) ⊗ scaled b ≡ whole S (2 ^ 61)
       balanced =
-          ap (λ (z : Member). z ⊕ n# (2 ^ 30) ⊗ scaled b) (spread a (S .negative (double S b)) e)
-          ∙ S .plus-assoc (n# (2 ^ 61)) (n# (2 ^ 60) ⊗ S .negative (double S b)) (n# (2 ^ 30) ⊗ scaled b)
-          ∙ ap (λ (z : Member). n# (2 ^ 61) ⊕ z) cancelled ∙ S .plus-nought (n# (2 ^ 61))
+          ap (λ (z : Element). z ⊕ whole S (2 ^ 30) ⊗ scaled b) (spread a (S .negation (double S b)) e)
+          ∙ S .plus-assoc (whole S (2 ^ 61)) (whole S (2 ^ 60) ⊗ S .negation (double S b)) (whole S (2 ^ 30) ⊗ scaled b)
+          ∙ ap (λ (z : Element). whole S (2 ^ 61) ⊕ z) cancelled ∙ S .plus-zero (whole S (2 ^ 61))
 
-  wider : (low high low′ high′ : ℕ) (a : Member) → low′ ≤ low → high ≤ high′ → Doubled low high a → Doubled low′ high′ a
+  wider : (low high low′ high′ : ℕ) (a : Element) → low′ ≤ low → high ≤ high′ → Doubled low high a → Doubled low′ high′ a
   wider low high low′ high′ a l h d = record {
-    lower = atMost-trans S (n# (2 * low′)) (n# (2 * low)) (scaled a) (whole-atMost S (2 * low′) (2 * low) (omega arith)) (d .lower);
-    upper = atMost-trans S (scaled a) (n# (2 * high)) (n# (2 * high′)) (d .upper) (whole-atMost S (2 * high) (2 * high′) (omega arith));
+    lower = at-most-trans S (whole S (2 * low′)) (whole S (2 * low)) (scaled a) (whole-at-most S (2 * low′) (2 * low) (omega arith)) (d .lower);
+    upper = at-most-trans S (scaled a) (whole S (2 * high)) (whole S (2 * high′)) (d .upper) (whole-at-most S (2 * high) (2 * high′) (omega arith));
   }
 
   -- ---- from twice the cosine to the cosine
-  halved : (low high : ℕ) (a : Member) → Doubled low high a → Between S low high a
+  halved : (low high : ℕ) (a : Element) → Doubled low high a → HeldBetween S low high a
   halved low high a d = record {
-    at-least = times-cancel S (two S) (n# (low)) (n# (2 ^ 30) ⊗ a) positive-two
-        (subst (λ (z : Member). AtMost S z (two S ⊗ (n# (2 ^ 30) ⊗ a))) (twice (low)) (subst (λ (z : Member). AtMost S (n# (2 * low)) z) outside (d .lower)));
-    at-most = times-cancel S (two S) (n# (2 ^ 30) ⊗ a) (n# (high)) positive-two
-        (subst (λ (z : Member). AtMost S (two S ⊗ (n# (2 ^ 30) ⊗ a)) z) (twice (high)) (subst (λ (z : Member). AtMost S z (n# (2 * high))) outside (d .upper)));
+    at-least = times-cancel S (two S) (whole S (low)) (whole S (2 ^ 30) ⊗ a) positive-two
+        (subst (λ (z : Element). AtMost S z (two S ⊗ (whole S (2 ^ 30) ⊗ a))) (twice (low)) (subst (λ (z : Element). AtMost S (whole S (2 * low)) z) outside (d .lower)));
+    at-most = times-cancel S (two S) (whole S (2 ^ 30) ⊗ a) (whole S (high)) positive-two
+        (subst (λ (z : Element). AtMost S (two S ⊗ (whole S (2 ^ 30) ⊗ a)) z) (twice (high)) (subst (λ (z : Element). AtMost S z (whole S (2 * high))) outside (d .upper)));
   }
     where
-      twice : (n : ℕ) → n# (2 * n) ≡ two S ⊗ n# n
-      twice n = whole-times S 2 n ∙ ap (λ (z : Member). z ⊗ n# n) two-is
+      twice : (n : ℕ) → whole S (2 * n) ≡ two S ⊗ whole S n
+      twice n = whole-times S 2 n ∙ ap (λ (z : Element). z ⊗ whole S n) two-is
 
-      outside : scaled a ≡ two S ⊗ (n# (2 ^ 30) ⊗ a)
-      outside = sym (S .times-assoc (n# (2 ^ 30)) (two S) a) ∙ ap (λ (z : Member). z ⊗ a) (S .times-comm (n# (2 ^ 30)) (two S)) ∙ S .times-assoc (two S) (n# (2 ^ 30)) a
+      outside : scaled a ≡ two S ⊗ (whole S (2 ^ 30) ⊗ a)
+      outside = sym (S .times-assoc (whole S (2 ^ 30)) (two S) a) ∙ ap (λ (z : Element). z ⊗ a) (S .times-comm (whole S (2 ^ 30)) (two S)) ∙ S .times-assoc (two S) (whole S (2 ^ 30)) a
 
-  -- the theorem. The 2nd is first held between closer numbers, from which the 7th's ends follow
-  pub ends-hold : (c : ℕ → Member) → Cosines S c → (i : ℕ) → i < 7 → Between S (lowEnd i) (highEnd i) (c i)
-  unfolding lowEnds highEnds
-  ends-hold c k = each
-    where
-      fourth : Doubled (lowEnd 3) (highEnd 3) (c 3)
-      fourth = from-two (lowEnd 3) (highEnd 3) (c 3) (k .above 3 (lit< tt)) (k .fourth) (lit< tt) (lit≤ tt) (lit≤ tt)
+  -- ---- the seven, each from the one that its square speaks of, by two comparisons of whole numbers. The 2nd is first held between closer
+  -- numbers, from which the 7th's ends follow
+  module _ (c : ℕ → Element) (k : Cosines S c) where
+    fourth : Doubled (lowEnd 3) (highEnd 3) (c 3)
+    unfolding lowEnds highEnds
+    fourth = from-two (lowEnd 3) (highEnd 3) (c 3) (k .above 3 (lit< tt)) (k .fourth) (lit< tt) (lit≤ tt) (lit≤ tt)
 
-      second : Doubled (lowEnd 1 + 4) (lowEnd 1 + 12) (c 1)
-      second = from-plus (lowEnd 1 + 4) (lowEnd 1 + 12) (lowEnd 3) (highEnd 3) (c 1) (c 3) (k .above 1 (lit< tt)) (k .second) (lit< tt) (lit≤ tt) (lit≤ tt) fourth
+    second : Doubled (lowEnd 3) (highEnd 3) (c 3) → Doubled (lowEnd 1 + 4) (lowEnd 1 + 12) (c 1)
+    unfolding lowEnds highEnds
+    second = from-plus (lowEnd 1 + 4) (lowEnd 1 + 12) (lowEnd 3) (highEnd 3) (c 1) (c 3) (k .above 1 (lit< tt)) (k .second) (lit< tt) (lit≤ tt) (lit≤ tt)
 
-      sixth : Doubled (lowEnd 5) (highEnd 5) (c 5)
-      sixth = from-minus (lowEnd 5) (highEnd 5) (lowEnd 3) (highEnd 3) (c 5) (c 3) (k .above 5 (lit< tt)) (k .sixth) (lit< tt) (lit≤ tt) (lit≤ tt) fourth
+    sixth : Doubled (lowEnd 3) (highEnd 3) (c 3) → Doubled (lowEnd 5) (highEnd 5) (c 5)
+    unfolding lowEnds highEnds
+    sixth = from-minus (lowEnd 5) (highEnd 5) (lowEnd 3) (highEnd 3) (c 5) (c 3) (k .above 5 (lit< tt)) (k .sixth) (lit< tt) (lit≤ tt) (lit≤ tt)
 
-      first : Doubled (lowEnd 0) (highEnd 0) (c 0)
-      first = from-plus (lowEnd 0) (highEnd 0) (lowEnd 1 + 4) (lowEnd 1 + 12) (c 0) (c 1) (k .above 0 (lit< tt)) (k .first) (lit< tt) (lit≤ tt) (lit≤ tt) second
+    first : Doubled (lowEnd 1 + 4) (lowEnd 1 + 12) (c 1) → Doubled (lowEnd 0) (highEnd 0) (c 0)
+    unfolding lowEnds highEnds
+    first = from-plus (lowEnd 0) (highEnd 0) (lowEnd 1 + 4) (lowEnd 1 + 12) (c 0) (c 1) (k .above 0 (lit< tt)) (k .first) (lit< tt) (lit≤ tt) (lit≤ tt)
 
-      seventh : Doubled (lowEnd 6) (highEnd 6) (c 6)
-      seventh = from-minus (lowEnd 6) (highEnd 6) (lowEnd 1 + 4) (lowEnd 1 + 12) (c 6) (c 1) (k .above 6 (lit< tt)) (k .seventh) (lit< tt) (lit≤ tt) (lit≤ tt) second
+    seventh : Doubled (lowEnd 1 + 4) (lowEnd 1 + 12) (c 1) → Doubled (lowEnd 6) (highEnd 6) (c 6)
+    unfolding lowEnds highEnds
+    seventh = from-minus (lowEnd 6) (highEnd 6) (lowEnd 1 + 4) (lowEnd 1 + 12) (c 6) (c 1) (k .above 6 (lit< tt)) (k .seventh) (lit< tt) (lit≤ tt) (lit≤ tt)
 
-      third : Doubled (lowEnd 2) (highEnd 2) (c 2)
-      third = from-plus (lowEnd 2) (highEnd 2) (lowEnd 5) (highEnd 5) (c 2) (c 5) (k .above 2 (lit< tt)) (k .third) (lit< tt) (lit≤ tt) (lit≤ tt) sixth
+    third : Doubled (lowEnd 5) (highEnd 5) (c 5) → Doubled (lowEnd 2) (highEnd 2) (c 2)
+    unfolding lowEnds highEnds
+    third = from-plus (lowEnd 2) (highEnd 2) (lowEnd 5) (highEnd 5) (c 2) (c 5) (k .above 2 (lit< tt)) (k .third) (lit< tt) (lit≤ tt) (lit≤ tt)
 
-      fifth : Doubled (lowEnd 4) (highEnd 4) (c 4)
-      fifth = from-minus (lowEnd 4) (highEnd 4) (lowEnd 5) (highEnd 5) (c 4) (c 5) (k .above 4 (lit< tt)) (k .fifth) (lit< tt) (lit≤ tt) (lit≤ tt) sixth
+    fifth : Doubled (lowEnd 5) (highEnd 5) (c 5) → Doubled (lowEnd 4) (highEnd 4) (c 4)
+    unfolding lowEnds highEnds
+    fifth = from-minus (lowEnd 4) (highEnd 4) (lowEnd 5) (highEnd 5) (c 4) (c 5) (k .above 4 (lit< tt)) (k .fifth) (lit< tt) (lit≤ tt) (lit≤ tt)
 
-      each : (i : ℕ) → i < 7 → Between S (lowEnd i) (highEnd i) (c i)
-      each zero h = halved (lowEnd 0) (highEnd 0) (c 0) first
-      each (suc zero) h = halved (lowEnd 1) (highEnd 1) (c 1) (wider (lowEnd 1 + 4) (lowEnd 1 + 12) (lowEnd 1) (highEnd 1) (c 1) (lit≤ tt) (lit≤ tt) second)
-      each (suc (suc zero)) h = halved (lowEnd 2) (highEnd 2) (c 2) third
-      each (suc (suc (suc zero))) h = halved (lowEnd 3) (highEnd 3) (c 3) fourth
-      each (suc (suc (suc (suc zero)))) h = halved (lowEnd 4) (highEnd 4) (c 4) fifth
-      each (suc (suc (suc (suc (suc zero))))) h = halved (lowEnd 5) (highEnd 5) (c 5) sixth
-      each (suc (suc (suc (suc (suc (suc zero)))))) h = halved (lowEnd 6) (highEnd 6) (c 6) seventh
-      each (suc (suc (suc (suc (suc (suc (suc i))))))) h = absurd (omega arith)
+    closer : Doubled (lowEnd 1 + 4) (lowEnd 1 + 12) (c 1) → Doubled (lowEnd 1) (highEnd 1) (c 1)
+    unfolding lowEnds highEnds
+    closer = wider (lowEnd 1 + 4) (lowEnd 1 + 12) (lowEnd 1) (highEnd 1) (c 1) (lit≤ tt) (lit≤ tt)
+
+    held : (i : ℕ) → i < 7 → HeldBetween S (lowEnd i) (highEnd i) (c i)
+    held zero h = halved (lowEnd 0) (highEnd 0) (c 0) (first (second fourth))
+    held (suc zero) h = halved (lowEnd 1) (highEnd 1) (c 1) (closer (second fourth))
+    held (suc (suc zero)) h = halved (lowEnd 2) (highEnd 2) (c 2) (third (sixth fourth))
+    held (suc (suc (suc zero))) h = halved (lowEnd 3) (highEnd 3) (c 3) fourth
+    held (suc (suc (suc (suc zero)))) h = halved (lowEnd 4) (highEnd 4) (c 4) (fifth (sixth fourth))
+    held (suc (suc (suc (suc (suc zero))))) h = halved (lowEnd 5) (highEnd 5) (c 5) (sixth fourth)
+    held (suc (suc (suc (suc (suc (suc zero)))))) h = halved (lowEnd 6) (highEnd 6) (c 6) (seventh (second fourth))
+    held (suc (suc (suc (suc (suc (suc (suc i))))))) h = absurd (omega arith)
+
+pub ends-hold : EndsHold
+ends-hold = held

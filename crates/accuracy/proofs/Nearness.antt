@@ -8,10 +8,10 @@ use native.Mathlib.Omega.{arith}
 use lib.Dec.{T, ltb, leb, eqb, lit<, leb→le, ltb→lt, nltb→le, T-not}
 use lib.IntN.{ℤ, pos, negℤ, natAbs, _-ℤ_, _*ℤ_, +ℤ-idl, *ℤ-comm}
 use lib.Signed.{nonNeg, _≤ℤ_, pos-natAbs}
-use Rattle.accuracy.proofs.About.{About, about-negative}
-use Rattle.accuracy.specs.Ends.{lowEnds, highEnds, lowEnd, highEnd}
+use Rattle.accuracy.proofs.About.{About, about-negation}
+use Rattle.accuracy.specs.Ends.{lowEnds, highEnds, lowEnd, highEnd, Near, AllNear}
 use Rattle.accuracy.specs.ExactSum.{over30, BetweenEnds, fractionFactor}
-use Rattle.accuracy.specs.Fraction.{Fraction, _≼_, negative}
+use Rattle.accuracy.specs.Fraction.{Fraction, _≼_, negation}
 use Rattle.integers.proofs.Bound.{within-neg, within-cancel, within-eq, within-both}
 use Rattle.integers.proofs.Difference.{as-sub, subs}
 use Rattle.integers.proofs.Solve.{constant, _:-_, _:*_, solve-by, X0, X1, X2}
@@ -19,41 +19,33 @@ use Rattle.integers.specs.Bound.{Within, at}
 use Rattle.lists.proofs.Test.{and-left, and-right, at-below, at-below₂}
 use Rattle.lists.specs.Test.{allBelow}
 use Rattle.tables.specs.Tables.{cosines}
-use Rattle.transform.specs.Transform.{angle, factorOf, factor}
+use Rattle.transform.specs.Transform.{angle, cosineFactor, factor}
 
--- ---- one computed test over the seven entries: the pair of ends is at most 16 apart, 2^10 times the entry is within 1024 of both, and both are at most 1
-endOk : ℕ → Bool
-endOk i =
-    leb (highEnd i) (lowEnd i + 16) && (nonNeg (at cosines i) && (leb (1024 * natAbs (at cosines i)) (lowEnd i + 1024) && (leb (highEnd i) (1024 * natAbs (at cosines i) + 1024) && leb (highEnd i) 1073741824)))
+-- ---- one computed test over the seven entries
+isNear : ℤ → ℕ → ℕ → Bool
+isNear z l h = leb h (l + 16) && (nonNeg z && (leb (2 ^ 10 * natAbs z) (l + 2 ^ 10) && (leb h (2 ^ 10 * natAbs z + 2 ^ 10) && leb h (2 ^ 30))))
 
-all-ok : T (allBelow 7 endOk)
-unfolding allBelow endOk lowEnds highEnds
-all-ok = tt
+all-near : T (allBelow 7 (λ i. isNear (at cosines i) (lowEnd i) (highEnd i)))
+unfolding allBelow isNear lowEnds highEnds
+all-near = tt
 
-pub record Near (z : ℤ) (l h : ℕ) : Type 0 where
-  pub apart : h ≤ l + 16
-  pub not-negative : pos (natAbs z) ≡ z
-  pub below-low : 1024 * natAbs z ≤ l + 1024
-  pub above-high : h ≤ 1024 * natAbs z + 1024
-  pub at-most-one : h ≤ 1073741824
-
-near-of : (z : ℤ) (l h : ℕ) → T (leb h (l + 16) && (nonNeg z && (leb (1024 * natAbs z) (l + 1024) && (leb h (1024 * natAbs z + 1024) && leb h 1073741824)))) → Near z l h
+near-of : (z : ℤ) (l h : ℕ) → T (isNear z l h) → Near z l h
+unfolding isNear
 near-of z l h t =
     let s = and-right (leb h (l + 16)) _ t in
     let r = and-right (nonNeg z) _ s in
-    let q = and-right (leb (1024 * natAbs z) (l + 1024)) _ r in
+    let q = and-right (leb (2 ^ 10 * natAbs z) (l + 2 ^ 10)) _ r in
     record {
       apart = leb→le _ _ (and-left (leb h (l + 16)) _ t);
       not-negative = pos-natAbs z (and-left (nonNeg z) _ s);
-      below-low = leb→le _ _ (and-left (leb (1024 * natAbs z) (l + 1024)) _ r);
-      above-high = leb→le _ _ (and-left (leb h (1024 * natAbs z + 1024)) _ q);
-      at-most-one = leb→le _ _ (and-right (leb h (1024 * natAbs z + 1024)) _ q);
+      below-low = leb→le _ _ (and-left (leb (2 ^ 10 * natAbs z) (l + 2 ^ 10)) _ r);
+      above-high = leb→le _ _ (and-left (leb h (2 ^ 10 * natAbs z + 2 ^ 10)) _ q);
+      at-most-one = leb→le _ _ (and-right (leb h (2 ^ 10 * natAbs z + 2 ^ 10)) _ q);
     }
 
 -- what the test says of each entry
-pub near : (i : ℕ) → i < 7 → Near (at cosines i) (lowEnd i) (highEnd i)
-unfolding endOk
-near i h = near-of (at cosines i) (lowEnd i) (highEnd i) (at-below 7 endOk all-ok i h)
+pub near : AllNear
+near i h = near-of (at cosines i) (lowEnd i) (highEnd i) (at-below 7 (λ j. isNear (at cosines j) (lowEnd j) (highEnd j)) all-near i h)
 
 -- ---- a number between L and H is within E of A
 within-ends : (y : ℤ) (A L H E : ℕ) → pos L ≤ℤ y → y ≤ℤ pos H → A ≤ L + E → H ≤ A + E → Within E (pos A -ℤ y)
@@ -67,7 +59,7 @@ within-ends y A L H E p q h k = within-both (lo y A H E q k) (hi y A L E p h)
 
 -- ---- an entry z of the table stands for a fraction f
 pub record Stands (z : ℤ) (f : Fraction) : Type 0 where
-  pub close : About 1073741824 1024 (pos 1024 *ℤ z) f
+  pub close : About (2 ^ 30) (2 ^ 10) (pos (2 ^ 10) *ℤ z) f
   pub one : Within (f .denominator) (f .numerator)
 
 entry-stands : (x : ℕ → Fraction) → BetweenEnds x → (i : ℕ) → i < 7 → Stands (at cosines i) (x i)
@@ -76,8 +68,8 @@ entry-stands x b i h = go (at cosines i) (lowEnd i) (highEnd i) (x i) (near i h)
     go : (z : ℤ) (l k : ℕ) (f : Fraction) → Near z l k → over30 l ≼ f → f ≼ over30 k → Stands z f
     go z l k f e p q = record {
       close = record {
-        about = subst (λ (y : ℤ). Within (1024 * f .denominator) (pos 1024 *ℤ y *ℤ pos (f .denominator) -ℤ pos (2 ^ 30) *ℤ f .numerator)) (e .not-negative)
-            (within-ends (pos (2 ^ 30) *ℤ f .numerator) (1024 * natAbs z * f .denominator) (l * f .denominator) (k * f .denominator) (1024 * f .denominator) at-least at-most
+        about = subst (λ (y : ℤ). Within (2 ^ 10 * f .denominator) (pos (2 ^ 10) *ℤ y *ℤ pos (f .denominator) -ℤ pos (2 ^ 30) *ℤ f .numerator)) (e .not-negative)
+            (within-ends (pos (2 ^ 30) *ℤ f .numerator) (2 ^ 10 * natAbs z * f .denominator) (l * f .denominator) (k * f .denominator) (2 ^ 10 * f .denominator) at-least at-most
             (omega (arith, mul-le-mul-right (f .denominator) (e .below-low))) (omega (arith, mul-le-mul-right (f .denominator) (e .above-high))));
       };
       one = within-cancel (2 ^ 30) (lit< tt) (within-both (low (pos (2 ^ 30) *ℤ f .numerator) at-least) (high (pos (2 ^ 30) *ℤ f .numerator) at-most (mul-le-mul-right (f .denominator) (e .at-most-one))));
@@ -89,20 +81,20 @@ entry-stands x b i h = go (at cosines i) (lowEnd i) (highEnd i) (x i) (near i h)
         at-most : (pos (2 ^ 30) *ℤ f .numerator) ≤ℤ pos (k * f .denominator)
         at-most = subst (λ (y : ℤ). y ≤ℤ pos (k * f .denominator)) (*ℤ-comm (f .numerator) (pos (2 ^ 30))) (q .crossed)
 
-        low : (y : ℤ) → pos (l * f .denominator) ≤ℤ y → negℤ (pos (1073741824 * f .denominator)) ≤ℤ y
+        low : (y : ℤ) → pos (l * f .denominator) ≤ℤ y → negℤ (pos (2 ^ 30 * f .denominator)) ≤ℤ y
         low y = rw (as-sub y) (simp subs (omega arith))
 
-        high : (y : ℤ) → y ≤ℤ pos (k * f .denominator) → k * f .denominator ≤ 1073741824 * f .denominator → y ≤ℤ pos (1073741824 * f .denominator)
+        high : (y : ℤ) → y ≤ℤ pos (k * f .denominator) → k * f .denominator ≤ 2 ^ 30 * f .denominator → y ≤ℤ pos (2 ^ 30 * f .denominator)
         high y = rw (as-sub y) (simp subs (omega arith))
 
-stands-negative : {z : ℤ} {f : Fraction} → Stands z f → Stands (pos 0 -ℤ z) (negative f)
-stands-negative {z} {f} s = record {
-  close = record { about = within-eq (outside z (pos (f .denominator)) (pos (2 ^ 30) *ℤ (pos 0 -ℤ f .numerator))) (about-negative (s .close) .about) };
+stands-negation : {z : ℤ} {f : Fraction} → Stands z f → Stands (pos 0 -ℤ z) (negation f)
+stands-negation {z} {f} s = record {
+  close = record { about = within-eq (outside z (pos (f .denominator)) (pos (2 ^ 30) *ℤ (pos 0 -ℤ f .numerator))) (about-negation (s .close) .about) };
   one = within-eq (plain (f .numerator)) (within-neg (s .one));
 }
   where
-    outside : (z d y : ℤ) → pos 1024 *ℤ (pos 0 -ℤ z) *ℤ d -ℤ y ≡ (pos 0 -ℤ pos 1024 *ℤ z) *ℤ d -ℤ y
-    outside z d y = solve-by (z ∷ d ∷ y ∷ []) (constant (pos 1024) :* (constant (pos 0) :- X0) :* X1 :- X2) ((constant (pos 0) :- constant (pos 1024) :* X0) :* X1 :- X2) refl
+    outside : (z d y : ℤ) → pos (2 ^ 10) *ℤ (pos 0 -ℤ z) *ℤ d -ℤ y ≡ (pos 0 -ℤ pos (2 ^ 10) *ℤ z) *ℤ d -ℤ y
+    outside z d y = solve-by (z ∷ d ∷ y ∷ []) (constant (pos (2 ^ 10)) :* (constant (pos 0) :- X0) :* X1 :- X2) ((constant (pos 0) :- constant (pos (2 ^ 10)) :* X0) :* X1 :- X2) refl
 
     plain : (x : ℤ) → pos 0 -ℤ x ≡ negℤ x
     plain x = +ℤ-idl (negℤ x)
@@ -139,9 +131,9 @@ cond₂ Q true f g = f tt
 cond₂ Q false f g = g tt
 
 pub factor-stands : (x : ℕ → Fraction) → BetweenEnds x → (p u : ℕ) → p < 8 → u < 8 → Stands (factor p u) (fractionFactor x p u)
-unfolding factor factorOf
+unfolding factor cosineFactor
 factor-stands x b p u hp hu = cond₂ Stands (eqb u 0) (λ t. entry-stands x b 3 (lit< tt)) (λ t.
     let a = angle-ok p u hp hu t in
     cond₂ Stands (ltb (angle p u) 8)
     (λ s. let l : angle p u < 8 = ltb→lt (angle p u) 8 s in entry-stands x b (angle p u - 1) (omega (arith, a .least)))
-    (λ s. let l : 8 ≤ angle p u = nltb→le (angle p u) 8 s in stands-negative (entry-stands x b (15 - angle p u) (omega (arith, a .most, a .other)))))
+    (λ s. let l : 8 ≤ angle p u = nltb→le (angle p u) 8 s in stands-negation (entry-stands x b (15 - angle p u) (omega (arith, a .most, a .other)))))

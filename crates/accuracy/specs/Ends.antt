@@ -1,7 +1,11 @@
 -- The ends around each cosine: whole numbers over 2^30 (document 01, "Inverse transform"; listed in docs/COSINES.md).
 use mathlib.Core.List.{List, [], _∷_}
-use Prim.Native.Nat.{ℕ}
+use mathlib.Core.Path.{_≡_}
+use Prim.Native.Nat.{ℕ, _+_, _*_, _^_, _≤_, _<_}
+use lib.IntN.{ℤ, pos, natAbs}
 use lib.ListN.{getD}
+use Rattle.integers.specs.Bound.{at}
+use Rattle.tables.specs.Tables.{cosines}
 
 unfoldable pub lowEnds : List ℕ
 lowEnds = 1053110168 ∷ 992008086 ∷ 892783690 ∷ 759250117 ∷ 596538987 ∷ 410903199 ∷ 209476630 ∷ []
@@ -15,3 +19,17 @@ lowEnd i = getD lowEnds i 0
 
 abbrev pub highEnd : ℕ → ℕ
 highEnd i = getD highEnds i 0
+
+-- an entry of the table, which counts 2^20ths, and the two ends around its cosine, which count 2^30ths
+pub record Near (entry : ℤ) (low high : ℕ) : Type 0 where
+  -- "at most 16 apart"
+  pub apart : high ≤ low + 16
+  pub not-negative : pos (natAbs entry) ≡ entry
+  -- the entry is within a 2^20th of both ends, and these are at most 1
+  pub below-low : 2 ^ 10 * natAbs entry ≤ low + 2 ^ 10
+  pub above-high : high ≤ 2 ^ 10 * natAbs entry + 2 ^ 10
+  pub at-most-one : high ≤ 2 ^ 30
+
+-- "nearness": each of the seven whole numbers is near the ends around its cosine
+abbrev pub AllNear : Type 0
+AllNear = (i : ℕ) → i < 7 → Near (at cosines i) (lowEnd i) (highEnd i)

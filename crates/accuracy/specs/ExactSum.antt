@@ -1,18 +1,16 @@
--- What demand 3 speaks of: coefficients in range, fractions between the ends, the exact sum, and 9/16.
+-- What demand 3 speaks of: coefficients in range, fractions between the ends, the exact sum, and a whole number within 9/16 of it.
 use mathlib.Core.List.{List}
 use Prim.Native.Nat.{ℕ, _+_, _*_, _^_, _<_}
 use lib.Dec.{lit<}
 use lib.IntN.{ℤ, pos, negsuc}
-use lib.Signed.{_≤ℤ_}
-use Rattle.integers.specs.Bound.{at}
-use Rattle.transform.specs.Transform.{factorOf}
+use Rattle.integers.specs.Bound.{Between, at}
+use Rattle.transform.specs.Transform.{cosineFactor}
 use Rattle.accuracy.specs.Ends.{lowEnd, highEnd}
-use Rattle.accuracy.specs.Fraction.{Fraction, _≼_, wholeFraction, plus, times, negative, sumOf}
+use Rattle.accuracy.specs.Fraction.{Fraction, _≼_, wholeFraction, plus, times, negation, sumOf}
 
--- "sixty-four coefficients, each from -2048 to 2047"
+-- "sixty-four coefficients, each from -2048 to 2047": the numbers at the places 0 to 63 of a list, where one that it lacks is 0
 pub record Coefficients (c : List ℤ) : Type 0 where
-  pub least : (k : ℕ) → k < 64 → negsuc 2047 ≤ℤ at c k
-  pub greatest : (k : ℕ) → k < 64 → at c k ≤ℤ pos 2047
+  pub each : (k : ℕ) → k < 64 → Between (negsuc 2047) (pos 2047) (at c k)
 
 -- n over 2^30
 abbrev pub over30 : ℕ → Fraction
@@ -25,7 +23,7 @@ pub record BetweenEnds (x : ℕ → Fraction) : Type 0 where
 
 -- "each factor being the fraction that stands for its cosine, with sign and u = 0 as above"
 abbrev pub fractionFactor : (ℕ → Fraction) → ℕ → ℕ → Fraction
-fractionFactor x p u = factorOf negative x p u
+fractionFactor x p u = cosineFactor negation x p u
 
 abbrev pub quarter : Fraction
 quarter = record { numerator = pos 1; denominator = 4; positive = lit< tt }
@@ -36,10 +34,11 @@ unfoldable pub exactSum : (ℕ → Fraction) → List ℤ → ℕ → ℕ → Fr
 exactSum x c q p =
     times quarter (sumOf (λ v. sumOf (λ u. times (times (fractionFactor x p u) (fractionFactor x q v)) (wholeFraction (at c (8 * v + u)))) 8) 8)
 
+-- "lies within .. of": z is at most f + e, and f at most z + e
+pub record LiesWithin (e : Fraction) (z : ℤ) (f : Fraction) : Type 0 where
+  pub above : wholeFraction z ≼ plus f e
+  pub below : f ≼ plus (wholeFraction z) e
+
+-- "9/16"
 abbrev pub nineSixteenths : Fraction
 nineSixteenths = record { numerator = pos 9; denominator = 16; positive = lit< tt }
-
--- "lies within 9/16 of": z is at most f + 9/16, and f at most z + 9/16
-pub record WithinNineSixteenths (z : ℤ) (f : Fraction) : Type 0 where
-  pub above : wholeFraction z ≼ plus f nineSixteenths
-  pub below : f ≼ plus (wholeFraction z) nineSixteenths

@@ -1,5 +1,4 @@
 -- Fractions, their order, and sums and products of them.
-use mathlib.Core.List.{List}
 use Prim.Native.Nat.{ℕ, zero, suc, _*_, _<_}
 use native.Mathlib.Nat.{mul-pos}
 use lib.Dec.{lit<}
@@ -35,8 +34,8 @@ times f g = record {
   positive = mul-pos (f .positive) (g .positive);
 }
 
-abbrev pub negative : Fraction → Fraction
-negative f = record { numerator = pos 0 -ℤ f .numerator; denominator = f .denominator; positive = f .positive }
+abbrev pub negation : Fraction → Fraction
+negation f = record { numerator = pos 0 -ℤ f .numerator; denominator = f .denominator; positive = f .positive }
 
 -- f 0 + f 1 + .. + f (n - 1)
 unfoldable pub sumOf : (ℕ → Fraction) → ℕ → Fraction

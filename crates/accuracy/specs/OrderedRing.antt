@@ -1,39 +1,43 @@
 -- A linearly ordered commutative ring, by its laws.
 use mathlib.Core.Logic.{_⊎_}
 use mathlib.Core.Path.{_≡_}
-use Prim.Native.Nat.{ℕ, zero, suc}
+use Prim.Native.Nat.{ℕ}
+use Prim.Native.Nat as nat
 
+-- The order is decided: `less-compare` gives one of its three cases. So the reals that are meant are those of classical mathematics, or, where nothing
+-- is assumed, the real algebraic numbers: both are such rings and have the cosines of document 01. That the laws agree with one another is shown by
+-- the integers (proofs/Model.antt)
 pub record OrderedRing : Type 1 where
-  pub Member : Type 0
-  pub nought : Member
-  pub unit : Member
-  pub plus : Member → Member → Member
-  pub times : Member → Member → Member
-  pub negative : Member → Member
-  pub Below : Member → Member → Type 0
+  pub Element : Type 0
+  pub zero : Element
+  pub one : Element
+  pub plus : Element → Element → Element
+  pub times : Element → Element → Element
+  pub negation : Element → Element
+  pub Less : Element → Element → Type 0
   -- a commutative ring
-  pub plus-assoc : (a b c : Member) → plus (plus a b) c ≡ plus a (plus b c)
-  pub plus-comm : (a b : Member) → plus a b ≡ plus b a
-  pub plus-nought : (a : Member) → plus a nought ≡ a
-  pub plus-negative : (a : Member) → plus a (negative a) ≡ nought
-  pub times-assoc : (a b c : Member) → times (times a b) c ≡ times a (times b c)
-  pub times-comm : (a b : Member) → times a b ≡ times b a
-  pub times-unit : (a : Member) → times a unit ≡ a
-  pub times-plus : (a b c : Member) → times a (plus b c) ≡ plus (times a b) (times a c)
+  pub plus-assoc : (a b c : Element) → plus (plus a b) c ≡ plus a (plus b c)
+  pub plus-comm : (a b : Element) → plus a b ≡ plus b a
+  pub plus-zero : (a : Element) → plus a zero ≡ a
+  pub plus-negation : (a : Element) → plus a (negation a) ≡ zero
+  pub times-assoc : (a b c : Element) → times (times a b) c ≡ times a (times b c)
+  pub times-comm : (a b : Element) → times a b ≡ times b a
+  pub times-one : (a : Element) → times a one ≡ a
+  pub times-plus : (a b c : Element) → times a (plus b c) ≡ plus (times a b) (times a c)
   -- a linear order
-  pub below-irreflexive : (a : Member) → Below a a → ⊥
-  pub below-trans : (a b c : Member) → Below a b → Below b c → Below a c
-  pub below-compare : (a b : Member) → Below a b ⊎ (a ≡ b ⊎ Below b a)
+  pub less-irreflexive : (a : Element) → Less a a → ⊥
+  pub less-trans : (a b c : Element) → Less a b → Less b c → Less a c
+  pub less-compare : (a b : Element) → Less a b ⊎ (a ≡ b ⊎ Less b a)
   -- that goes with sums and products
-  pub below-plus : (a b c : Member) → Below a b → Below (plus a c) (plus b c)
-  pub below-times : (a b : Member) → Below nought a → Below nought b → Below nought (times a b)
-  pub below-unit : Below nought unit
+  pub less-plus : (a b c : Element) → Less a b → Less (plus a c) (plus b c)
+  pub less-times : (a b : Element) → Less zero a → Less zero b → Less zero (times a b)
+  pub zero-less-one : Less zero one
 
--- at most: below or equal
-abbrev pub AtMost : (S : OrderedRing) → S .Member → S .Member → Type 0
-AtMost S a b = S .Below a b ⊎ (a ≡ b)
+-- at most: less or equal
+abbrev pub AtMost : (S : OrderedRing) → S .Element → S .Element → Type 0
+AtMost S a b = S .Less a b ⊎ (a ≡ b)
 
--- a natural number as a member
-unfoldable pub whole : (S : OrderedRing) → ℕ → S .Member
-whole S zero = S .nought
-whole S (suc n) = S .plus (whole S n) (S .unit)
+-- a natural number as an element
+unfoldable pub whole : (S : OrderedRing) → ℕ → S .Element
+whole S nat.zero = S .zero
+whole S (nat.suc n) = S .plus (whole S n) (S .one)

@@ -1,1 +1,1 @@
-// The accuracy of the inverse transform (demand 3) and the ends around the cosines: definitions (specs/) and theorems (proofs/). No code.
+// The accuracy of the inverse transform (demand 3) and the ends around the cosines: definitions and statements (specs/), proofs (proofs/). No code.

@@ -4,35 +4,40 @@ use mathlib.Core.Bool.{Bool, true, false, cond}
 use mathlib.Core.Path.{_≡_, refl, sym, ap, _∙_, subst}
 use lib.Dec.{T, ltb, lit≤}
 use lib.IntN.{ℤ, pos, negsuc, _*ℤ_, zero-*ℤ}
-use lib.Signed.{quotZ}
 use mir.Syntax.{w32}
 use mir.Val.{SFits}
-use Rattle.coefficient.specs.Answer.{legal}
-use Rattle.coefficient.specs.Scaling.{quotientOver, movedToOdd, limitedCoefficient, scaled, doubledLevel, coefficientOf}
+use Rattle.coefficient.specs.Answer.{allInRange}
+use Rattle.coefficient.specs.Scaling.{quotientOver, movedToOdd, scaled, doubledLevel, coefficientOf}
+use Rattle.coefficient.specs.Theorems.{ZeroGivesZero, CoefficientsBetween}
 use Rattle.integers.proofs.Bound.{within-add, within-mul, within-literal, within-self, within-more}
-use Rattle.integers.proofs.Limit.{range-between, sign-within, limited-within, between-within}
+use Rattle.integers.proofs.Limit.{range-between, sign-within, limited-between, between-within}
 use Rattle.integers.proofs.Machine.{Held, number, parameter, _⊠_, over}
-use Rattle.integers.specs.Bound.{Within}
+use Rattle.integers.specs.Bound.{Within, Between}
 use Rattle.integers.specs.Limit.{inRange}
 
 -- a number of any size that the machine holds
 abbrev pub held : {z : ℤ} → SFits w32 z → Held z
 held {z} f = parameter f (within-self z)
 
--- a coefficient is in the transform's range, whatever the level, scale and weight
-pub scaled-within : (doubled scale weight : ℤ) → Within 2048 (scaled doubled scale weight)
+-- a scaled coefficient is in the range of the limit
+pub scaled-between : (doubled scale weight : ℤ) → Between (negsuc 2047) (pos 2047) (scaled doubled scale weight)
 unfolding scaled
-scaled-within doubled scale weight =
-    limited-within (negsuc 2047) (pos 2047) (movedToOdd (quotientOver 16 doubled scale weight)) (within-literal tt) (within-literal tt)
+scaled-between doubled scale weight = limited-between (negsuc 2047) (pos 2047) (movedToOdd (quotientOver 16 doubled scale weight)) (record { le = tt })
+
+pub coefficient-between : CoefficientsBetween
+unfolding coefficientOf
+coefficient-between intra level scale weight = scaled-between (doubledLevel intra level) scale weight
+
+-- and so within the bound that the code's widths ask for
+pub scaled-within : (doubled scale weight : ℤ) → Within 2048 (scaled doubled scale weight)
+scaled-within doubled scale weight = between-within (scaled-between doubled scale weight) (within-literal tt) (within-literal tt)
 
 pub coefficient-within : (intra : Bool) (level scale weight : ℤ) → Within 2048 (coefficientOf intra level scale weight)
-unfolding coefficientOf
-coefficient-within intra level scale weight = scaled-within (doubledLevel intra level) scale weight
+coefficient-within intra level scale weight = between-within (coefficient-between intra level scale weight) (within-literal tt) (within-literal tt)
 
--- a level of 0 gives 0
-pub coefficient-zero : (intra : Bool) (scale weight : ℤ) → coefficientOf intra (pos 0) scale weight ≡ pos 0
+pub coefficient-zero : ZeroGivesZero
 unfolding coefficientOf scaled
-coefficient-zero intra scale weight = ap (λ (z : ℤ). limitedCoefficient (movedToOdd (quotZ z (pos 16)))) (none intra)
+coefficient-zero intra scale weight = rw (none intra)
   where
     none : (b : Bool) → doubledLevel b (pos 0) *ℤ scale *ℤ weight ≡ pos 0
     none true = ap (λ (z : ℤ). z *ℤ weight) (zero-*ℤ scale) ∙ zero-*ℤ weight
@@ -52,9 +57,9 @@ pub record Ranges (level scale weight : ℤ) : Type 0 where
   pub scale-within : Within 31 scale
   pub weight-within : Within 255 weight
 
-pub legal-ranges : (level scale weight : ℤ) → legal level scale weight ≡ true → Ranges level scale weight
-unfolding legal
-legal-ranges level scale weight e =
+pub known-ranges : (level scale weight : ℤ) → allInRange level scale weight ≡ true → Ranges level scale weight
+unfolding allInRange
+known-ranges level scale weight e =
     go (inRange (negsuc 254) (pos 255) level) (inRange (pos 1) (pos 31) scale) (inRange (pos 1) (pos 255) weight) refl refl refl e
   where
     go : (a b c : Bool) → inRange (negsuc 254) (pos 255) level ≡ a → inRange (pos 1) (pos 31) scale ≡ b → inRange (pos 1) (pos 255) weight ≡ c → cond a (cond b c false) false ≡ true → Ranges level scale weight

@@ -8,13 +8,13 @@ use Rattle.refusals.specs.Refusal.{accepted, numberOf}
 use Rattle.refusals.specs.declared.Refusal.the-variants.{NumberOutOfRange}
 
 -- "A level of 0 is in range there, and a weight is 1..255": level -255..255, scale 1..31
-unfoldable pub legal : ℤ → ℤ → ℤ → Bool
-legal level scale weight =
+unfoldable pub allInRange : ℤ → ℤ → ℤ → Bool
+allInRange level scale weight =
     cond (inRange (negsuc 254) (pos 255) level) (cond (inRange (pos 1) (pos 31) scale) (inRange (pos 1) (pos 255) weight) false) false
 
 abbrev pub coefficientNumber : ℤ → ℤ → ℤ → ℕ
-coefficientNumber level scale weight = cond (legal level scale weight) accepted (numberOf NumberOutOfRange)
+coefficientNumber level scale weight = cond (allInRange level scale weight) accepted (numberOf NumberOutOfRange)
 
 -- the coefficient, or 0 when refused
 abbrev pub coefficientValue : Bool → ℤ → ℤ → ℤ → ℤ
-coefficientValue intra level scale weight = cond (legal level scale weight) (coefficientOf intra level scale weight) (pos 0)
+coefficientValue intra level scale weight = cond (allInRange level scale weight) (coefficientOf intra level scale weight) (pos 0)

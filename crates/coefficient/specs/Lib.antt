@@ -1,2 +1,3 @@
 pub mod Scaling
 pub mod Answer
+pub mod Theorems

@@ -1,9 +1,10 @@
-// Coefficients from levels: quotientOver, move to odd, limit.
+// Coefficients from levels: quotient, move to odd, limit.
 ghost use mathlib.Core.Path.{_≡_};
+ghost use Prim.Native.Nat.{_*_, _/_};
 ghost use Rattle.integers.specs.Bound.{Within};
 ghost use Rattle.integers.specs.Limit.{inRange, signOf};
 ghost use Rattle.coefficient.specs.Scaling.{quotientOver, movedToOdd, limitedCoefficient, scaled, doubledLevel, coefficientOf, intraDc};
-ghost use Rattle.coefficient.specs.Answer.{legal, coefficientNumber, coefficientValue};
+ghost use Rattle.coefficient.specs.Answer.{allInRange, coefficientNumber, coefficientValue};
 use refusals::Refusal;
 
 // -1, 0 or 1.
@@ -27,9 +28,9 @@ fn divide(doubled: i32, scale: i32, weight: i32) -> i32
     doubled * scale * weight / 16
 }
 
-// An even number moves one towards zero.
+// An even number moves one towards zero. The bound is that of the largest quotient.
 fn move_to_odd(z: i32) -> i32
-    requires { ⌜ Within 252469 z ⌝ }
+    requires { ⌜ Within (511 * 31 * 255 / 16) z ⌝ }
     ensures { λ r. ⌜ r ≡ movedToOdd z ⌝ }
 {
     if z % 2 == 0 { z - sign(z) } else { z }
@@ -87,7 +88,7 @@ pub fn intra_dc(past: i16, difference: i16) -> i16
 }
 
 // The coefficient entry's answer: 0 or a refusal's number, and the coefficient, 0 when refused.
-pub struct Answer {
+pub struct Scaled {
     pub number: u32,
     pub value: i16,
 }
@@ -105,8 +106,8 @@ fn in_range(low: i32, high: i32, z: i32) -> bool
     true
 }
 
-fn in_ranges(level: i32, scale: i32, weight: i32) -> bool
-    ensures { λ r. ⌜ r ≡ legal level scale weight ⌝ }
+fn all_in_range(level: i32, scale: i32, weight: i32) -> bool
+    ensures { λ r. ⌜ r ≡ allInRange level scale weight ⌝ }
 {
     let level_in_range = in_range(-255, 255, level);
     if level_in_range {
@@ -120,20 +121,20 @@ fn in_ranges(level: i32, scale: i32, weight: i32) -> bool
 }
 
 // The coefficient entry, intra AC or not intra: any three numbers.
-pub fn coefficient(intra: bool, level: i32, scale: i32, weight: i32) -> Answer
-    ensures { λ r. ⌜ r .number ≡ coefficientNumber level scale weight ⌝ }
-    ensures { λ r. ⌜ r .value ≡ coefficientValue intra level scale weight ⌝ }
+pub fn coefficient(intra: bool, level: i32, scale: i32, weight: i32) -> Scaled
+    ensures number { λ r. ⌜ r .number ≡ coefficientNumber level scale weight ⌝ }
+    ensures value { λ r. ⌜ r .value ≡ coefficientValue intra level scale weight ⌝ }
 {
-    let accepted = in_ranges(level, scale, weight);
+    let accepted = all_in_range(level, scale, weight);
     if accepted {
         let value = scale_level(intra, level, scale, weight);
-        return Answer {
+        return Scaled {
             number: refusals::ACCEPTED,
             value: value,
         };
     }
     let number = refusals::number(Refusal::NumberOutOfRange);
-    Answer {
+    Scaled {
         number: number,
         value: 0,
     }

@@ -1,1 +1,1 @@
-// Document 01's figures, proved of the definitions (proofs/). No code.
+// Document 01's figures and drifts, about the definitions: statements (specs/) and proofs (proofs/). No code.

@@ -1,4 +1,3 @@
-pub mod Chain
 pub mod Field
 pub mod Record
 pub mod Turn

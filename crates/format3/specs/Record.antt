@@ -6,9 +6,9 @@ use lib.Dec.{leb}
 use lib.ListN.{length, getD, take, drop}
 use Rattle.refusals.specs.declared.Refusal.the-variants.{RecordCut, RecordKind}
 use Rattle.refusals.specs.Refusal.{accepted, numberOf}
+use Rattle.parsed.specs.Guard.{need_else_then_}
 use Rattle.format3.specs.declared.record.Record.{Record}
 use Rattle.format3.specs.declared.record.Record.the-variants.{Found, Refused}
-use Rattle.format3.specs.Chain.{only, _$_}
 use Rattle.format3.specs.Field.{bigEndian}
 
 -- the kinds of records
@@ -24,9 +24,12 @@ slice = 3
 abbrev pub macroblock : ℕ
 macroblock = 4
 
--- the bound on kinds
+-- "kind not 1..4"
+abbrev pub lastKind : ℕ
+lastKind = macroblock
+
 abbrev pub legalKind : ℕ → Bool
-legalKind kind = leb header kind && leb kind macroblock
+legalKind kind = leb header kind && leb kind lastKind
 
 -- "a 2-byte length (of what comes after it), a kind byte": the length and the kind that stand at an offset
 unfoldable pub lengthAt : List ℕ → ℕ → ℕ
@@ -38,10 +41,10 @@ kindAt file offset = getD file (offset + 2) 0
 -- "fewer than 3 bytes left, length 0, or past the end"; then "kind not 1..4"
 unfoldable pub recordOf : List ℕ → ℕ → Record
 recordOf file offset =
-    only (leb (offset + 3) (length file)) (Refused RecordCut) $
-    only (leb 1 (lengthAt file offset)) (Refused RecordCut) $
-    only (leb (offset + 2 + lengthAt file offset) (length file)) (Refused RecordCut) $
-    only (legalKind (kindAt file offset)) (Refused RecordKind) $
+    need leb (offset + 3) (length file) else Refused RecordCut then
+    need leb 1 (lengthAt file offset) else Refused RecordCut then
+    need leb (offset + 2 + lengthAt file offset) (length file) else Refused RecordCut then
+    need legalKind (kindAt file offset) else Refused RecordKind then
     Found (kindAt file offset) (offset + 3) (lengthAt file offset - 1)
 
 -- the answer's number

@@ -1,7 +1,7 @@
 -- Which kind of record may come next (document 01, refusal 5).
 use mathlib.Core.Bool.{Bool, false, cond, _||_}
 use Prim.Native.Nat.{ℕ}
-use lib.Dec.{eqb, leb}
+use lib.Dec.{eqb}
 use Rattle.format3.specs.declared.turn.Turn.{Turn}
 use Rattle.format3.specs.declared.turn.Turn.the-variants.{Start, Header, Slice, Macroblock, Complete}
 use Rattle.format3.specs.Record.{header, matrix, slice, macroblock}
@@ -20,4 +20,4 @@ inTurn Complete kind = false
 
 -- the turn after a record of this kind, and whether every macroblock is made
 abbrev pub turnAfter : ℕ → Bool → Turn
-turnAfter kind complete = cond (leb kind matrix) Header (cond (leb kind slice) Slice (cond complete Complete Macroblock))
+turnAfter kind complete = cond (eqb kind slice) Slice (cond (eqb kind macroblock) (cond complete Complete Macroblock) Header)

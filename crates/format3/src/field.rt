@@ -2,7 +2,9 @@
 // or `Short` where the field is not wholly inside.
 ghost use mathlib.Core.Path.{_≡_};
 ghost use lib.ListN.{drop};
-ghost use Rattle.format3.specs.Field.{byteOf, wordOf, signedByteOf, signedWordOf, twosComplement};
+ghost use Rattle.parsed.specs.Parsed.{Finds};
+ghost use Rattle.format3.specs.Field.{twosComplement, byte, word, signedByte, signedWord, byteFound, wordFound, signedFound, testedRefusal};
+use refusals::Refusal;
 
 // Where the next field starts, from the start of the part that was handed in.
 pub struct Cursor {
@@ -24,9 +26,25 @@ pub enum SignedField {
     Short,
 }
 
+// A byte that was tested too.
+pub enum TestedByte {
+    Legal(u8, Cursor),
+    Refused(Refusal),
+}
+
+// The refusal of a byte that is not legal.
+pub fn tested_refusal(answer: TestedByte) -> Refusal
+    ensures { λ r. ⌜ r ≡ testedRefusal answer ⌝ }
+{
+    match answer {
+        TestedByte::Legal(_, _) => Refusal::BodyLength,
+        TestedByte::Refused(refusal) => refusal,
+    }
+}
+
 // An unsigned byte.
 pub fn read_u8(rest: &[u8]) -> ByteField
-    ensures { λ r. ⌜ r ≡ byteOf (now (rest .entry)) ⌝ }
+    ensures { λ r. ⌜ Finds byte (now (rest .entry)) (byteFound r) ⌝ }
 {
     if rest.len() < 1 {
         return ByteField::Short;
@@ -36,7 +54,7 @@ pub fn read_u8(rest: &[u8]) -> ByteField
 
 // An unsigned number of two bytes, big-endian.
 pub fn read_u16(rest: &[u8]) -> WordField
-    ensures { λ r. ⌜ r ≡ wordOf (now (rest .entry)) ⌝ }
+    ensures { λ r. ⌜ Finds word (now (rest .entry)) (wordFound r) ⌝ }
 {
     if rest.len() < 2 {
         return WordField::Short;
@@ -63,7 +81,7 @@ fn signed_word(n: u16) -> i16
 
 // A signed byte.
 pub fn read_i8(rest: &[u8]) -> SignedField
-    ensures { λ r. ⌜ r ≡ signedByteOf (now (rest .entry)) ⌝ }
+    ensures { λ r. ⌜ Finds signedByte (now (rest .entry)) (signedFound r) ⌝ }
 {
     let ByteField::Value(value, cursor) = read_u8(rest) else {
         return SignedField::Short;
@@ -73,7 +91,7 @@ pub fn read_i8(rest: &[u8]) -> SignedField
 
 // A signed number of two bytes, big-endian.
 pub fn read_i16(rest: &[u8]) -> SignedField
-    ensures { λ r. ⌜ r ≡ signedWordOf (now (rest .entry)) ⌝ }
+    ensures { λ r. ⌜ Finds signedWord (now (rest .entry)) (signedFound r) ⌝ }
 {
     let WordField::Value(value, cursor) = read_u16(rest) else {
         return SignedField::Short;

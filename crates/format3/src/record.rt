@@ -45,7 +45,7 @@ pub fn record_at(file: &[u8], offset: usize) -> Record
         return Record::Refused(Refusal::RecordCut);
     }
     let kind = file[offset + 2];
-    if kind < 1 {
+    if kind < HEADER {
         return Record::Refused(Refusal::RecordKind);
     }
     if LAST_KIND < kind {
@@ -72,24 +72,57 @@ pub fn record_answer(file: &[u8], offset: usize) -> u32
     }
 }
 
-// A record shown by itself: its body as the bytes of the file themselves, beside its kind; an empty part and kind 0 where it is refused.
-pub fn show_record<'a, 'b>(file: &'a [u8], offset: usize, kind: &'b mut usize) -> &'a [u8]
-    ensures { λ r. ⌜ now (kind .exit) ≡ kindOf (recordOf (now (file .entry)) offset) ⌝ }
+// The kind of the record at an offset; 0 where it is refused.
+fn shown_kind(file: &[u8], offset: usize) -> u8
+    ensures { λ r. ⌜ r ≡ kindOf (recordOf (now (file .entry)) offset) ⌝ }
+{
+    match record_at(file, offset) {
+        Record::Found {
+            kind,
+            start: _,
+            length: _,
+        } => kind,
+        Record::Refused(_) => 0,
+    }
+}
+
+// The body of the record at an offset, as the bytes of the file themselves; an empty part where it is refused.
+fn shown_body<'a>(file: &'a [u8], offset: usize) -> &'a [u8]
     ensures { λ r. ⌜ now r ≡ bodyOf (recordOf (now (file .entry)) offset) (now (file .entry)) ⌝ }
     ensures { λ r. ⌜ r .ptr ≡ (file .entry .ptr .0, startOf (recordOf (now (file .entry)) offset) + file .entry .ptr .1) ⌝ }
 {
     match record_at(file, offset) {
         Record::Found {
-            kind: found,
+            kind: _,
             start,
             length,
-        } => {
-            *kind = found as usize;
-            &file[start..start + length]
-        }
-        Record::Refused(_) => {
-            *kind = 0;
-            &file[0..0]
-        }
+        } => &file[start..start + length],
+        Record::Refused(_) => &file[0..0],
     }
+}
+
+// A record shown by itself: its kind, and its body as the bytes of the file themselves; kind 0 and an empty part where it is refused.
+pub struct Shown<'a> {
+    pub kind: u8,
+    pub body: &'a [u8],
+}
+
+pub fn show<'a>(file: &'a [u8], offset: usize) -> Shown<'a>
+    ensures { λ r. ⌜ r .kind ≡ kindOf (recordOf (now (file .entry)) offset) ⌝ }
+    ensures { λ r. ⌜ now (r .body) ≡ bodyOf (recordOf (now (file .entry)) offset) (now (file .entry)) ⌝ }
+    ensures { λ r. ⌜ r .body .ptr ≡ (file .entry .ptr .0, startOf (recordOf (now (file .entry)) offset) + file .entry .ptr .1) ⌝ }
+{
+    let kind = shown_kind(file, offset);
+    let body = shown_body(file, offset);
+    Shown { kind, body }
+}
+
+// The same with plain parameters: the body is returned, and its kind goes through a second reference.
+pub fn show_record<'a, 'b>(file: &'a [u8], offset: usize, kind: &'b mut u8) -> &'a [u8]
+    ensures { λ r. ⌜ now (kind .exit) ≡ kindOf (recordOf (now (file .entry)) offset) ⌝ }
+    ensures { λ r. ⌜ now r ≡ bodyOf (recordOf (now (file .entry)) offset) (now (file .entry)) ⌝ }
+    ensures { λ r. ⌜ r .ptr ≡ (file .entry .ptr .0, startOf (recordOf (now (file .entry)) offset) + file .entry .ptr .1) ⌝ }
+{
+    *kind = shown_kind(file, offset);
+    shown_body(file, offset)
 }

@@ -47,11 +47,11 @@ pub fn in_turn(turn: Turn, kind: u8) -> bool
 pub fn turn_after(kind: u8, complete: bool) -> Turn
     ensures { λ r. ⌜ r ≡ turnAfter kind complete ⌝ }
 {
-    if kind <= MATRIX {
-        return Turn::Header;
-    }
-    if kind <= SLICE {
+    if kind == SLICE {
         return Turn::Slice;
+    }
+    if kind != MACROBLOCK {
+        return Turn::Header;
     }
     if complete {
         return Turn::Complete;

@@ -105,7 +105,7 @@ pub extern "C" fn format3_vector(
 pub extern "C" fn format3_show_record(
     file: &[u8],
     offset: usize,
-    kind: &mut usize,
+    kind: &mut u8,
     start: &mut usize,
     length: &mut usize,
 ) -> u32
@@ -120,7 +120,7 @@ pub extern "C" fn format3_show_record(
             start: from,
             length: count,
         } => {
-            *kind = found as usize;
+            *kind = found;
             *start = from;
             *length = count;
             refusals::ACCEPTED

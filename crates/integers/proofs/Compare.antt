@@ -2,13 +2,14 @@
 use mathlib.Core.Path.{_≡_, refl, sym, ap, _∙_, subst}
 use mathlib.Core.Bool.{Bool, true, false, not}
 use Prim.Native.Nat.{ℕ, _+_, _≤_, _<_}
-use lib.Dec.{T}
+use native.Mathlib.Omega.{arith}
+use lib.Dec.{T, eqb}
 use lib.IntN.{ℤ, pos, negsuc, natAbs}
 use lib.Signed.{ltZ, leZ, nonNeg, ltZ-yes, ltZ-no, leZ-yes}
 use mir.Syntax.{Width}
 use mir.Val.{SFits, toZ, ofZ}
 use mir.ValLaws.{toZ-ofZ}
-use borrow.Author.Tests.{ltb-false, eq-eqb, ne-eqb}
+use borrow.Author.Tests.{ltb-false, eqb-true, eqb-false, eq-eqb, ne-eqb}
 use Rattle.integers.specs.Limit.{eqZ}
 use Rattle.integers.proofs.Difference.{up, dn, of-le, of-lt}
 
@@ -41,6 +42,19 @@ ne-eqZ (pos a) (negsuc b) h = refl
 ne-eqZ (negsuc a) (pos b) h = refl
 ne-eqZ (negsuc a) (negsuc b) h = ne-eqb a b (λ e. h (ap negsuc e))
 
+pub eqZ-true : (x y : ℤ) → eqZ x y ≡ true → x ≡ y
+eqZ-true (pos a) (pos b) e = ap pos (eqb-true a b e)
+eqZ-true (pos a) (negsuc b) e = cc
+eqZ-true (negsuc a) (pos b) e = cc
+eqZ-true (negsuc a) (negsuc b) e = ap negsuc (eqb-true a b e)
+
 -- `==` compares the bits
 pub bits-eq : (w : Width) {x y : ℤ} → SFits w x → SFits w y → ofZ w x ≡ ofZ w y → x ≡ y
 bits-eq w {x} {y} f g e = sym (toZ-ofZ w x f) ∙ ap (toZ w) e ∙ toZ-ofZ w y g
+
+pub bits-zero : (w : Width) (z : ℤ) → SFits w z → eqb (ofZ w z) 0 ≡ eqZ z (pos 0)
+bits-zero w z f = go (eqb (ofZ w z) 0) refl
+  where
+    go : (b : Bool) → eqb (ofZ w z) 0 ≡ b → b ≡ eqZ z (pos 0)
+    go true e = sym (eq-eqZ z (pos 0) (bits-eq w f (record { sfits = omega arith }) (eqb-true (ofZ w z) 0 e)))
+    go false e = sym (ne-eqZ z (pos 0) (λ p. eqb-false (ofZ w z) 0 e (ap (ofZ w) p)))

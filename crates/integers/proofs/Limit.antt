@@ -1,21 +1,18 @@
 -- Laws of limiting, of ranges and of signs. Assumes nothing.
-use Prim.Native.Nat.{ℕ}
+use Prim.Native.Nat.{ℕ, zero, suc}
 use mathlib.Core.Bool.{Bool, true, false, cond}
+use mathlib.Core.List.{List, [], _∷_}
 use mathlib.Core.Path.{_≡_, refl, sym, subst}
 use native.Mathlib.Omega.{arith}
 use lib.Dec.{T}
 use lib.IntN.{ℤ, pos}
-use lib.Signed.{ltZ, _≤ℤ_}
+use lib.ListN.{set}
+use lib.Signed.{ltZ, _≤ℤ_, ≤ℤ-refl}
 use Rattle.integers.proofs.Bound.{abs-parts, abs-le, within-literal, within-cond}
 use Rattle.integers.proofs.Compare.{tests}
 use Rattle.integers.proofs.Difference.{le-of, of-le}
-use Rattle.integers.specs.Bound.{Within}
+use Rattle.integers.specs.Bound.{Within, AllWithin, Between, AllBetween, at}
 use Rattle.integers.specs.Limit.{limited, inRange, signOf}
-
--- a number in a range is at least its lower end and at most its upper end
-pub record Between (low high z : ℤ) : Type 0 where
-  pub lower : low ≤ℤ z
-  pub upper : z ≤ℤ high
 
 pub range-between : (low high z : ℤ) → inRange low high z ≡ true → Between low high z
 range-between low high z e = go (ltZ z low) refl (ltZ high z) refl e
@@ -36,19 +33,31 @@ between-range {low} {high} {z} b = go (ltZ z low) refl (ltZ high z) refl
 pub sign-within : (z : ℤ) → Within 1 (signOf z)
 sign-within z = within-cond (ltZ z (pos 0)) (within-literal tt) (within-cond (ltZ (pos 0) z) (within-literal tt) (within-literal tt))
 
--- a limited number is as small as the larger of the limits
-pub limited-within : {b : ℕ} (low high z : ℤ) → Within b low → Within b high → Within b (limited low high z)
-limited-within {b} low high z l h = go (ltZ z low) (ltZ high z) refl refl
+-- a limited number is in the limits' range
+pub limited-between : (low high z : ℤ) → low ≤ℤ high → Between low high (limited low high z)
+limited-between low high z o = go (ltZ z low) (ltZ high z) refl refl
   where
-    go : (s t : Bool) → ltZ z low ≡ s → ltZ high z ≡ t → Within b (cond s low (cond t high z))
-    go true t p q = l
-    go false true p q = h
-    go false false p q = record {
-      within = abs-le z (omega (arith, tests, l .within, h .within, abs-parts low, abs-parts high)) (omega (arith, tests, l .within, h .within, abs-parts low, abs-parts high));
-    }
+    go : (s t : Bool) → ltZ z low ≡ s → ltZ high z ≡ t → Between low high (cond s low (cond t high z))
+    go true t p q = record { lower = ≤ℤ-refl low; upper = o }
+    go false true p q = record { lower = o; upper = ≤ℤ-refl high }
+    go false false p q = record { lower = le-of _ _ (omega (arith, tests)); upper = le-of _ _ (omega (arith, tests)) }
 
--- and so is one in a range
+-- a number in a range is as small as the larger of the ends
 pub between-within : {b : ℕ} {low high z : ℤ} → Between low high z → Within b low → Within b high → Within b z
 between-within {b} {low} {high} {z} r l h = record {
   within = abs-le z (omega (arith, of-le (r .lower), of-le (r .upper), l .within, h .within, abs-parts low, abs-parts high)) (omega (arith, of-le (r .lower), of-le (r .upper), l .within, h .within, abs-parts low, abs-parts high));
 }
+
+pub all-between-within : {b : ℕ} {low high : ℤ} {l : List ℤ} → AllBetween low high l → Within b low → Within b high → AllWithin b l
+all-between-within r l h = record { all = λ k. between-within (r .all k) l h }
+
+-- a list in a range with one element put into it
+pub set-between : {low high : ℤ} {l : List ℤ} {z : ℤ} (i : ℕ) → AllBetween low high l → Between low high z → AllBetween low high (set l i z)
+set-between {low} {high} {l} {z} i r b = record { all = go l i (r .all) }
+  where
+    go : (l : List ℤ) (i : ℕ) → ((k : ℕ) → Between low high (at l k)) → (k : ℕ) → Between low high (at (set l i z) k)
+    go [] i r k = r k
+    go (x ∷ l) zero r zero = b
+    go (x ∷ l) zero r (suc k) = r (suc k)
+    go (x ∷ l) (suc i) r zero = r zero
+    go (x ∷ l) (suc i) r (suc k) = go l i (λ j. r (suc j)) k

@@ -1,9 +1,8 @@
--- Laws of the ring and the order of ℤ, each by one line: the variables become differences, and `omega` proves what is left of naturals.
+-- Laws of the ring ℤ, each by one line: the variables become differences, and `omega` proves what is left of naturals.
 -- Assumes nothing.
 use mathlib.Core.Path.{_≡_}
 use native.Mathlib.Omega.{arith}
 use lib.IntN.{ℤ, negℤ, _+ℤ_, _*ℤ_, +ℤ-assoc, +ℤ-comm, *ℤ-comm}
-use lib.Signed.{_≤ℤ_}
 use Rattle.integers.proofs.Difference.{subs, as-sub}
 
 pub mul-assoc : (x y z : ℤ) → (x *ℤ y) *ℤ z ≡ x *ℤ (y *ℤ z)
@@ -29,6 +28,3 @@ mul-neg x y = rw (as-sub x, as-sub y) (simp subs (omega arith))
 
 -- multiplied out, and sorted
 pub ruleset ring = (mul-add, add-mul, mul-assoc, mul-left-comm, *ℤ-comm, +ℤ-assoc, add-left-comm, +ℤ-comm, neg-mul, mul-neg)
-
-pub add-mono : (x y z : ℤ) → x ≤ℤ y → (x +ℤ z) ≤ℤ (y +ℤ z)
-add-mono x y z = rw (as-sub x, as-sub y, as-sub z) (simp subs (omega arith))

@@ -1,5 +1,5 @@
--- Ring identities of any size by computation. `solve vars l r refl` proves what the expressions l and r say, where both have one normal form:
--- a list of terms, value-of-term a coefficient and a sorted list of variables. Assumes nothing.
+-- Ring identities of any size by computation. `solve-by vars l r refl` proves what the expressions l and r say, where both have one normal form:
+-- a list of terms, each a coefficient and a sorted list of variables. Assumes nothing.
 use mathlib.Core.Path.{_≡_, refl, sym, ap, _∙_}
 use mathlib.Core.Bool.{Bool, true, false}
 use mathlib.Core.List.{List, [], _∷_}

@@ -4,12 +4,12 @@ use Prim.Native.Nat.{ℕ, zero, suc, _+_, _*_, _<_, zero-le}
 use native.Mathlib.Nat.{le-suc, le-refl, le-trans}
 use native.Mathlib.Omega.{arith}
 use native.Mathlib.Numerals.{add-one}
-use lib.IntN.{ℤ, pos, _+ℤ_, _-ℤ_, _*ℤ_, zero-*ℤ, *ℤ-zero}
+use lib.IntN.{ℤ, pos, _+ℤ_, _*ℤ_, zero-*ℤ, *ℤ-zero}
 use Rattle.integers.specs.Bound.{Within}
 use Rattle.integers.specs.Sum.{sumTo}
 use Rattle.integers.proofs.Difference.{subs, as-sub}
 use Rattle.integers.proofs.Ring.{mul-add, add-mul, ring}
-use Rattle.integers.proofs.Bound.{within-eq, within-add, within-more}
+use Rattle.integers.proofs.Bound.{within-add, within-more}
 
 pub sum-none : (f : ℕ → ℤ) → sumTo f 0 ≡ pos 0
 unfolding sumTo
@@ -43,7 +43,7 @@ sum-add f g (suc n) = ap (λ (s : ℤ). s +ℤ (f n +ℤ g n)) (sum-add f g n) �
     swap : (a b c d : ℤ) → (a +ℤ b) +ℤ (c +ℤ d) ≡ (a +ℤ c) +ℤ (b +ℤ d)
     swap a b c d = simp ring
 
-sum-zero : (n : ℕ) → sumTo (λ k. pos 0) n ≡ pos 0
+pub sum-zero : (n : ℕ) → sumTo (λ k. pos 0) n ≡ pos 0
 unfolding sumTo
 sum-zero zero = refl
 sum-zero (suc n) = ap (λ (s : ℤ). s +ℤ pos 0) (sum-zero n)
@@ -65,16 +65,3 @@ separable h w c n m = sum-ext _ _ n (λ v p. sum-mul (w v) (λ u. h u *ℤ c v u
   where
     order : (a b c : ℤ) → a *ℤ (b *ℤ c) ≡ (b *ℤ a) *ℤ c
     order a b c = rw (as-sub a, as-sub b, as-sub c) (simp subs (omega arith))
-
--- two sums, each with a factor, are near each other where the summands are
-pub near-sum : (a b : ℤ) (f g : ℕ → ℤ) (e n : ℕ) → ((k : ℕ) → k < n → Within e (a *ℤ f k -ℤ b *ℤ g k)) → Within (n * e) (a *ℤ sumTo f n -ℤ b *ℤ sumTo g n)
-unfolding sumTo
-near-sum a b f g e zero h = within-eq (none a b) (record { within = zero-le })
-  where
-    none : (a b : ℤ) → a *ℤ pos 0 -ℤ b *ℤ pos 0 ≡ pos 0
-    none a b = rw (as-sub a, as-sub b) (simp subs (omega arith))
-near-sum a b f g e (suc n) h =
-    within-more (within-eq (split a b (sumTo f n) (f n) (sumTo g n) (g n)) (within-add (near-sum a b f g e n (λ k p. h k (le-trans p (le-suc n)))) (h n (le-refl (suc n))))) (omega arith)
-  where
-    split : (a b s x t y : ℤ) → a *ℤ (s +ℤ x) -ℤ b *ℤ (t +ℤ y) ≡ (a *ℤ s -ℤ b *ℤ t) +ℤ (a *ℤ x -ℤ b *ℤ y)
-    split a b s x t y = rw (as-sub a, as-sub b, as-sub s, as-sub x, as-sub t, as-sub y) (simp subs (omega arith))

@@ -4,18 +4,19 @@ use Prim.Native.Nat.{ℕ, _≤_}
 use lib.ListN.{length}
 use Rattle.format3.specs.Record.{header}
 use Rattle.picture_header.specs.Opening.{version}
-use Rattle.record_layout.specs.Records.{MacroblockFields, recordBytes, sliceRecord, macroblockBody, macroblockRecord}
-use Rattle.layout_reading.specs.Matching.{Matching}
+use Rattle.macroblock_symbols.specs.Macroblock.{Macroblock}
+use Rattle.record_layout.specs.Records.{recordBytes, sliceRecord, macroblockBody, macroblockRecord}
+use Rattle.layout_reading.specs.Fitting.{Matching}
 
 -- a macroblock with any values, but that its blocks match and that two bytes tell its record's length
-pub record WholeMacroblock (fields : MacroblockFields) : Type 0 where
-  pub matching : Matching fields
-  pub short : length (macroblockBody fields) ≤ 65534
+pub record WholeMacroblock (m : Macroblock) : Type 0 where
+  pub matching : Matching m
+  pub short : length (macroblockBody m) ≤ 65534
 
 -- the record of a slice, with any values, or of such a macroblock
 pub data WholeRecord : List ℕ → Type 0 where
   of-slice : (scale start : ℕ) → WholeRecord (sliceRecord scale start)
-  of-macroblock : {fields : MacroblockFields} → WholeMacroblock fields → WholeRecord (macroblockRecord fields)
+  of-macroblock : {m : Macroblock} → WholeMacroblock m → WholeRecord (macroblockRecord m)
 
 -- such records, one behind the other
 pub data WholeRecords : List ℕ → Type 0 where
@@ -23,9 +24,9 @@ pub data WholeRecords : List ℕ → Type 0 where
   more : {first rest : List ℕ} → WholeRecord first → WholeRecords rest → WholeRecords (first ++ rest)
 
 -- the same of the macroblocks of a slice
-pub data WholeMacroblocks : List MacroblockFields → Type 0 where
+pub data WholeMacroblocks : List Macroblock → Type 0 where
   none : WholeMacroblocks []
-  more : {fields : MacroblockFields} {rest : List MacroblockFields} → WholeMacroblock fields → WholeMacroblocks rest → WholeMacroblocks (fields ∷ rest)
+  more : {m : Macroblock} {rest : List Macroblock} → WholeMacroblock m → WholeMacroblocks rest → WholeMacroblocks (m ∷ rest)
 
 -- the file of these records, behind a header with these bytes
 abbrev pub fileOf : List ℕ → List ℕ → List ℕ

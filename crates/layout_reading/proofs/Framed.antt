@@ -8,7 +8,7 @@ use Rattle.refusals.specs.Refusal.{numberOf}
 use Rattle.refusals.specs.declared.Refusal.the-variants.{RecordCut, RecordKind, BodyLength}
 use Rattle.layout_reading.specs.Framed.{Framed}
 
-abbrev framing : ℕ → Bool
+abbrev pub framing : ℕ → Bool
 framing number = eqb number (numberOf RecordCut) || eqb number (numberOf RecordKind) || eqb number (numberOf BodyLength)
 
 never : true ≡ false → ⊥

@@ -1,8 +1,7 @@
 pub mod Framed
-pub mod Fields
+pub mod ReadBack
 pub mod Record
 pub mod Slice
 pub mod Blocks
-pub mod Head
-pub mod Vectors
 pub mod Macroblock
+pub mod Examples

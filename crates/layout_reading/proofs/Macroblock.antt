@@ -1,163 +1,135 @@
--- A macroblock that is laid out is read to the end of its body, or refused for something other than its length. Assumes nothing.
+-- A macroblock's record that is laid out is read back. Assumes nothing.
 use mathlib.Core.Bool.{Bool, true, false, cond}
-use mathlib.Core.List.{List, _++_}
-use mathlib.Core.Path.{_≡_, refl, sym, subst}
-use Prim.Native.Nat.{ℕ, zero, suc, _+_, _≤_}
+use mathlib.Core.List.{List, [], _∷_, _++_, append-assoc, append-nil}
+use mathlib.Core.Path.{_≡_, refl, sym, ap}
+use Prim.Native.Nat.{ℕ, suc, _≤_}
 use native.Mathlib.Omega.{arith}
-use borrow.Author.Tests.{le-leb}
-use lib.Dec.{leb}
-use lib.ListN.{length, drop}
-use lib.Seq.{drop-append-seam}
-use Rattle.refusals.specs.Refusal.{numberOf}
-use Rattle.refusals.specs.declared.Refusal.{Refusal}
+use lib.IntN.{ℤ}
+use lib.ListN.{length}
+use mir.Syntax.{w8}
+use mir.Val.{SFits}
 use Rattle.refusals.specs.declared.Refusal.the-variants as Refusal
-use Rattle.format3.specs.Chain.{only}
-use Rattle.format3.specs.Field.{byteOf}
-use Rattle.format3.specs.declared.field.Cursor.{Cursor}
-use Rattle.format3.proofs.Laws.Chain.{only-all}
-use Rattle.symbols.specs.MacroblockHead.{legalType}
+use Rattle.parsed.specs.Parsed.{Parser, give}
+use Rattle.format3.specs.Field.{byte}
+use Rattle.symbols.specs.declared.macroblock_head.HeadContext.{HeadContext}
 use Rattle.symbols.specs.declared.macroblock_head.MacroblockHead.{MacroblockHead}
-use Rattle.symbols.specs.declared.macroblock_head.HeadAnswer.{HeadAnswer}
-use Rattle.pairs.specs.Reading.{Reading}
-use Rattle.blocks.specs.Blocks.{isCoded}
-use Rattle.blocks.specs.declared.DcPasts.{DcPasts}
-use Rattle.blocks.specs.declared.BlockAnswer.{BlockAnswer}
+use Rattle.symbols.specs.declared.vector_codes.VectorCode.{VectorCode}
+use Rattle.symbols.specs.declared.vector_codes.VectorCodes.{VectorCodes}
+use Rattle.symbols.specs.MacroblockType.{givesScale, givesForward, givesBackward, givesPattern, isIntra, codedPattern, legalType}
+use Rattle.symbols.specs.Slice.{scaleOf}
+use Rattle.symbols.specs.MacroblockHead.{legalIncrement, headOf}
+use Rattle.symbols.specs.VectorCodes.{codeOf, codesOf}
+use Rattle.blocks.specs.declared.dc.DcPasts.{DcPasts}
+use Rattle.blocks.specs.Blocks.{Block}
+use Rattle.macroblock_symbols.specs.declared.vectors.Vectors.{Vectors}
 use Rattle.macroblock_symbols.specs.declared.MacroblockContext.{MacroblockContext}
 use Rattle.macroblock_symbols.specs.declared.MacroblockSymbols.{MacroblockSymbols}
-use Rattle.macroblock_symbols.specs.declared.PatternAnswer.{PatternAnswer}
-use Rattle.macroblock_symbols.specs.declared.PatternAnswer.the-variants as Pattern
-use Rattle.macroblock_symbols.specs.declared.ResidueAnswer.{ResidueAnswer}
-use Rattle.macroblock_symbols.specs.declared.ResidueAnswer.the-variants as Residue
-use Rattle.macroblock_symbols.specs.declared.SymbolsAnswer.{SymbolsAnswer}
-use Rattle.macroblock_symbols.specs.declared.SymbolsAnswer.the-variants as Symbols
-use Rattle.macroblock_symbols.specs.declared.vectors.Vectors.{Vectors}
-use Rattle.macroblock_symbols.specs.declared.vectors.VectorsAnswer.{VectorsAnswer}
-use Rattle.macroblock_symbols.specs.Vectors.{gives}
-use Rattle.macroblock_symbols.specs.MacroblockSymbols.{legalPattern, patternOf, startingPasts, pastsAfter, codedBlocksOf, patternThen, afterBlocks, blocksCoding, residueOf, vectorsThen, afterResidue, symbolsWith, afterHeadOf, headThen, macroblockOf, symbolsOf}
-use Rattle.record_layout.specs.Records.{BlockFields, MacroblockFields, headBytes, vectorsBytes, patternBytes, blocksBytes, residueBytes, macroblockBody}
+use Rattle.macroblock_symbols.specs.Vectors.{noCodes, vectorsOf}
+use Rattle.macroblock_symbols.specs.Macroblock.{Macroblock, legalPattern, patternOf, codedPatternOf, symbolsOf, wholeBlocksOf, macroblockOf}
+use Rattle.byte_layout.specs.Bytes.{wordBytes}
+use Rattle.record_layout.specs.Records.{headBytes, codeBytes, codesBytes, vectorsBytes, patternBytes, blocksBytes, macroblockBody}
 use Rattle.record_layout.proofs.Laws.Lengths.{FewPairs, macroblock-short}
-use Rattle.layout_reading.specs.Framed.{Framed}
-use Rattle.layout_reading.specs.Matching.{codedPattern, codedFrom, Matching}
-use Rattle.layout_reading.proofs.Framed.{framed}
-use Rattle.layout_reading.proofs.Blocks.{BlockRead, blocks-read}
-use Rattle.layout_reading.proofs.Blocks as Blocks
-use Rattle.layout_reading.proofs.Head.{HeadRead, head-read, pattern-not-intra}
-use Rattle.layout_reading.proofs.Head as Head
-use Rattle.layout_reading.proofs.Vectors.{VectorsRead, vectors-read}
-use Rattle.layout_reading.proofs.Vectors as Codes
+use Rattle.layout_reading.specs.Fitting.{CodedBy, none, more, Matching, FittingCodes, FittingSymbols, FittingBlocks}
+use Rattle.layout_reading.specs.ReadBack.{ReadBack, back, MacroblockReadBack}
+use Rattle.layout_reading.proofs.ReadBack.{back-then, back-need, back-given, back-more, word-back, signed-byte-back}
+use Rattle.layout_reading.proofs.Slice.{scale-back}
+use Rattle.layout_reading.proofs.Blocks.{blocks-back}
 
--- ---- the pattern, of so many bytes
-data PatternRead (pattern size : ℕ) : PatternAnswer → Type 0 where
-  legal : {cursor : Cursor} → cursor .at ≡ size → PatternRead pattern size (Pattern.Legal pattern cursor)
-  refused : {refusal : Refusal} → Framed (numberOf refusal) → PatternRead pattern size (Pattern.Refused refusal)
+-- ---- the head
+record HeadBack (m : MacroblockSymbols) (head : MacroblockHead) : Type 0 where
+  same-flags : head .flags ≡ m .flags
+  same-increment : FittingSymbols m → head .increment ≡ m .increment
+  same-scale : FittingSymbols m → head .scale ≡ m .scale
 
-module _ (flags pattern : ℕ) (rest : List ℕ) where
-  abbrev GivenRead : Type 0
-  GivenRead = PatternRead (codedPattern flags pattern) (length (patternBytes flags pattern)) (patternOf flags (patternBytes flags pattern ++ rest))
+head-back : (c : HeadContext) (m : MacroblockSymbols) (behind : List ℕ) → ReadBack (HeadBack m) behind (headOf c (headBytes (m .flags) (m .increment) (m .scale) ++ behind))
+unfolding headOf headBytes wordBytes byte
+head-back c m behind =
+    back-need (legalType (c .coding) (m .flags)) Refusal.MacroblockType _ _ refl λ legal.
+    back-then _ (word-back (m .increment) _) λ increment found.
+    back-need (legalIncrement c increment) Refusal.AddressIncrement _ _ refl λ near.
+    back-then _ (back-given (givesScale (m .flags)) 0 (m .scale) scaleOf (m .scale ∷ []) behind (back-more (scale-back (m .scale) behind) λ n same fits. same)) λ scale given.
+    back (record { same-flags = refl; same-increment = λ fits. found (fits .increment); same-scale = λ fits. given (fits .scale) })
 
-  pattern-intra : gives flags 16 ≡ true → gives flags 8 ≡ false → GivenRead
-  unfolding codedPattern patternBytes patternOf only
-  pattern-intra intra given = rw (intra, given) (legal {cursor = record { at = 0 }} refl)
+-- ---- the vectors' codes
+code-back : (f : ℕ) (code : VectorCode) (behind : List ℕ) → ReadBack (λ c. SFits w8 (code .code) → c ≡ code) behind (codeOf f (codeBytes (code .code) (code .residual) ++ behind))
+unfolding codeOf codeBytes byte
+code-back f code behind =
+    back-then _ (signed-byte-back (code .code) _) λ z found.
+    back-need _ Refusal.VectorCode _ _ refl λ small.
+    back-need _ Refusal.VectorCode _ _ refl λ below.
+    back (λ fits. ap (λ (y : ℤ). record { code = y; residual = code .residual }) (found fits))
 
-  pattern-given : gives flags 16 ≡ false → gives flags 8 ≡ true → GivenRead
-  unfolding codedPattern patternBytes patternOf byteOf only
-  pattern-given intra given =
-      rw (intra, given) (only-all (PatternRead pattern 1) (legalPattern pattern) _ _ (refused (framed _ refl)) λ good. legal {cursor = record { at = 1 }} refl)
+codes-back : (f : ℕ) (codes : VectorCodes) (behind : List ℕ) → ReadBack (λ c. FittingCodes codes → c ≡ codes) behind (codesOf f (codesBytes codes ++ behind))
+unfolding codesOf codesBytes
+codes-back f codes behind =
+    rw append-assoc
+    (back-then _ (code-back f (codes .horizontal) _) λ horizontal across.
+    back-then _ (code-back f (codes .vertical) behind) λ vertical down.
+    back {a = record { horizontal = horizontal; vertical = vertical }} (λ fits. rw (across (fits .across), down (fits .down))))
 
-  pattern-absent : gives flags 16 ≡ false → gives flags 8 ≡ false → GivenRead
-  unfolding codedPattern patternBytes patternOf only
-  pattern-absent intra given = rw (intra, given) (legal {cursor = record { at = 0 }} refl)
+record VectorsBack (m : MacroblockSymbols) (vectors : Vectors) : Type 0 where
+  same-forward : FittingSymbols m → vectors .forward ≡ m .forward
+  same-backward : FittingSymbols m → vectors .backward ≡ m .backward
 
-  pattern-read : (gives flags 16 ≡ true → gives flags 8 ≡ false) → GivenRead
-  pattern-read apart = go (gives flags 16) (gives flags 8) refl refl
-    where
-      go : (intra given : Bool) → gives flags 16 ≡ intra → gives flags 8 ≡ given → GivenRead
-      go true given e f = pattern-intra e (apart e)
-      go false true e f = pattern-given e f
-      go false false e f = pattern-absent e f
+vectors-back : (m : MacroblockSymbols) (forwardF backwardF : ℕ) (behind : List ℕ)
+    → ReadBack (VectorsBack m) behind (vectorsOf (m .flags) forwardF backwardF (vectorsBytes (m .flags) (m .forward) (m .backward) ++ behind))
+unfolding vectorsOf
+vectors-back m forwardF backwardF behind =
+    rw append-assoc
+    (back-then _ (back-given (givesForward (m .flags)) noCodes (m .forward) (codesOf forwardF) (codesBytes (m .forward)) _ (codes-back forwardF (m .forward) _)) λ forward first.
+    back-then _ (back-given (givesBackward (m .flags)) noCodes (m .backward) (codesOf backwardF) (codesBytes (m .backward)) behind (codes-back backwardF (m .backward) behind)) λ backward second.
+    back (record { same-forward = λ fits. first (fits .forward); same-backward = λ fits. second (fits .backward) }))
 
--- ---- the pattern and the blocks
-data ResidueRead : ResidueAnswer → Type 0 where
-  legal : {pattern : ℕ} {pasts : DcPasts} → ResidueRead (Residue.Legal pattern pasts)
-  refused : {refusal : Refusal} → Framed (numberOf refusal) → ResidueRead (Residue.Refused refusal)
-
-pattern-then : {pattern size : ℕ} {a : PatternAnswer} (l : List ℕ) (rest : ℕ → List ℕ → Reading ResidueAnswer) → PatternRead pattern size a
-    → ResidueRead (rest pattern (drop size l) .answer) → ResidueRead (patternThen a l rest .answer)
-pattern-then {pattern} l rest (legal e) r = subst (λ (n : ℕ). ResidueRead (rest pattern (drop n l) .answer)) (sym e) r
-pattern-then l rest (refused other) r = refused other
-
--- no byte is left over
-after-blocks : {size : ℕ} {a : BlockAnswer} (pattern : ℕ) (pasts : DcPasts → DcPasts) → BlockRead size a
-    → ResidueRead (afterBlocks a (λ running n. only (leb size n) (Residue.Refused Refusal.BodyLength) (Residue.Legal pattern (pasts running))))
-unfolding only
-after-blocks {size} pattern pasts (Blocks.legal {cursor} e) = rw (le-leb size (cursor .at) (omega (arith, e))) legal
-after-blocks pattern pasts (Blocks.refused other) = refused other
-
-residue-read : (head : MacroblockHead) (intraMatrix nonIntraMatrix : List ℕ) (pasts : DcPasts) (pattern : ℕ) (blocks : List BlockFields)
-    → (gives (head .flags) 16 ≡ true → gives (head .flags) 8 ≡ false) → length blocks ≡ codedFrom (codedPattern (head .flags) pattern) 6 0
-    → ResidueRead (residueOf head intraMatrix nonIntraMatrix pasts (patternBytes (head .flags) pattern ++ blocksBytes (gives (head .flags) 16) blocks) .answer)
-unfolding residueOf codedBlocksOf
-residue-read head intraMatrix nonIntraMatrix pasts pattern blocks apart counted =
-    let first = patternBytes (head .flags) pattern in
-    let rest = blocksBytes (gives (head .flags) 16) blocks in
-    pattern-then (first ++ rest) _ (pattern-read (head .flags) pattern rest apart)
-    (rw (drop-append-seam first rest)
-    (after-blocks _ (pastsAfter (gives (head .flags) 16)) (blocks-read (blocksCoding head (codedPattern (head .flags) pattern)) _ pasts blocks counted)))
-
--- ---- the macroblock
-pub data SymbolsRead : SymbolsAnswer → Type 0 where
-  legal : {symbols : MacroblockSymbols} → SymbolsRead (Symbols.Legal symbols)
-  refused : {refusal : Refusal} → Framed (numberOf refusal) → SymbolsRead (Symbols.Refused refusal)
-
-after-residue : {a : ResidueAnswer} (rest : ℕ → DcPasts → MacroblockSymbols) → ResidueRead a → SymbolsRead (afterResidue a (λ pattern pasts. Symbols.Legal (rest pattern pasts)))
-after-residue rest legal = legal
-after-residue rest (refused other) = refused other
-
-vectors-then : {size : ℕ} {a : VectorsAnswer} (l : List ℕ) (rest : Vectors → List ℕ → Reading SymbolsAnswer) → VectorsRead size a
-    → ((vectors : Vectors) → SymbolsRead (rest vectors (drop size l) .answer)) → SymbolsRead (vectorsThen a l rest .answer)
-vectors-then l rest (Codes.legal {vectors} e) r = subst (λ (n : ℕ). SymbolsRead (rest vectors (drop n l) .answer)) (sym e) (r vectors)
-vectors-then l rest (Codes.refused other) r = refused other
-
-head-then : {coding flags size : ℕ} {a : HeadAnswer} (l : List ℕ) (rest : MacroblockHead → List ℕ → Reading SymbolsAnswer) → HeadRead coding flags size a
-    → ((increment scale : ℕ) → legalType coding flags ≡ true → SymbolsRead (rest (record { flags = flags; increment = increment; scale = scale }) (drop size l) .answer))
-    → SymbolsRead (headThen a l rest .answer)
-head-then {flags} l rest (Head.legal {increment} {scale} good e) r =
-    subst (λ (n : ℕ). SymbolsRead (rest (record { flags = flags; increment = increment; scale = scale }) (drop n l) .answer)) (sym e) (r increment scale good)
-head-then l rest (Head.refused other) r = refused other
-
-pub symbols-read : (c : MacroblockContext) (intraMatrix nonIntraMatrix : List ℕ) (fields : MacroblockFields) → Matching fields → SymbolsRead (symbolsOf c intraMatrix nonIntraMatrix (macroblockBody fields))
-unfolding symbolsOf macroblockOf afterHeadOf macroblockBody
-symbols-read c intraMatrix nonIntraMatrix fields matching =
-    let first = headBytes (fields .flags) (fields .increment) (fields .scale) in
-    let second = vectorsBytes (fields .flags) (fields .forward) (fields .backward) in
-    let third = residueBytes (fields .flags) (fields .pattern) (fields .blocks) in
-    head-then (first ++ (second ++ third)) _ (head-read (c .head) (fields .flags) (fields .increment) (fields .scale) (second ++ third)) λ increment scale good.
-    rw (drop-append-seam first (second ++ third))
-    (vectors-then (second ++ third) _ (vectors-read (fields .flags) (fields .forward) (fields .backward) (c .«forward_f») (c .«backward_f») third) λ vectors.
-    rw (drop-append-seam second third)
-    (after-residue (symbolsWith _ vectors)
-    (residue-read _ intraMatrix nonIntraMatrix (startingPasts (c .dc) increment) (fields .pattern) (fields .blocks) (pattern-not-intra (c .head .coding) (fields .flags) good) (matching .coded))))
-
--- the strict reader never answers 6 to a macroblock that is laid out
-pub symbols-framed : (c : MacroblockContext) (intraMatrix nonIntraMatrix : List ℕ) (fields : MacroblockFields) (refusal : Refusal) → Matching fields
-    → symbolsOf c intraMatrix nonIntraMatrix (macroblockBody fields) ≡ Symbols.Refused refusal → Framed (numberOf refusal)
-symbols-framed c intraMatrix nonIntraMatrix fields refusal matching e = go (symbolsOf c intraMatrix nonIntraMatrix (macroblockBody fields)) (symbols-read c intraMatrix nonIntraMatrix fields matching) e
+-- ---- the pattern
+pattern-back : (flags pattern : ℕ) (behind : List ℕ) → pattern ≡ codedPattern flags (λ known. known) pattern → ReadBack (λ p. p ≡ pattern) behind (codedPatternOf flags (patternBytes flags pattern ++ behind))
+unfolding patternBytes patternOf byte
+pattern-back flags pattern behind = go (isIntra flags) (givesPattern flags)
   where
-    go : (a : SymbolsAnswer) → SymbolsRead a → a ≡ Symbols.Refused refusal → Framed (numberOf refusal)
-    go (Symbols.Legal symbols) legal e = absurd (let z : _≡_ {A = ℕ} 0 1 = cc in omega arith)
-    go (Symbols.Refused other) (refused kept) e = subst (λ (r : Refusal). Framed (numberOf r)) (let same : other ≡ refusal = cc in same) kept
+    go : (intra given : Bool) → pattern ≡ cond intra 63 (cond given pattern 0)
+        → ReadBack (λ p. p ≡ pattern) behind (cond {A = Parser ℕ} intra (give 63) (cond {A = Parser ℕ} given patternOf (give 0)) (cond {A = List ℕ} intra [] (cond {A = List ℕ} given (pattern ∷ []) []) ++ behind))
+    go true given e = back (sym e)
+    go false true e = back-need (legalPattern pattern) Refusal.Pattern _ behind refl λ legal. back refl
+    go false false e = back (sym e)
+
+-- ---- the symbols before the blocks
+record SymbolsBack (m read : MacroblockSymbols) : Type 0 where
+  same-flags : read .flags ≡ m .flags
+  same-pattern : read .pattern ≡ m .pattern
+  whole : FittingSymbols m → read ≡ m
+
+symbols-back : (c : MacroblockContext) (m : MacroblockSymbols) (behind : List ℕ) → m .pattern ≡ codedPattern (m .flags) (λ known. known) (m .pattern)
+    → ReadBack (SymbolsBack m) behind (symbolsOf c (headBytes (m .flags) (m .increment) (m .scale) ++ (vectorsBytes (m .flags) (m .forward) (m .backward) ++ (patternBytes (m .flags) (m .pattern) ++ behind))))
+unfolding symbolsOf
+symbols-back c m behind known =
+    back-then _ (head-back (c .head) m _) λ head h.
+    rw (h .same-flags)
+    (back-then _ (vectors-back m (c .«forward_f») (c .«backward_f») _) λ vectors v.
+    back-then _ (pattern-back (m .flags) (m .pattern) behind known) λ pattern same.
+    back (record {
+      same-flags = refl;
+      same-pattern = same;
+      whole = λ fits. rw (h .same-increment fits, h .same-scale fits, v .same-forward fits, v .same-backward fits, same);
+    }))
+
+-- ---- the whole
+whole-back : (read : MacroblockSymbols) (m : Macroblock) (pasts : DcPasts) → SymbolsBack (m .symbols) read → CodedBy (m .symbols .pattern) 6 0 (m .blocks)
+    → ReadBack (λ l. FittingBlocks (isIntra (m .symbols .flags)) (m .blocks) → l ≡ m .blocks) [] (wholeBlocksOf read pasts (blocksBytes (isIntra (m .symbols .flags)) (m .blocks)))
+unfolding wholeBlocksOf
+whole-back read m pasts s coded =
+    rw (s .same-flags, s .same-pattern, ← append-nil (blocksBytes (isIntra (m .symbols .flags)) (m .blocks)))
+    (back-then _ (blocks-back (isIntra (m .symbols .flags)) (m .symbols .pattern) coded pasts []) λ l found. back found)
+
+pub macroblock-back : (c : MacroblockContext) (m : Macroblock) → Matching m → MacroblockReadBack c m
+unfolding macroblockOf macroblockBody
+macroblock-back c m matching =
+    back-then _ (symbols-back c (m .symbols) _ (matching .pattern)) λ read s.
+    back-then _ (whole-back read m _ s (matching .blocks)) λ l found.
+    back {a = record { symbols = read; blocks = l }} (λ fits. rw (s .whole (fits .symbols), found (fits .blocks)))
 
 -- ---- two bytes tell the length of its record, where each block has at most 64 pairs
-coded-below : (pattern n index : ℕ) → codedFrom pattern n index ≤ n
-unfolding codedFrom
-coded-below pattern zero index = omega arith
-coded-below pattern (suc n) index = one (isCoded pattern index) (coded-below pattern n (index + 1))
-  where
-    one : (t : Bool) → codedFrom pattern n (index + 1) ≤ n → cond t 1 0 + codedFrom pattern n (index + 1) ≤ suc n
-    one true h = omega arith
-    one false h = omega arith
+coded-count : {pattern n block : ℕ} {blocks : List Block} → CodedBy pattern n block blocks → length blocks ≡ n
+coded-count none = refl
+coded-count (more e others) = ap suc (coded-count others)
 
-pub matching-short : (fields : MacroblockFields) → Matching fields → FewPairs (fields .blocks) → length (macroblockBody fields) ≤ 65534
-matching-short fields matching few =
-    let six = coded-below (codedPattern (fields .flags) (fields .pattern)) 6 0 in
-    omega (arith, macroblock-short fields (omega (arith, six, matching .coded)) few)
+pub matching-short : (m : Macroblock) → Matching m → FewPairs (m .blocks) → length (macroblockBody m) ≤ 65534
+matching-short m matching few = omega (arith, macroblock-short m (omega (arith, coded-count (matching .blocks))) few)

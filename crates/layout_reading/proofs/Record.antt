@@ -8,12 +8,12 @@ use native.Mathlib.Omega.{arith}
 use borrow.Author.Tests.{le-leb}
 use lib.ListN.{length, getD, take, drop, length-append, length-drop}
 use lib.Seq.{getD-drop, drop-drop, take-append-seam, drop-append-seam}
-use Rattle.format3.specs.Chain.{only}
+use Rattle.parsed.specs.Guard.{need_else_then_}
 use Rattle.format3.specs.Record.{legalKind, lengthAt, kindAt, recordOf}
 use Rattle.format3.specs.declared.record.Record.the-variants.{Found}
 use Rattle.byte_layout.specs.Bytes.{wordBytes}
 use Rattle.record_layout.specs.Records.{recordHead, recordBytes}
-use Rattle.layout_reading.proofs.Fields.{word-back}
+use Rattle.layout_reading.proofs.ReadBack.{word-same}
 
 module _ (file : List ℕ) (at kind : ℕ) (body after : List ℕ) (stands : drop at file ≡ recordBytes kind body ++ after) where
   -- byte i of the record
@@ -27,14 +27,14 @@ module _ (file : List ℕ) (at kind : ℕ) (body after : List ℕ) (stands : dro
 
   pub record-length : length body ≤ 65534 → lengthAt file at ≡ 1 + length body
   unfolding lengthAt recordBytes recordHead wordBytes
-  record-length h = rw (rw (add-zero at) at (byte-at 0), byte-at 1) (word-back (1 + length body) (omega arith))
+  record-length h = rw (rw (add-zero at) at (byte-at 0), byte-at 1) (word-same (1 + length body) (omega arith))
 
-  pub record-kind : kindAt file at ≡ kind
+  record-kind : kindAt file at ≡ kind
   unfolding kindAt recordBytes recordHead wordBytes
   record-kind = byte-at 2
 
   pub record-shown : legalKind kind ≡ true → length body ≤ 65534 → recordOf file at ≡ Found kind (at + 3) (length body)
-  unfolding recordOf only
+  unfolding recordOf need_else_then_
   record-shown good h =
       let told = record-length h in
       let head = le-leb (at + 3) (length file) (omega (arith, size)) in

@@ -1,35 +1,23 @@
--- A slice's record that is laid out is never refused for its length. Assumes nothing.
+-- A slice's record that is laid out is read back. Assumes nothing.
+use mathlib.Core.List.{List, [], _∷_}
 use mathlib.Core.Path.{_≡_, refl}
-use Prim.Native.Nat.{ℕ, _/_, _%_}
-use lib.Dec.{eqb}
-use Rattle.refusals.specs.Refusal.{numberOf}
-use Rattle.refusals.specs.declared.Refusal.{Refusal}
-use Rattle.refusals.specs.declared.Refusal.the-variants.{QuantizerScale, SliceStart}
-use Rattle.format3.specs.Chain.{only}
-use Rattle.format3.specs.Field.{bigEndian, byteOf, wordOf}
-use Rattle.format3.proofs.Laws.Chain.{only-all}
-use Rattle.symbols.specs.declared.slice.Slice.{Slice}
-use Rattle.symbols.specs.declared.slice.SliceAnswer.{SliceAnswer}
-use Rattle.symbols.specs.declared.slice.SliceAnswer.the-variants as Slice
-use Rattle.symbols.specs.Slice.{legalScale, sliceOf}
+use Prim.Native.Nat.{ℕ}
+use Rattle.refusals.specs.declared.Refusal.the-variants.{QuantizerScale}
+use Rattle.parsed.specs.Guard.{need_else_then_}
+use Rattle.format3.specs.Field.{byte}
+use Rattle.symbols.specs.Slice.{legalScale, scaleOf, sliceFieldsOf, sliceOf}
 use Rattle.byte_layout.specs.Bytes.{wordBytes}
 use Rattle.record_layout.specs.Records.{sliceBody}
-use Rattle.layout_reading.specs.Framed.{Framed}
-use Rattle.layout_reading.proofs.Framed.{framed}
+use Rattle.layout_reading.specs.ReadBack.{ReadBack, back, SliceReadBack}
+use Rattle.layout_reading.proofs.ReadBack.{back-then, back-need, word-back}
 
-pub data SliceRead : SliceAnswer → Type 0 where
-  legal : {slice : Slice} → SliceRead (Slice.Legal slice)
-  refused : {refusal : Refusal} → Framed (numberOf refusal) → SliceRead (Slice.Refused refusal)
+pub scale-back : (scale : ℕ) (behind : List ℕ) → ReadBack (λ n. n ≡ scale) behind (scaleOf (scale ∷ behind))
+unfolding scaleOf byte
+scale-back scale behind = back-need (legalScale scale) QuantizerScale _ behind refl λ legal. back refl
 
--- its length is right, so that its tests are those of its fields
-fields-tested : (scale start next : ℕ) → sliceOf (sliceBody scale start) next
-    ≡ only (legalScale scale) (Slice.Refused QuantizerScale) (only (eqb (bigEndian (start / 256 % 256) (start % 256)) next) (Slice.Refused SliceStart)
-    (Slice.Legal (record { scale = scale; start = bigEndian (start / 256 % 256) (start % 256) })))
-unfolding sliceOf sliceBody wordBytes byteOf wordOf only
-fields-tested scale start next = refl
-
-pub slice-read : (scale start next : ℕ) → SliceRead (sliceOf (sliceBody scale start) next)
-slice-read scale start next =
-    rw (fields-tested scale start next)
-    (only-all SliceRead (legalScale scale) _ _ (refused (framed _ refl)) λ small.
-    only-all SliceRead _ _ _ (refused (framed _ refl)) λ follows. legal)
+pub slice-back : (scale start : ℕ) → SliceReadBack scale start
+unfolding sliceOf sliceFieldsOf sliceBody wordBytes need_else_then_
+slice-back scale start =
+    back-then _ (scale-back scale (wordBytes start)) λ n same.
+    back-then _ (word-back start []) λ address found.
+    back (λ fits. cc (found fits))

@@ -1,2 +1,3 @@
 pub mod Framed
-pub mod Matching
+pub mod Fitting
+pub mod ReadBack

@@ -1,8 +1,9 @@
 -- Laws of `tab`, and of a loop that stores the elements one after the other. Assumes nothing.
 use mathlib.Core.Path.{_≡_, refl, ap, _∙_, sym, subst}
-use mathlib.Core.List.{List, [], _∷_}
+use mathlib.Core.List.{List, [], _∷_, _++_}
 use Prim.Native.Nat.{ℕ, zero, suc, _+_, _≤_, _<_, zero-le, suc-le-suc}
 use native.Mathlib.Decide.{ℕ-discrete}
+use native.Mathlib.Numerals.{add-one}
 use native.Mathlib.Omega.{arith}
 use lib.ListN.{length, getD, set, length-set}
 use lib.Seq.{ext-getD, getD-set-same, getD-set-other}
@@ -24,6 +25,15 @@ module _ {A : Type 0} where
   unfolding tab
   tab-ext zero f g h = refl
   tab-ext (suc n) f g h = λ i. h zero (suc-le-suc zero-le) i ∷ tab-ext n (λ k. f (suc k)) (λ k. g (suc k)) (λ k b. h (suc k) (suc-le-suc b)) i
+
+  -- one element more, at the end
+  tab-last : (n : ℕ) (f : ℕ → A) → tab (suc n) f ≡ tab n f ++ (f n ∷ [])
+  unfolding tab
+  tab-last zero f = refl
+  tab-last (suc n) f = ap (λ (l : List A). f zero ∷ l) (tab-last n (λ k. f (suc k)))
+
+  pub tab-more : (n : ℕ) (f : ℕ → A) → tab (n + 1) f ≡ tab n f ++ (f n ∷ [])
+  tab-more n f = rw add-one (tab-last n f)
 
   -- a list is the table of its own elements
   pub tab-self : (n : ℕ) (l : List A) (d : A) → length l ≡ n → tab n (λ k. getD l k d) ≡ l

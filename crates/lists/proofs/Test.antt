@@ -1,8 +1,9 @@
 -- Laws of `allBelow`: what a test that was computed tells at one number, and what a loop of tests gives. Assumes nothing.
 use mathlib.Core.Path.{_≡_, refl, ap₂, subst, sym}
 use mathlib.Core.Bool.{Bool, true, false, _&&_}
-use Prim.Native.Nat.{ℕ, zero, suc, _<_}
+use Prim.Native.Nat.{ℕ, zero, suc, _+_, _<_}
 use native.Mathlib.Decide.{ℕ-discrete}
+use native.Mathlib.Numerals.{add-one}
 use native.Mathlib.Omega.{arith}
 use lib.Dec.{T}
 use Rattle.lists.specs.Test.{allBelow}
@@ -32,6 +33,19 @@ pub all-pass : (n : ℕ) (test : ℕ → Bool) → ((k : ℕ) → k < n → test
 unfolding allBelow
 all-pass zero test h = refl
 all-pass (suc n) test h = ap₂ _&&_ (h n (omega arith)) (all-pass n test (λ k b. h k (omega arith)))
+
+-- a loop that keeps the tests' answer: one test more
+pub test-more : (n : ℕ) (test : ℕ → Bool) → test n && allBelow n test ≡ allBelow (n + 1) test
+unfolding allBelow
+test-more n test = rw add-one
+
+-- what such a loop tells at one number
+pub all-passed : (n : ℕ) (test : ℕ → Bool) → allBelow n test ≡ true → (k : ℕ) → k < n → test k ≡ true
+all-passed n test e k h = truth (test k) (at-below n test (subst T (sym e) tt) k h)
+  where
+    truth : (b : Bool) → T b → b ≡ true
+    truth true t = refl
+    truth false t = absurd t
 
 pub one-fails : (n : ℕ) (test : ℕ → Bool) (k : ℕ) → k < n → test k ≡ false → allBelow n test ≡ false
 one-fails n test k h e = refuted (allBelow n test) (λ t. subst T e (at-below n test t k h))

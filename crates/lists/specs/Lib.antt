@@ -3,3 +3,4 @@ pub mod Joined
 pub mod Scatter
 pub mod Part
 pub mod Test
+pub mod Total

@@ -6,4 +6,6 @@ pub mod CopyLaws
 pub mod SquareLaws
 pub mod PutLaws
 pub mod OwnerLaws
-pub mod WriteLaws
+pub mod OrderLaws
+pub mod ByteLaws
+pub mod ResidueLaws

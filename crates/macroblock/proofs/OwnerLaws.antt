@@ -19,11 +19,11 @@ use Rattle.macroblock.proofs.PlaceLaws.{by-block}
 use Rattle.macroblock.proofs.PutLaws.{inPlace}
 
 -- ---- the test of a block, as facts
-record InBlock (stride x y i : ℕ) : Type 0 where
-  left : x ≤ i % stride
-  right : i % stride < x + 8
-  top : y ≤ i / stride
-  bottom : i / stride < y + 8
+pub record InBlock (stride x y i : ℕ) : Type 0 where
+  pub left : x ≤ i % stride
+  pub right : i % stride < x + 8
+  pub top : y ≤ i / stride
+  pub bottom : i / stride < y + 8
 
 in-block : (stride x y i : ℕ) → inSquare 8 stride x y i ≡ true → InBlock stride x y i
 unfolding inSquare
@@ -37,12 +37,12 @@ block-in : (stride x y i : ℕ) → InBlock stride x y i → inSquare 8 stride x
 unfolding inSquare
 block-in stride x y i b = rw (le-leb x (i % stride) (b .left), lt-ltb (i % stride) (x + 8) (b .right), le-leb y (i / stride) (b .top), lt-ltb (i / stride) (y + 8) (b .bottom))
 
-record InPlane (p : Place) (i : ℕ) : Type 0 where
-  after : p .from ≤ i
-  before : i < p .to
-  square : InBlock (p .stride) (p .x) (p .y) (i - p .from)
+pub record InPlane (p : Place) (i : ℕ) : Type 0 where
+  pub after : p .from ≤ i
+  pub before : i < p .to
+  pub square : InBlock (p .stride) (p .x) (p .y) (i - p .from)
 
-in-place : (p : Place) (i : ℕ) → inPlace p i ≡ true → InPlane p i
+pub in-place : (p : Place) (i : ℕ) → inPlace p i ≡ true → InPlane p i
 unfolding inPlace
 in-place p i e = elim (decLt i (p .from)) [
   | yes h ↦ absurd (never (rw (lt-ltb i (p .from) h) at e))

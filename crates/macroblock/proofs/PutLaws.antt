@@ -1,30 +1,29 @@
--- Laws of a block put at its place, byte by byte: a byte in the block has the block's pel, every other what it had. Assumes nothing.
+-- Laws of a block put at its place, byte by byte: a byte in the block has the block's pel, every other what it had; and of the block read there. Assumes nothing.
 use mathlib.Core.Path.{_≡_, ap, _∙_, sym}
-use mathlib.Core.Bool.{Bool, false, cond}
-use mathlib.Core.List.{List}
-use Prim.Native.Nat.{ℕ, _+_, _-_, _≤_, _<_}
+use mathlib.Core.Bool.{Bool, true, false, cond}
+use mathlib.Core.List.{List, []}
+use Prim.Native.Nat.{ℕ, _+_, _-_, _*_, _/_, _%_, _≤_, _<_}
 use native.Mathlib.Decide.{decLt}
 use native.Mathlib.Omega.{arith}
-use borrow.Author.Tests.{lt-ltb, le-ltb}
+use borrow.Author.Tests.{lt-ltb, le-ltb, le-leb}
 use lib.Dec.{ltb}
 use lib.ListN.{length, getD, drop, length-take, length-drop}
 use lib.Seq.{getD-take, getD-drop}
 use Rattle.lists.specs.Part.{part}
 use Rattle.lists.proofs.Part.{part-length, part-before, part-in, part-after}
-use Rattle.lists.proofs.Tab.{tab-at}
-use Rattle.motion.specs.Pel.{withBlock}
-use Rattle.motion.proofs.PelLaws.{with-square-length, inSquare, pelIn, painted, with-square-painted}
+use Rattle.lists.proofs.Tab.{tab-at, tab-ext}
+use Rattle.motion.specs.Pel.{cell, withBlock}
+use Rattle.motion.specs.Prediction.{pelAt, prediction}
+use Rattle.motion.proofs.MeanLaws.{predicted-whole}
+use Rattle.motion.proofs.PelLaws.{with-square-length, cell-fits, cell-line, cell-column, inSquare, pelIn, painted, with-square-painted}
 use Rattle.macroblock.specs.declared.place.Place.{Place}
-use Rattle.macroblock.specs.Place.{putAt, Holds}
+use Rattle.macroblock.specs.Byte.{pelOf}
+use Rattle.macroblock.specs.Place.{readAt, putAt, Holds}
 use Rattle.macroblock.specs.Compensation.{planeOf}
 
 -- whether byte i of a picture is in the block at a place
 unfoldable pub inPlace : Place → ℕ → Bool
 inPlace p i = cond (ltb i (p .from)) false (cond (ltb i (p .to)) (inSquare 8 (p .stride) (p .x) (p .y) (i - p .from)) false)
-
--- which pel of the block it is
-abbrev pub pelOf : Place → ℕ → ℕ
-pelOf p i = pelIn 8 (p .stride) (p .x) (p .y) (i - p .from)
 
 module _ (p : Place) (block l : List ℕ) (holds : Holds p (length l)) where
   plane-length : length (planeOf p l) ≡ p .to - p .from
@@ -78,3 +77,42 @@ module _ (p : Place) (block l : List ℕ) (holds : Holds p (length l)) where
           ap (λ (m : ℕ). getD (part (p .from) (p .to - p .from) f l) m 0) e
           ∙ part-after (p .from) (p .to - p .from) f l whole put-length (i - p .to) 0
           ∙ ap (λ (m : ℕ). getD l m 0) (sym e)
+
+-- ---- the block that stands at a place
+module _ (p : Place) (l : List ℕ) (holds : Holds p (length l)) where
+  -- where its pel k is in the plane
+  abbrev at : ℕ → ℕ
+  at k = cell 8 (p .stride) (p .x) (p .y) k
+
+  at-below : (k : ℕ) → k < 64 → at k < p .to - p .from
+  at-below k h = cell-fits 8 (p .stride) (p .x) (p .y) (omega arith) (holds .across) k (p .to - p .from) h (holds .below) .inside
+
+  half : (n : ℕ) → 2 * n / 2 ≡ n
+  half n = omega arith
+
+  pub read-is : prediction (planeOf p l) (p .stride) (2 * p .x) (2 * p .y) ≡ readAt p l
+  unfolding readAt cell
+  read-is = tab-ext 64 _ _ (λ k h.
+      sym (predicted-whole (planeOf p l) (p .stride) (2 * p .x) (2 * p .y) k (omega arith))
+      ∙ (λ i. pelAt (planeOf p l) (p .stride) (half (p .x) i + k % 8) (half (p .y) i + k / 8))
+      ∙ plane-at p [] l holds (at k) (at-below k h))
+
+  -- what is put there stands there
+  line : (k : ℕ) → (p .from + at k - p .from) / p .stride ≡ p .y + k / 8
+  line k = let same : p .from + at k - p .from ≡ at k = omega arith in rw same (cell-line 8 (p .stride) (p .x) (p .y) (omega arith) (holds .across) k)
+
+  column : (k : ℕ) → (p .from + at k - p .from) % p .stride ≡ p .x + k % 8
+  column k = let same : p .from + at k - p .from ≡ at k = omega arith in rw same (cell-column 8 (p .stride) (p .x) (p .y) (omega arith) (holds .across) k)
+
+  pel-here : (k : ℕ) → pelOf p (p .from + at k) ≡ k
+  pel-here k = rw (line k, column k) (omega arith)
+
+  in-here : (k : ℕ) → k < 64 → inPlace p (p .from + at k) ≡ true
+  unfolding inPlace inSquare
+  in-here k h = rw (le-ltb (p .from + at k) (p .from) (omega arith), lt-ltb (p .from + at k) (p .to) (omega (arith, at-below k h)), line k, column k)
+      (rw (le-leb (p .x) (p .x + k % 8) (omega arith), lt-ltb (p .x + k % 8) (p .x + 8) (omega arith), le-leb (p .y) (p .y + k / 8) (omega arith), lt-ltb (p .y + k / 8) (p .y + 8) (omega arith)))
+
+  pub read-put : (block : List ℕ) (k : ℕ) → k < 64 → getD (readAt p (putAt p block l)) k 0 ≡ getD block k 0
+  unfolding readAt
+  read-put block k h =
+      tab-at 64 _ k 0 h ∙ put-at p block l holds (p .from + at k) ∙ rw (in-here k h) (ap (λ (m : ℕ). getD block m 0) (pel-here k))

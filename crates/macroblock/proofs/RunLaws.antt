@@ -6,6 +6,7 @@ use Prim.Native.Nat.{ℕ, zero, suc, _+_, _-_, _≤_, _<_}
 use native.Mathlib.Omega.{arith}
 use lib.ListN.{length}
 use Rattle.picture_header.specs.declared.size.PictureSize.{PictureSize}
+use Rattle.macroblock.specs.declared.place.Position.{Position}
 use Rattle.macroblock.specs.declared.compensation.Motion.{Motion}
 use Rattle.macroblock.specs.declared.fit.Fit.{Fit}
 use Rattle.macroblock.specs.declared.fit.Fit.the-variants.{Fits, Forward, Backward}
@@ -38,8 +39,8 @@ blocks-drawable {s} {address} {m} d = record {
   lent = d .lent;
 }
 
-pub blocks-again : {s : PictureSize} {address : ℕ} {m : Motion} {forward backward output next : List ℕ} → Drawable s address m forward backward output → length next ≡ length output → BlocksDrawable (positionOf s address) m forward backward next
-blocks-again d e = blocks-drawable (record { size = d .size; inside = d .inside; small = d .small; fits = d .fits; lent = lent-again (d .lent) e })
+pub blocks-again : {p : Position} {m : Motion} {forward backward output next : List ℕ} → BlocksDrawable p m forward backward output → length next ≡ length output → BlocksDrawable p m forward backward next
+blocks-again d e = record { inside = d .inside; small = d .small; forward-fits = d .forward-fits; backward-fits = d .backward-fits; lent = lent-again (d .lent) e }
 
 -- ---- a run
 or-fits : (fit next : Fit) → orElse fit next ≡ Fits → (fit ≡ Fits) × (next ≡ Fits)

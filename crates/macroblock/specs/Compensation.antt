@@ -18,6 +18,14 @@ use Rattle.macroblock.specs.declared.compensation.HalfPels.{HalfPels}
 use Rattle.macroblock.specs.declared.compensation.Motion.{Motion}
 use Rattle.macroblock.specs.Place.{placeOf}
 
+-- the pictures that a macroblock is predicted from
+pub record References : Type 0 where
+  pub forward : List ℕ
+  pub backward : List ℕ
+
+abbrev pub references : List ℕ → List ℕ → References
+references forward backward = record { forward = forward; backward = backward }
+
 -- "Chroma first halves towards zero": the vector for the plane of a block
 unfoldable pub vectorFor : ℕ → Vector → Vector
 vectorFor block v = cond (ltb block 4) v (record { right = chromaVector (v .right); down = chromaVector (v .down) })

@@ -4,3 +4,4 @@ pub mod Fit
 pub mod Block
 pub mod Macroblock
 pub mod Owner
+pub mod Byte

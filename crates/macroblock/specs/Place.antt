@@ -3,8 +3,10 @@ use mathlib.Core.Bool.{cond}
 use mathlib.Core.List.{List}
 use Prim.Native.Nat.{ℕ, _+_, _-_, _*_, _/_, _%_, _≤_, _<_}
 use lib.Dec.{eqb}
+use lib.ListN.{getD}
 use Rattle.lists.specs.Part.{part}
-use Rattle.motion.specs.Pel.{withSquare, withBlock}
+use Rattle.lists.specs.Tab.{tab}
+use Rattle.motion.specs.Pel.{cell, withSquare, withBlock}
 use Rattle.picture_header.specs.declared.size.PictureSize.{PictureSize}
 use Rattle.picture_header.specs.Size.{count, startOfY, startOfCb, startOfCr, column, row}
 use Rattle.macroblock.specs.declared.place.Position.{Position}
@@ -41,6 +43,10 @@ unfoldable pub placeOf : Position → ℕ → Place
 placeOf p block =
     cond (eqb block 4) (chromaPlace p (startOfCb (p .size)))
     (cond (eqb block 5) (chromaPlace p (startOfCr (p .size))) (lumaPlace p block))
+
+-- the block that stands at a place of a picture
+unfoldable pub readAt : Place → List ℕ → List ℕ
+readAt p picture = tab 64 (λ k. getD picture (p .from + cell 8 (p .stride) (p .x) (p .y) k) 0)
 
 -- the picture with a block put at its place
 unfoldable pub putAt : Place → List ℕ → List ℕ → List ℕ

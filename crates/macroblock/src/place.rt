@@ -1,9 +1,9 @@
-// Where the blocks of a macroblock stand in a picture, and a block put there.
+// Where the blocks of a macroblock stand in a picture, and a block read and put there.
 ghost use mathlib.Core.Path.{_≡_};
 ghost use Prim.Native.Nat.{_+_, _-_, _*_, _≤_, _<_};
 ghost use lib.ListN.{length};
 ghost use Rattle.picture_header.specs.Size.{SizeWithin, count};
-ghost use Rattle.macroblock.specs.Place.{positionOf, lumaPlace, chromaPlace, placeOf, putAt, putSquareAt, Inside, Holds};
+ghost use Rattle.macroblock.specs.Place.{positionOf, lumaPlace, chromaPlace, placeOf, readAt, putAt, putSquareAt, Inside, Holds};
 use picture_header::size::PictureSize;
 
 // A macroblock's column and row in a picture of this size.
@@ -94,6 +94,19 @@ pub fn place_of(position: Position, block: usize) -> Place
         return chroma_place(position, 256 * macroblocks);
     }
     chroma_place(position, 320 * macroblocks)
+}
+
+// The block that stands at a place.
+pub fn read(picture: &[u8], place: Place) -> [u8; 64]
+    requires { ⌜ Holds place (length (now picture)) ⌝ }
+    ensures { λ r. ⌜ r ≡ readAt place (now (picture .entry)) ⌝ }
+{
+    let from = place.from;
+    let to = place.to;
+    let lines = place.y + 8;
+    let px = 2 * place.x;
+    let py = 2 * place.y;
+    motion::prediction::copy_block(&picture[from..to], place.stride, lines, px, py)
 }
 
 // A block put at its place: the part of the output that is its plane is lent on.

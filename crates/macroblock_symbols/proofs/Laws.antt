@@ -1,3 +1,2 @@
 pub mod Vectors
 pub mod Macroblock
-pub mod Fresh

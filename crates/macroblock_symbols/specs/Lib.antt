@@ -1,2 +1,3 @@
 pub mod Vectors
-pub mod MacroblockSymbols
+pub mod Macroblock
+pub mod Decoding

@@ -1,22 +1,17 @@
 -- The codes of a macroblock's vectors (document 01, kind 4: "forward codes ..; backward codes").
-use mathlib.Core.Bool.{Bool, cond}
-use mathlib.Core.List.{List}
-use Prim.Native.Nat.{ℕ, _+_, _/_, _%_}
-use lib.Dec.{eqb}
+use mathlib.Core.Bool.{Bool}
+use Prim.Native.Nat.{ℕ}
 use lib.IntN.{pos}
-use lib.ListN.{drop}
-use Rattle.format3.specs.declared.field.Cursor.{Cursor}
+use Rattle.refusals.specs.declared.Refusal.{Refusal}
+use Rattle.refusals.specs.declared.Refusal.the-variants as Refusal
+use Rattle.parsed.specs.Parsed.{Parser, _then_, give, given_else_read_, Found, value, stopped}
 use Rattle.symbols.specs.declared.vector_codes.VectorCode.{VectorCode}
 use Rattle.symbols.specs.declared.vector_codes.VectorCodes.{VectorCodes}
-use Rattle.symbols.specs.declared.vector_codes.CodesAnswer.{CodesAnswer}
-use Rattle.symbols.specs.declared.vector_codes.CodesAnswer.the-variants as Codes
+use Rattle.symbols.specs.MacroblockType.{givesForward, givesBackward}
 use Rattle.symbols.specs.VectorCodes.{codesOf}
+use Rattle.macroblock_symbols.specs.declared.vectors.Vectors.{Vectors}
 use Rattle.macroblock_symbols.specs.declared.vectors.VectorsAnswer.{VectorsAnswer}
 use Rattle.macroblock_symbols.specs.declared.vectors.VectorsAnswer.the-variants.{Legal, Refused}
-
--- "Type is a sum of 1 scale given, 2 forward, 4 backward, 8 pattern, 16 intra": whether a part is in the sum
-abbrev pub gives : ℕ → ℕ → Bool
-gives flags part = eqb (flags / part % 2) 1
 
 abbrev pub noCode : VectorCode
 noCode = record { code = pos 0; residual = 0 }
@@ -24,18 +19,22 @@ noCode = record { code = pos 0; residual = 0 }
 abbrev pub noCodes : VectorCodes
 noCodes = record { horizontal = noCode; vertical = noCode }
 
--- the codes of one direction, and zeros where they are not given
-unfoldable pub givenCodes : Bool → ℕ → List ℕ → CodesAnswer
-givenCodes given f l = cond given (codesOf f l) (Codes.Legal noCodes (record { at = 0 }))
-
--- go on with the codes of a direction, or refuse
-abbrev pub codesThen : CodesAnswer → (VectorCodes → Cursor → VectorsAnswer) → VectorsAnswer
-codesThen (Codes.Legal codes cursor) rest = rest codes cursor
-codesThen (Codes.Refused refusal) rest = Refused refusal
+-- the codes of one direction, zeros where they are not given
+abbrev pub givenCodesOf : Bool → ℕ → Parser VectorCodes
+givenCodesOf present f = given present else noCodes read codesOf f
 
 -- "forward codes (..); backward codes"
-unfoldable pub vectorsOf : ℕ → ℕ → ℕ → List ℕ → VectorsAnswer
-vectorsOf flags forwardF backwardF l =
-    codesThen (givenCodes (gives flags 2) forwardF l) λ forward first.
-    codesThen (givenCodes (gives flags 4) backwardF (drop (first .at) l)) λ backward second.
-    Legal (record { forward = forward; backward = backward }) (record { at = first .at + second .at })
+unfoldable pub vectorsOf : ℕ → ℕ → ℕ → Parser Vectors
+vectorsOf flags forwardF backwardF =
+    givenCodesOf (givesForward flags) forwardF then λ forward.
+    givenCodesOf (givesBackward flags) backwardF then λ backward.
+    give (record { forward = forward; backward = backward })
+
+-- ---- what the reader answers. The refusal of a legal answer is never asked for
+abbrev pub vectorsFound : VectorsAnswer → Found Vectors
+vectorsFound (Legal vectors cursor) = value vectors (cursor .at)
+vectorsFound (Refused refusal) = stopped refusal
+
+abbrev pub vectorsRefusal : VectorsAnswer → Refusal
+vectorsRefusal (Legal vectors cursor) = Refusal.VectorCode
+vectorsRefusal (Refused refusal) = refusal

@@ -1,24 +1,33 @@
-// The symbols of a macroblock record, whole (kind 4): head, vectors, pattern, blocks.
+// A macroblock record (kind 4): its symbols before the blocks, and its blocks.
 pub mod vectors;
 
 ghost use mathlib.Core.Path.{_≡_};
-ghost use mathlib.Core.Bool.{true};
-ghost use Rattle.symbols.specs.Slice.{legalScale};
-ghost use Rattle.blocks.specs.Blocks.{LegalPasts, BlocksCoded};
-ghost use Rattle.macroblock_symbols.specs.MacroblockSymbols.{legalPattern, patternOf, resetPasts, startingPasts, pastsAfter, codedBlocksOf, residueOf, afterHeadOf, LegalContext, symbolsOf, coefficientsOf};
+ghost use Prim.Native.Nat.{_≤_};
+ghost use lib.IntN.{pos};
+ghost use lib.ListN.{replicate};
+ghost use Rattle.parsed.specs.Parsed.{Finds};
+ghost use Rattle.format3.specs.Field.{testedFound};
+ghost use Rattle.blocks.specs.Blocks.{LegalPasts};
+ghost use Rattle.blocks.specs.Stored.{decodedFound};
+ghost use Rattle.macroblock_symbols.specs.Macroblock.{legalPattern, patternOf, codedPatternOf, symbolsOf, symbolsFound, symbolsRefusal, resetPasts, startingPasts};
+ghost use Rattle.matrices.specs.Matrix.{matricesOf};
+ghost use Rattle.macroblock_symbols.specs.Decoding.{scaleAfter, decodingBlocksOf, pastsLeft};
 use crate::vectors::VectorsAnswer;
-use blocks::BlockAnswer;
-use blocks::BlocksCoding;
-use blocks::DcPasts;
+use blocks::blocks::BlocksAnswer;
+use blocks::blocks::BlocksCoding;
+use blocks::dc::DcPasts;
+use format3::field;
 use format3::field::ByteField;
 use format3::field::Cursor;
-use matrices::Matrices;
+use format3::field::TestedByte;
 use refusals::Refusal;
+use symbols::macroblock_head;
 use symbols::macroblock_head::HeadAnswer;
 use symbols::macroblock_head::HeadContext;
-use symbols::macroblock_head::INTRA;
-use symbols::macroblock_head::MacroblockHead;
-use symbols::macroblock_head::PATTERN;
+use symbols::macroblock_type;
+use symbols::macroblock_type::INTRA;
+use symbols::macroblock_type::PATTERN;
+use symbols::macroblock_type::SCALE_GIVEN;
 use symbols::vector_codes::VectorCodes;
 
 const ALL_BLOCKS: u8 = 63;
@@ -34,7 +43,7 @@ pub struct MacroblockContext {
     pub dc: DcPasts,
 }
 
-// The symbols but for the coefficients; the codes are zeros where they are not given, and the pattern is 63 in an intra macroblock.
+// The symbols before the blocks. The scale and the codes are 0 where they are not given; the pattern is that of the coded blocks.
 pub struct MacroblockSymbols {
     pub flags: u8,
     pub increment: u16,
@@ -42,22 +51,16 @@ pub struct MacroblockSymbols {
     pub forward: VectorCodes,
     pub backward: VectorCodes,
     pub pattern: u8,
+}
+
+// The symbols, and the DC pasts that the macroblock leaves.
+pub struct DecodedMacroblock {
+    pub symbols: MacroblockSymbols,
     pub dc: DcPasts,
 }
 
-pub enum PatternAnswer {
-    Legal(u8, Cursor),
-    Refused(Refusal),
-}
-
-// The pattern, and the DC pasts after the macroblock.
-pub enum ResidueAnswer {
-    Legal(u8, DcPasts),
-    Refused(Refusal),
-}
-
 pub enum SymbolsAnswer {
-    Legal(MacroblockSymbols),
+    Legal(MacroblockSymbols, Cursor),
     Refused(Refusal),
 }
 
@@ -70,23 +73,85 @@ fn legal_pattern(pattern: u8) -> bool
     pattern <= ALL_BLOCKS
 }
 
-// The pattern (15), where the type says that one is given.
-fn read_pattern(rest: &[u8], flags: u8) -> PatternAnswer
-    ensures { λ r. ⌜ r ≡ patternOf flags (now (rest .entry)) ⌝ }
+// A pattern (15).
+fn read_pattern(rest: &[u8]) -> TestedByte
+    ensures { λ r. ⌜ Finds patternOf (now (rest .entry)) (testedFound r) ⌝ }
 {
-    if crate::vectors::gives_part(flags, INTRA) {
-        return PatternAnswer::Legal(ALL_BLOCKS, Cursor { at: 0 });
-    }
-    if !crate::vectors::gives_part(flags, PATTERN) {
-        return PatternAnswer::Legal(0, Cursor { at: 0 });
-    }
-    let ByteField::Value(pattern, _) = format3::field::read_u8(rest) else {
-        return PatternAnswer::Refused(Refusal::BodyLength);
+    let ByteField::Value(pattern, cursor) = field::read_u8(rest) else {
+        return TestedByte::Refused(Refusal::BodyLength);
     };
     if !legal_pattern(pattern) {
-        return PatternAnswer::Refused(Refusal::Pattern);
+        return TestedByte::Refused(Refusal::Pattern);
     }
-    PatternAnswer::Legal(pattern, Cursor { at: 1 })
+    TestedByte::Legal(pattern, cursor)
+}
+
+// Which blocks are coded: all of an intra macroblock, else those of the pattern, where the type says that one is given.
+fn read_coded_pattern(rest: &[u8], flags: u8) -> TestedByte
+    ensures { λ r. ⌜ Finds (codedPatternOf flags) (now (rest .entry)) (testedFound r) ⌝ }
+{
+    if macroblock_type::gives_part(flags, INTRA) {
+        return TestedByte::Legal(ALL_BLOCKS, Cursor { at: 0 });
+    }
+    if !macroblock_type::gives_part(flags, PATTERN) {
+        return TestedByte::Legal(0, Cursor { at: 0 });
+    }
+    read_pattern(rest)
+}
+
+// The symbols before the blocks: the head, the vectors' codes, the pattern.
+pub fn read_symbols(body: &[u8], context: MacroblockContext) -> SymbolsAnswer
+    ensures { λ r. ⌜ Finds (symbolsOf context) (now (body .entry)) (symbolsFound r) ⌝ }
+{
+    let start = macroblock_head::read_head(body, context.head);
+    let HeadAnswer::Legal(head, after_head) = start else {
+        return SymbolsAnswer::Refused(macroblock_head::head_refusal(start));
+    };
+    let head_end = after_head.at;
+    let rest = &body[head_end..];
+    let codes = vectors::read_vectors(rest, head.flags, context.forward_f, context.backward_f);
+    let VectorsAnswer::Legal(vectors, after_codes) = codes else {
+        return SymbolsAnswer::Refused(vectors::vectors_refusal(codes));
+    };
+    let codes_end = after_codes.at;
+    let coded = read_coded_pattern(&rest[codes_end..], head.flags);
+    let TestedByte::Legal(pattern, after_pattern) = coded else {
+        return SymbolsAnswer::Refused(field::tested_refusal(coded));
+    };
+    let forward = vectors.forward;
+    let backward = vectors.backward;
+    let at = head_end + (codes_end + after_pattern.at);
+    SymbolsAnswer::Legal(
+        MacroblockSymbols {
+            flags: head.flags,
+            increment: head.increment,
+            scale: head.scale,
+            forward,
+            backward,
+            pattern,
+        },
+        Cursor { at },
+    )
+}
+
+// The refusal of symbols that are not legal.
+pub fn symbols_refusal(answer: SymbolsAnswer) -> Refusal
+    ensures { λ r. ⌜ r ≡ symbolsRefusal answer ⌝ }
+{
+    match answer {
+        SymbolsAnswer::Legal(_, _) => Refusal::BodyLength,
+        SymbolsAnswer::Refused(refusal) => refusal,
+    }
+}
+
+// The scale that holds from a macroblock on: its own, or the one before it.
+pub fn scale_after(before: u8, symbols: MacroblockSymbols) -> u8
+    ensures { λ r. ⌜ r ≡ scaleAfter before symbols ⌝ }
+{
+    if macroblock_type::gives_part(symbols.flags, SCALE_GIVEN) {
+        return symbols.scale;
+    }
+    before
 }
 
 // The DC pasts at a slice's start.
@@ -101,7 +166,7 @@ pub fn reset_pasts() -> DcPasts
 }
 
 // The pasts that a macroblock starts from: reset by a skipped one before it.
-fn starting_pasts(dc: DcPasts, increment: u16) -> DcPasts
+pub fn starting_pasts(dc: DcPasts, increment: u16) -> DcPasts
     ensures { λ r. ⌜ r ≡ startingPasts dc increment ⌝ }
 {
     if 1 < increment {
@@ -111,8 +176,8 @@ fn starting_pasts(dc: DcPasts, increment: u16) -> DcPasts
 }
 
 // The pasts that a macroblock leaves: reset by one that is not intra.
-fn pasts_after(intra: bool, running: DcPasts) -> DcPasts
-    ensures { λ r. ⌜ r ≡ pastsAfter intra running ⌝ }
+pub fn pasts_left(intra: bool, running: DcPasts) -> DcPasts
+    ensures { λ r. ⌜ r ≡ pastsLeft intra running ⌝ }
 {
     if intra {
         return running;
@@ -120,114 +185,32 @@ fn pasts_after(intra: bool, running: DcPasts) -> DcPasts
     reset_pasts()
 }
 
-// The blocks, with the matrix that the macroblock's kind uses: the other is not copied.
-fn read_coded_blocks(
+// The blocks of a macroblock, into zeros; after them no byte is left (6). `scale` and `dc` are what holds for it.
+pub fn read_whole_blocks<'m>(
     rest: &[u8],
-    coding: BlocksCoding,
+    symbols: MacroblockSymbols,
+    scale: u8,
     dc: DcPasts,
-    matrices: Matrices,
+    intra: &'m [u8; 64],
+    non_intra: &'m [u8; 64],
     coefficients: &mut [i16; 384],
-) -> BlockAnswer
-    requires { ⌜ LegalPasts dc × BlocksCoded coding ⌝ }
-    ensures { λ r. ⌜ r ≡ codedBlocksOf coding (matrices .intra) (matrices .«non_intra») dc (now (rest .entry)) .answer ⌝ }
-    ensures { λ r. ⌜ now (coefficients .exit) ≡ codedBlocksOf coding (matrices .intra) (matrices .«non_intra») dc (now (rest .entry)) .store (now (coefficients .entry)) ⌝ }
+) -> BlocksAnswer
+    requires { ⌜ LegalPasts dc × (scale ≤ 31) × (now coefficients ≡ replicate 384 (pos 0)) ⌝ }
+    ensures { λ r. ⌜ Finds (decodingBlocksOf symbols scale (matricesOf (now (intra .entry)) (now («non_intra» .entry))) dc) (now (rest .entry)) (decodedFound r (now (coefficients .exit))) ⌝ }
 {
-    if coding.intra {
-        let intra = matrices.intra;
-        return blocks::read_blocks(rest, dc, coding, &intra, coefficients);
+    let is_intra = macroblock_type::gives_part(symbols.flags, INTRA);
+    let coding = BlocksCoding {
+        pattern: symbols.pattern,
+        intra: is_intra,
+        scale,
+    };
+    let matrix = matrices::matrix_for(is_intra, intra, non_intra);
+    let answer = blocks::blocks::read_blocks(rest, dc, coding, matrix, coefficients);
+    let BlocksAnswer::Legal(_, end) = answer else {
+        return answer;
+    };
+    if end.at < rest.len() {
+        return BlocksAnswer::Refused(Refusal::BodyLength);
     }
-    let non_intra = matrices.non_intra;
-    blocks::read_blocks(rest, dc, coding, &non_intra, coefficients)
-}
-
-// The pattern and the blocks, after which no byte is left (6).
-fn read_residue(
-    rest: &[u8],
-    head: MacroblockHead,
-    dc: DcPasts,
-    matrices: Matrices,
-    coefficients: &mut [i16; 384],
-) -> ResidueAnswer
-    requires { ⌜ LegalPasts dc × (legalScale (head .scale) ≡ true) ⌝ }
-    ensures { λ r. ⌜ r ≡ residueOf head (matrices .intra) (matrices .«non_intra») dc (now (rest .entry)) .answer ⌝ }
-    ensures { λ r. ⌜ now (coefficients .exit) ≡ residueOf head (matrices .intra) (matrices .«non_intra») dc (now (rest .entry)) .store (now (coefficients .entry)) ⌝ }
-{
-    let intra = crate::vectors::gives_part(head.flags, INTRA);
-    match read_pattern(rest, head.flags) {
-        PatternAnswer::Refused(refusal) => ResidueAnswer::Refused(refusal),
-        PatternAnswer::Legal(pattern, cursor) => {
-            let blocks = format3::field::after(rest, cursor.at);
-            let coding = BlocksCoding {
-                pattern,
-                intra,
-                scale: head.scale,
-            };
-            match read_coded_blocks(blocks, coding, dc, matrices, coefficients) {
-                BlockAnswer::Refused(refusal) => ResidueAnswer::Refused(refusal),
-                BlockAnswer::Legal(running, end) => {
-                    if end.at < blocks.len() {
-                        return ResidueAnswer::Refused(Refusal::BodyLength);
-                    }
-                    ResidueAnswer::Legal(pattern, pasts_after(intra, running))
-                }
-            }
-        }
-    }
-}
-
-// What follows the head: the vectors, then the residue.
-fn read_after_head(
-    rest: &[u8],
-    head: MacroblockHead,
-    context: MacroblockContext,
-    matrices: Matrices,
-    coefficients: &mut [i16; 384],
-) -> SymbolsAnswer
-    requires { ⌜ (legalScale (head .scale) ≡ true) × LegalContext context ⌝ }
-    ensures { λ r. ⌜ r ≡ afterHeadOf context head (matrices .intra) (matrices .«non_intra») (now (rest .entry)) .answer ⌝ }
-    ensures { λ r. ⌜ now (coefficients .exit) ≡ afterHeadOf context head (matrices .intra) (matrices .«non_intra») (now (rest .entry)) .store (now (coefficients .entry)) ⌝ }
-{
-    match crate::vectors::read_vectors(rest, head.flags, context.forward_f, context.backward_f) {
-        VectorsAnswer::Refused(refusal) => SymbolsAnswer::Refused(refusal),
-        VectorsAnswer::Legal(vectors, cursor) => {
-            let left = format3::field::after(rest, cursor.at);
-            let dc = starting_pasts(context.dc, head.increment);
-            match read_residue(left, head, dc, matrices, coefficients) {
-                ResidueAnswer::Refused(refusal) => SymbolsAnswer::Refused(refusal),
-                ResidueAnswer::Legal(pattern, dc_after) => {
-                    let forward = vectors.forward;
-                    let backward = vectors.backward;
-                    SymbolsAnswer::Legal(MacroblockSymbols {
-                        flags: head.flags,
-                        increment: head.increment,
-                        scale: head.scale,
-                        forward,
-                        backward,
-                        pattern,
-                        dc: dc_after,
-                    })
-                }
-            }
-        }
-    }
-}
-
-// The body of a macroblock record. Its coefficients are stored into the 384 lent, block after block, on what stands there.
-pub fn read_macroblock(
-    body: &[u8],
-    context: MacroblockContext,
-    matrices: Matrices,
-    coefficients: &mut [i16; 384],
-) -> SymbolsAnswer
-    requires { ⌜ LegalContext context ⌝ }
-    ensures { λ r. ⌜ r ≡ symbolsOf context (matrices .intra) (matrices .«non_intra») (now (body .entry)) ⌝ }
-    ensures { λ r. ⌜ now (coefficients .exit) ≡ coefficientsOf context (matrices .intra) (matrices .«non_intra») (now (body .entry)) (now (coefficients .entry)) ⌝ }
-{
-    match symbols::macroblock_head::read_head(body, context.head) {
-        HeadAnswer::Refused(refusal) => SymbolsAnswer::Refused(refusal),
-        HeadAnswer::Legal(head, cursor) => {
-            let rest = format3::field::after(body, cursor.at);
-            read_after_head(rest, head, context, matrices, coefficients)
-        }
-    }
+    answer
 }

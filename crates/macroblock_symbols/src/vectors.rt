@@ -1,11 +1,15 @@
 // The codes of a macroblock's vectors, in the directions that its type gives.
 ghost use mathlib.Core.Path.{_≡_};
-ghost use Prim.Native.Nat.{_<_};
-ghost use Rattle.macroblock_symbols.specs.Vectors.{gives, givenCodes, vectorsOf};
+ghost use Rattle.parsed.specs.Parsed.{Finds};
+ghost use Rattle.symbols.specs.VectorCodes.{codesFound};
+ghost use Rattle.macroblock_symbols.specs.Vectors.{givenCodesOf, vectorsOf, vectorsFound, vectorsRefusal};
+use format3::field;
 use format3::field::Cursor;
 use refusals::Refusal;
-use symbols::macroblock_head::BACKWARD;
-use symbols::macroblock_head::FORWARD;
+use symbols::macroblock_type;
+use symbols::macroblock_type::BACKWARD;
+use symbols::macroblock_type::FORWARD;
+use symbols::vector_codes;
 use symbols::vector_codes::CodesAnswer;
 use symbols::vector_codes::VectorCode;
 use symbols::vector_codes::VectorCodes;
@@ -20,20 +24,12 @@ pub enum VectorsAnswer {
     Refused(Refusal),
 }
 
-// Whether a part, as FORWARD, stands in the sum that a macroblock's type is.
-pub fn gives_part(flags: u8, part: u8) -> bool
-    requires { ⌜ 0 < part ⌝ }
-    ensures { λ r. ⌜ r ≡ gives flags part ⌝ }
-{
-    flags / part % 2 == 1
-}
-
 // The codes of one direction; zeros where they are not given.
 fn read_given(rest: &[u8], given: bool, f: u32) -> CodesAnswer
-    ensures { λ r. ⌜ r ≡ givenCodes given f (now (rest .entry)) ⌝ }
+    ensures { λ r. ⌜ Finds (givenCodesOf given f) (now (rest .entry)) (codesFound r) ⌝ }
 {
     if given {
-        return symbols::vector_codes::read_codes(rest, f);
+        return vector_codes::read_codes(rest, f);
     }
     let none = VectorCode {
         code: 0,
@@ -49,20 +45,32 @@ fn read_given(rest: &[u8], given: bool, f: u32) -> CodesAnswer
 }
 
 // The forward codes, then the backward ones, where f is 2^(f_code - 1) of each direction.
-pub fn read_vectors(rest: &[u8], flags: u8, forward_f: u32, backward_f: u32) -> VectorsAnswer
-    ensures { λ r. ⌜ r ≡ vectorsOf flags «forward_f» «backward_f» (now (rest .entry)) ⌝ }
+pub(crate) fn read_vectors(rest: &[u8], flags: u8, forward_f: u32, backward_f: u32) -> VectorsAnswer
+    ensures { λ r. ⌜ Finds (vectorsOf flags «forward_f» «backward_f») (now (rest .entry)) (vectorsFound r) ⌝ }
 {
-    match read_given(rest, gives_part(flags, FORWARD), forward_f) {
-        CodesAnswer::Refused(refusal) => VectorsAnswer::Refused(refusal),
-        CodesAnswer::Legal(forward, first) => {
-            let left = format3::field::after(rest, first.at);
-            match read_given(left, gives_part(flags, BACKWARD), backward_f) {
-                CodesAnswer::Refused(refusal) => VectorsAnswer::Refused(refusal),
-                CodesAnswer::Legal(backward, second) => {
-                    let at = first.at + second.at;
-                    VectorsAnswer::Legal(Vectors { forward, backward }, Cursor { at })
-                }
-            }
-        }
+    let forward_codes = read_given(rest, macroblock_type::gives_part(flags, FORWARD), forward_f);
+    let CodesAnswer::Legal(forward, first) = forward_codes else {
+        return VectorsAnswer::Refused(vector_codes::codes_refusal(forward_codes));
+    };
+    let left = field::after(rest, first.at);
+    let backward_codes = read_given(
+        left,
+        macroblock_type::gives_part(flags, BACKWARD),
+        backward_f,
+    );
+    let CodesAnswer::Legal(backward, second) = backward_codes else {
+        return VectorsAnswer::Refused(vector_codes::codes_refusal(backward_codes));
+    };
+    let at = first.at + second.at;
+    VectorsAnswer::Legal(Vectors { forward, backward }, Cursor { at })
+}
+
+// The refusal of codes that are not legal.
+pub(crate) fn vectors_refusal(answer: VectorsAnswer) -> Refusal
+    ensures { λ r. ⌜ r ≡ vectorsRefusal answer ⌝ }
+{
+    match answer {
+        VectorsAnswer::Legal(_, _) => Refusal::VectorCode,
+        VectorsAnswer::Refused(refusal) => refusal,
     }
 }

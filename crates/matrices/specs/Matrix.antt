@@ -10,14 +10,16 @@ use Rattle.tables.specs.Tables.{zigzag, defaultIntra, defaultNonIntra}
 use Rattle.refusals.specs.declared.Refusal.the-variants as Refusal
 use Rattle.matrices.specs.declared.Matrices.{Matrices}
 use Rattle.matrices.specs.declared.Loaded.{Loaded}
-use Rattle.matrices.specs.declared.MatrixAnswer.{MatrixAnswer}
 use Rattle.format3.specs.declared.verdict.Verdict.{Verdict}
 use Rattle.format3.specs.declared.verdict.Verdict.the-variants.{Passed, Refused}
-use Rattle.format3.specs.Chain.{only, _$_}
+use Rattle.parsed.specs.Guard.{need_else_then_}
+
+abbrev pub matricesOf : List ℕ → List ℕ → Matrices
+matricesOf intra nonIntra = record { intra = intra; «non_intra» = nonIntra }
 
 -- "without it the standard's default does"
 abbrev pub defaultMatrices : Matrices
-defaultMatrices = record { intra = defaultIntra; «non_intra» = defaultNonIntra }
+defaultMatrices = matricesOf defaultIntra defaultNonIntra
 
 -- "which (0 intra, 1 non-intra), then 64 weights in zigzag order"
 abbrev pub whichOf : List ℕ → ℕ
@@ -41,32 +43,30 @@ loadedAlready which loaded = cond (eqb which 0) (loaded .intra) (loaded .«non_i
 -- "Kind 2, matrix, 65 bytes": 6, then 9: "matrix first tests which, then given twice"
 unfoldable pub verdictOf : List ℕ → Loaded → Verdict
 verdictOf body loaded =
-    only (eqb (length body) 65) (Refused Refusal.BodyLength) $
-    only (leb (whichOf body) 1) (Refused Refusal.Matrix) $
-    only (not (loadedAlready (whichOf body) loaded)) (Refused Refusal.Matrix) $
-    only (positive (weightsOf body)) (Refused Refusal.Matrix) $
-    only (legalFirst (whichOf body) (getD body 1 0)) (Refused Refusal.Matrix) $
+    need eqb (length body) 65 else Refused Refusal.BodyLength then
+    need leb (whichOf body) 1 else Refused Refusal.Matrix then
+    need not (loadedAlready (whichOf body) loaded) else Refused Refusal.Matrix then
+    need positive (weightsOf body) else Refused Refusal.Matrix then
+    need legalFirst (whichOf body) (getD body 1 0) else Refused Refusal.Matrix then
     Passed
 
 -- each weight at the place of its position in zigzag order
 unfoldable pub placed : List ℕ → List ℕ
 placed weights = scatter (λ k. getD zigzag k 0) (λ k. getD weights k 0) 64 (replicate 64 0)
 
--- "It holds for this picture only": the matrix that the record names, in the place of the one that held
-abbrev pub loadedWith : ℕ → List ℕ → Matrices → Matrices
-loadedWith which matrix m = record { intra = cond (eqb which 0) matrix (m .intra); «non_intra» = cond (eqb which 0) (m .«non_intra») matrix }
+-- "It holds for this picture only": the matrix that a record names, in the place of the one that held
+abbrev pub loadedWith : List ℕ → Matrices → Matrices
+loadedWith body m =
+    let which = whichOf body in
+    let matrix = placed (weightsOf body) in
+    matricesOf (cond (eqb which 0) matrix (m .intra)) (cond (eqb which 0) (m .«non_intra») matrix)
 
-abbrev pub nowLoaded : ℕ → Loaded → Loaded
-nowLoaded which l = record { intra = cond (eqb which 0) true (l .intra); «non_intra» = cond (eqb which 0) (l .«non_intra») true }
+-- and it is loaded from then on
+abbrev pub nowLoaded : List ℕ → Loaded → Loaded
+nowLoaded body l =
+    let which = whichOf body in
+    record { intra = cond (eqb which 0) true (l .intra); «non_intra» = cond (eqb which 0) (l .«non_intra») true }
 
--- a refused record changes nothing
-abbrev pub answerOf : Verdict → List ℕ → Matrices → Loaded → MatrixAnswer
-answerOf Passed body m l = record {
-  verdict = Passed;
-  matrices = loadedWith (whichOf body) (placed (weightsOf body)) m;
-  loaded = nowLoaded (whichOf body) l;
-}
-answerOf (Refused refusal) body m l = record { verdict = Refused refusal; matrices = m; loaded = l }
-
-unfoldable pub matrixOf : List ℕ → Matrices → Loaded → MatrixAnswer
-matrixOf body m l = answerOf (verdictOf body l) body m l
+-- the matrix that holds for a macroblock
+abbrev pub matrixFor : Bool → Matrices → List ℕ
+matrixFor intra m = cond intra (m .intra) (m .«non_intra»)

@@ -1,7 +1,8 @@
 // The quantizer matrices of a picture, and the record that loads one (kind 2). A weight stands at its coefficient's place, 8 × row + column.
 ghost use mathlib.Core.Path.{_≡_};
+ghost use Prim.Native.Nat.{_<_};
 ghost use lib.ListN.{length};
-ghost use Rattle.matrices.specs.Matrix.{defaultMatrices, positive, legalFirst, loadedAlready, verdictOf, placed, matrixOf};
+ghost use Rattle.matrices.specs.Matrix.{defaultMatrices, positive, legalFirst, loadedAlready, verdictOf, placed, loadedWith, nowLoaded, matricesOf, matrixFor};
 use format3::verdict::Verdict;
 use refusals::Refusal;
 
@@ -22,13 +23,6 @@ pub struct Matrices {
 pub struct Loaded {
     pub intra: bool,
     pub non_intra: bool,
-}
-
-// The verdict, with the matrices that hold from now on.
-pub struct MatrixAnswer {
-    pub verdict: Verdict,
-    pub matrices: Matrices,
-    pub loaded: Loaded,
 }
 
 // The standard's default matrices.
@@ -74,7 +68,7 @@ fn loaded_already(which: u8, loaded: Loaded) -> bool
 }
 
 // The body's length (6); which matrix, whether it was loaded before, and its weights (9).
-fn matrix_verdict(body: &[u8], loaded: Loaded) -> Verdict
+pub fn matrix_verdict(body: &[u8], loaded: Loaded) -> Verdict
     ensures { λ r. ⌜ r ≡ verdictOf (now (body .entry)) loaded ⌝ }
 {
     if body.len() != LENGTH {
@@ -110,43 +104,49 @@ fn place_weights(weights: &[u8]) -> [u8; 64]
     matrix
 }
 
-// The body of a matrix record: the matrix that it loads takes the place of the one that held.
-pub fn read_matrix(body: &[u8], matrices: Matrices, loaded: Loaded) -> MatrixAnswer
-    ensures { λ r. ⌜ r ≡ matrixOf (now (body .entry)) matrices loaded ⌝ }
+// What is loaded after a matrix record that passed.
+pub fn mark_loaded(body: &[u8], loaded: Loaded) -> Loaded
+    requires { ⌜ 0 < length (now body) ⌝ }
+    ensures { λ r. ⌜ r ≡ nowLoaded (now (body .entry)) loaded ⌝ }
 {
-    let verdict = matrix_verdict(body, loaded);
-    let Verdict::Passed = verdict else {
-        return MatrixAnswer {
-            verdict,
-            matrices,
-            loaded,
+    if body[0] == INTRA {
+        return Loaded {
+            intra: true,
+            ..loaded
         };
-    };
+    }
+    Loaded {
+        non_intra: true,
+        ..loaded
+    }
+}
+
+// The matrices after a matrix record that passed: the one that it loads takes the place of the one that held.
+pub fn load_matrix(body: &[u8], matrices: Matrices) -> Matrices
+    requires { ⌜ length (now body) ≡ 65 ⌝ }
+    ensures { λ r. ⌜ r ≡ loadedWith (now (body .entry)) matrices ⌝ }
+{
     let weights = place_weights(format3::field::after(body, 1));
     if body[0] == INTRA {
-        let kept = matrices.non_intra;
-        return MatrixAnswer {
-            verdict: Verdict::Passed,
-            matrices: Matrices {
-                intra: weights,
-                non_intra: kept,
-            },
-            loaded: Loaded {
-                intra: true,
-                non_intra: loaded.non_intra,
-            },
+        let non_intra = matrices.non_intra;
+        return Matrices {
+            intra: weights,
+            non_intra,
         };
     }
-    let kept = matrices.intra;
-    MatrixAnswer {
-        verdict: Verdict::Passed,
-        matrices: Matrices {
-            intra: kept,
-            non_intra: weights,
-        },
-        loaded: Loaded {
-            intra: loaded.intra,
-            non_intra: true,
-        },
+    let intra = matrices.intra;
+    Matrices {
+        intra,
+        non_intra: weights,
     }
+}
+
+// The matrix that a macroblock uses.
+pub fn matrix_for<'m>(is_intra: bool, intra: &'m [u8; 64], non_intra: &'m [u8; 64]) -> &'m [u8; 64]
+    ensures { λ r. ⌜ now r ≡ matrixFor «is_intra» (matricesOf (now (intra .entry)) (now («non_intra» .entry))) ⌝ }
+{
+    if is_intra {
+        return intra;
+    }
+    non_intra
 }

@@ -2,7 +2,7 @@
 -- floor of half with the odd bit. Assumes nothing.
 use mathlib.Core.Path.{_≡_, refl, ap}
 use mathlib.Core.Bool.{Bool, true, false}
-use Prim.Native.Nat.{ℕ, suc, _+_, _*_, _/_, _%_, _≤_, _<_}
+use Prim.Native.Nat.{ℕ, suc, _+_, _*_, _/_, _%_, _≤_}
 use native.Mathlib.Omega.{arith}
 use lib.IntN.{ℤ, pos, negsuc, negℤ, natAbs, _+ℤ_, _-ℤ_, _*ℤ_}
 use lib.Signed.{ltZ, _≤ℤ_}
@@ -10,6 +10,7 @@ use Rattle.integers.proofs.Compare.{tests}
 use Rattle.integers.proofs.Difference.{up, dn, of-le, le-of, same-of, parts-add, parts-neg, parts-mul}
 use Rattle.integers.proofs.Limit.{range-between}
 use Rattle.motion.specs.Fit.{pointed, halfPelPlace, vectorFits, macroblockFits}
+use Rattle.motion.specs.Theorems.{PlacesInHalfPels, ChromaFits}
 use Rattle.motion.specs.Vector.{wholePels, oddBit, chromaVector}
 use Rattle.motion.proofs.VectorLaws.{both-true}
 
@@ -19,7 +20,7 @@ pub size-up : (z : ℤ) → pos 0 ≤ℤ z → pos (natAbs z) ≡ z
 size-up (pos n) h = refl
 size-up (negsuc n) h = absurd (omega (arith, of-le h))
 
-pub place-whole : (x : ℕ) (vector : ℤ) → pos 0 ≤ℤ pointed x vector → pos (halfPelPlace x vector / 2) ≡ pos x +ℤ wholePels vector
+place-whole : (x : ℕ) (vector : ℤ) → pos 0 ≤ℤ pointed x vector → pos (halfPelPlace x vector / 2) ≡ pos x +ℤ wholePels vector
 place-whole x (pos m) h = ap pos (omega arith)
 place-whole x (negsuc m) h = same-of _ _ (omega (arith, ap up e, ap dn e, parts-add (pos (2 * x)) (negsuc m), parts-add (pos x) (negsuc (m / 2))))
   where
@@ -32,6 +33,9 @@ place-odd x (negsuc m) h = omega (arith, ap up e, ap dn e, parts-add (pos (2 * x
   where
     e : pos (halfPelPlace x (negsuc m)) ≡ pointed x (negsuc m)
     e = size-up (pointed x (negsuc m)) h
+
+pub places : PlacesInHalfPels
+places x vector h = record { whole = place-whole x vector h; odd = place-odd x vector h }
 
 -- ---- the test and what it tells
 pub record Fits (side x width : ℕ) (vector : ℤ) : Type 0 where
@@ -62,26 +66,6 @@ fits-test side x width vector fit =
     let upper : pointed x vector ≤ℤ (pos 2 *ℤ (pos width -ℤ pos side)) = le-of _ _ (omega (arith, ap up size, ap dn size, fit .upper, last-parts width side)) in
     rw (not-above _ _ (fit .lower), not-above _ _ upper)
 
--- a block of 8 pels inside the macroblock fits at its own place
-pub block-fit : (side x width offset : ℕ) (vector : ℤ) → Fits side x width vector → offset + 8 ≤ side → Fits 8 (x + offset) width vector
-block-fit side x width offset vector fit inside = record { lower = lower; upper = omega (arith, ap up here, ap dn here, ap up first, ap dn first, parts, fit .upper) }
-  where
-    parts : up (pointed (x + offset) vector) + dn (pointed x vector) ≡ up (pointed x vector) + 2 * offset + dn (pointed (x + offset) vector)
-    parts = omega (arith, parts-add (pos (2 * x)) vector, parts-add (pos (2 * (x + offset))) vector)
-
-    first : pos (halfPelPlace x vector) ≡ pointed x vector
-    first = size-up (pointed x vector) (fit .lower)
-
-    lower : pos 0 ≤ℤ pointed (x + offset) vector
-    lower = le-of _ _ (omega (arith, of-le (fit .lower), parts))
-
-    here : pos (halfPelPlace (x + offset) vector) ≡ pointed (x + offset) vector
-    here = size-up (pointed (x + offset) vector) lower
-
--- every column that the prediction of a block reads is in the plane: 8 from its place on, and one more where that is odd
-pub pels-inside : {x width : ℕ} {vector : ℤ} (i right : ℕ) → Fits 8 x width vector → i < 8 → right ≤ halfPelPlace x vector % 2 → halfPelPlace x vector / 2 + i + right < width
-pels-inside i right fit h k = omega (arith, fit .upper)
-
 -- ---- "chroma then fits too": at half the place in a plane of half the width, with the halved vector
 chroma-fit : (x width : ℕ) (vector : ℤ) → Fits 16 (2 * x) (2 * width) vector → Fits 8 x width (chromaVector vector)
 chroma-fit x width (pos m) fit = record { lower = le-of _ _ (omega arith); upper = omega (arith, fit .upper) }
@@ -99,7 +83,7 @@ chroma-fit x width (negsuc m) fit = record { lower = lower; upper = omega (arith
     half : pos (halfPelPlace x (negℤ (pos (suc m / 2)))) ≡ pointed x (negℤ (pos (suc m / 2)))
     half = size-up (pointed x (negℤ (pos (suc m / 2)))) lower
 
-pub chroma-fits : (x width : ℕ) (vector : ℤ) → vectorFits 16 (2 * x) (2 * width) vector ≡ true → vectorFits 8 x width (chromaVector vector) ≡ true
+pub chroma-fits : ChromaFits
 chroma-fits x width vector e = fits-test 8 x width (chromaVector vector) (chroma-fit x width vector (fits-known 16 (2 * x) (2 * width) vector e))
 
 -- ---- the macroblock in a column and a row: what its luma blocks and its chroma blocks ask of their planes

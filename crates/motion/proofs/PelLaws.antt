@@ -62,11 +62,11 @@ module _ (side stride x y : ℕ) (some : 0 < side) (across : x + side ≤ stride
       let r : (y + k / side) * 1 ≤ (y + k / side) * stride = mul-le-mul-left (y + k / side) (omega arith) in
       record { line = omega arith; start = omega arith; inside = omega arith }
 
-  cell-line : (k : ℕ) → cell side stride x y k / stride ≡ y + k / side
+  pub cell-line : (k : ℕ) → cell side stride x y k / stride ≡ y + k / side
   unfolding cell
   cell-line k = digits-div (y + k / side) (omega (arith, mod-lt k some))
 
-  cell-column : (k : ℕ) → cell side stride x y k % stride ≡ x + k % side
+  pub cell-column : (k : ℕ) → cell side stride x y k % stride ≡ x + k % side
   unfolding cell
   cell-column k = digits-mod (y + k / side) (omega (arith, mod-lt k some))
 

@@ -10,14 +10,15 @@ use lib.Dec.{T, eqb, ltb, leb}
 use lib.IntN.{ℤ, pos, negsuc, negℤ, natAbs, _+ℤ_, _-ℤ_, _*ℤ_, zero-*ℤ}
 use lib.Signed.{ltZ}
 use lib.Pow.{pow-mono, pow-pos}
-use Rattle.integers.specs.Bound.{Within}
+use Rattle.integers.specs.Bound.{Within, Between}
 use Rattle.integers.specs.Limit.{eqZ, signOf}
 use Rattle.integers.proofs.Bound.{abs-parts, abs-le, within-add, within-mul, within-neg, within-literal, within-more, within-eq, within-cond, within-both}
 use Rattle.integers.proofs.Compare.{tests}
 use Rattle.integers.proofs.Difference.{up, dn, of-le, le-of, same-of, parts-add, parts-neg}
-use Rattle.integers.proofs.Limit.{Between, range-between, sign-within}
+use Rattle.integers.proofs.Limit.{range-between, between-range, sign-within}
 use Rattle.integers.proofs.Machine.{quot-le}
 use Rattle.integers.proofs.Solve.{solve-by, constant, _:*_, _:-_, X0}
+use Rattle.motion.specs.Theorems.{VectorsInRange}
 use Rattle.motion.specs.Vector.{factorOf, differenceOf, lowest, highest, wrapped, vectorOf, codeInRange, residualInRange, pastInRange, allInRange, usedVector, chromaVector}
 
 -- ---- a size with its sign, as the code works it out
@@ -128,7 +129,7 @@ wrapped-reach f sum reach =
     (λ high. record { lower = le-of _ _ (omega (arith, tests)); upper = le-of _ _ (omega (arith, tests)) }))
 
 -- the range law: where the past is in -16f..16f-1, so is the vector
-pub vector-between : (f residual : ℕ) (past code : ℤ) → Between (lowest (pos f)) (highest (pos f)) past → Within 16 code → residual < f
+vector-between : (f residual : ℕ) (past code : ℤ) → Between (lowest (pos f)) (highest (pos f)) past → Within 16 code → residual < f
     → Between (lowest (pos f)) (highest (pos f)) (vectorOf f past code residual)
 unfolding vectorOf
 vector-between f residual past code range p h =
@@ -214,9 +215,8 @@ all-known fCode past code residual e =
       residual-size = residual-known (factorOf fCode) code residual (factor-least fCode) (fourth .1);
     }
 
--- the vector that the entry gives is in -16f..16f-1, and may be given back to it as the past
-pub decoded-between : (fCode : ℕ) (past code : ℤ) (residual : ℕ) → allInRange fCode past code residual ≡ true
-    → Between (lowest (pos (factorOf fCode))) (highest (pos (factorOf fCode))) (vectorOf (factorOf fCode) past code residual)
-decoded-between fCode past code residual e =
+pub vectors-in-range : VectorsInRange
+unfolding pastInRange
+vectors-in-range fCode past code residual e =
     let known = all-known fCode past code residual e in
-    vector-between (factorOf fCode) residual past code (known .past-range) (known .code-size) (known .residual-size)
+    between-range (vector-between (factorOf fCode) residual past code (known .past-range) (known .code-size) (known .residual-size))

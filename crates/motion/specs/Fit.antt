@@ -9,7 +9,7 @@ abbrev pub pointed : ℕ → ℤ → ℤ
 pointed x vector = pos (2 * x) +ℤ vector
 
 -- the same as a place, where it is not before the first pel. Half of it is x plus the floor of half the vector, and its odd bit is the
--- vector's (`place-whole`, `place-odd`)
+-- vector's (`PlacesInHalfPels`)
 abbrev pub halfPelPlace : ℕ → ℤ → ℕ
 halfPelPlace x vector = natAbs (pointed x vector)
 

@@ -7,7 +7,7 @@ ghost use Rattle.integers.specs.Bound.{Within, AllWithin};
 ghost use Rattle.integers.specs.Limit.{limited};
 ghost use Rattle.motion.specs.Pel.{reconstructedPel, reconstructed, withSquare, withBlock};
 
-// A sum limited to 0..255, still of sixteen bits: so limited, sixteen of them become bytes in one instruction.
+// A sum limited to 0..255, still in sixteen bits: sixteen such sums become bytes in one instruction.
 fn limit_pel(sum: i16) -> i16
     ensures { λ r. ⌜ r ≡ limited (pos 0) (pos 255) sum ⌝ }
 {

@@ -1,4 +1,5 @@
-// Whether a vector fits, and where it points.
+// Whether a vector fits, and where it points. The bounds 65536 and 4096 are no rules: they are wider than any picture and any vector of document
+// 01, and no sum overflows within them.
 ghost use mathlib.Core.Path.{_≡_};
 ghost use Prim.Native.Nat.{_≤_};
 ghost use lib.IntN.{pos};

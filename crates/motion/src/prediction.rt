@@ -4,7 +4,7 @@ ghost use Prim.Native.Nat.{_+_, _*_, _/_, _%_, _≤_, _<_};
 ghost use lib.ListN.{length};
 ghost use Rattle.motion.specs.Prediction.{meanOf, pelAt, predictedPel, prediction, pelsOfSquare, meanOfBoth};
 
-// The mean of four pels, halves up. With two of them equal to the other two it is the mean of two, and of four equal ones the pel.
+// The mean of four pels, halves up.
 fn mean_of_four(a: u8, b: u8, c: u8, d: u8) -> u8
     ensures { λ r. ⌜ r ≡ meanOf 4 (a + b + c + d) ⌝ }
 {
@@ -18,7 +18,7 @@ fn mean_of_two(a: u8, b: u8) -> u8
     ((a as u32 + b as u32 + 1) / 2) as u8
 }
 
-// Pel k of the block at (px, py). Where one of them is odd it is the mean of two, whichever it is, so that one vector loop serves both cases; and where
+// Pel k of the block at (px, py). Where one of them is odd it is the mean of two, whichever it is, so that one SIMD loop serves both cases; and where
 // both are, of four.
 fn predict_pel(plane: &[u8], stride: usize, lines: usize, px: usize, py: usize, k: usize) -> u8
     requires { ⌜ (px + 16 ≤ 2 * stride) × (py + 16 ≤ 2 * lines) × (lines * stride ≤ length (now plane)) × (k < 64) ⌝ }

@@ -1,2 +1,3 @@
-pub mod Reading
 pub mod Pairs
+pub mod Coefficients
+pub mod Range

@@ -1,5 +1,7 @@
+pub mod RefusalLaws
 pub mod RecordLaws
-pub mod FreshLaws
 pub mod SoundLaws
-pub mod ReaderLaws
 pub mod StartLaws
+pub mod ReadLaws
+pub mod WriteLaws
+pub mod ReaderLaws

@@ -1,84 +1,128 @@
--- The loop over the records: what is left of the file, from the state and the output so far, gives the whole. Assumes nothing.
+-- The loop over the records: the macroblocks that are made so far, and what is left of the file, give the whole. Assumes nothing.
 use Prim.Native.Nat.{ℕ, zero, suc, _-_, _≤_, _<_}
-use mathlib.Core.List.{List}
-use mathlib.Core.Path.{_≡_, refl, sym, _∙_, subst}
+use mathlib.Core.List.{List, [], _++_, append-assoc, append-nil}
+use mathlib.Core.Path.{_≡_, refl, sym, ap, _∙_, subst}
 use native.Mathlib.Omega.{arith}
 use borrow.Author.Tests.{le-leb, lt-leb}
+use lib.IntN.{ℤ}
 use lib.ListN.{length}
-use Rattle.picture.proofs.SoundLaws.{borrowed-again, Kept, taken-kept, Ends, taken-ends}
-use Rattle.picture.specs.Picture.{Picture, refusedAt, ended, unlessRefused, runFrom}
-use Rattle.picture.specs.Sound.{BorrowedBy, Sound}
-use Rattle.picture.specs.Step.{Taken, takenAt}
-use Rattle.transform.specs.Transform.{inverseTransform}
 use Rattle.refusals.specs.declared.Refusal.{Refusal}
 use Rattle.format3.specs.declared.verdict.Verdict.the-variants.{Passed, Refused}
+use Rattle.matrices.specs.Matrix.{defaultMatrices}
+use Rattle.matrices.specs.declared.Matrices.{Matrices}
 use Rattle.picture_header.specs.declared.header.Header.{Header}
+use Rattle.macroblock.specs.Compensation.{References}
+use Rattle.macroblock.specs.Macroblock.{Made, withMacroblocks}
+use Rattle.macroblock.proofs.BlocksLaws.{macroblocks-none, macroblocks-both}
 use Rattle.picture_state.specs.declared.state.PictureState.{PictureState}
+use Rattle.picture.specs.MacroblockRecord.{written}
+use Rattle.picture.specs.Picture.{Answered, refusedAt, ended, followed, recordsFrom, recordsOf}
+use Rattle.picture.specs.Sound.{BorrowedBy, Sound}
+use Rattle.picture.specs.Step.{takenAt}
+use Rattle.picture.proofs.SoundLaws.{borrowed-again, taken-kept, taken-ends}
 
-module _ (file forward backward : List ℕ) where
-  -- the records from an offset on, by document 01's transform
-  abbrev pub ran : ℕ → ℕ → PictureState → List ℕ → Picture
-  ran fuel at s output = runFrom inverseTransform file forward backward fuel at s output
+-- ---- the records from an offset on, by what the first of them comes to
+module _ (file : List ℕ) (at : ℕ) (s : PictureState) (q : Matrices) where
+  pub none-left : (n : ℕ) → length file ≤ at → recordsFrom file n at s q ≡ ended file s
+  unfolding recordsFrom
+  none-left zero h = refl
+  none-left (suc n) h = rw (le-leb (length file) at h)
 
-  abbrev pub taken : ℕ → PictureState → List ℕ → Taken
-  taken at s output = takenAt inverseTransform file forward backward at s output
+  one-step : (n : ℕ) → at < length file → let t = takenAt file at s q in
+      recordsFrom file (suc n) at s q ≡ followed (t .acts .verdict) (λ refusal. refusedAt refusal at (s .made)) (t .acts .macroblocks) (recordsFrom file n (t .end) (t .acts .state) (t .matrices))
+  unfolding recordsFrom
+  one-step n h = rw (lt-leb (length file) at h)
 
-  pub record Whole (start : ℕ) (first : PictureState) (output₀ output : List ℕ) (at : ℕ) (s : PictureState) : Type 0 where
+  pub first-refused : {refusal : Refusal} (n : ℕ) → length file - at ≤ n → at < length file → takenAt file at s q .acts .verdict ≡ Refused refusal
+      → recordsFrom file n at s q ≡ record { answer = refusedAt refusal at (s .made); macroblocks = [] }
+  first-refused zero b h v = absurd (omega arith)
+  first-refused (suc n) b h v = one-step n h ∙ rw v
+
+  -- one that passes, and the records behind it
+  pub record Goes (n : ℕ) : Type 0 where
+    pub fuel : ℕ
+    pub enough : length file - takenAt file at s q .end ≤ fuel
+    pub answer : recordsFrom file n at s q .answer ≡ recordsFrom file fuel (takenAt file at s q .end) (takenAt file at s q .acts .state) (takenAt file at s q .matrices) .answer
+    pub macroblocks : recordsFrom file n at s q .macroblocks ≡ takenAt file at s q .acts .macroblocks ++ recordsFrom file fuel (takenAt file at s q .end) (takenAt file at s q .acts .state) (takenAt file at s q .matrices) .macroblocks
+
+  pub first-passes : (n : ℕ) → length file - at ≤ n → at < length file → takenAt file at s q .acts .verdict ≡ Passed → Goes n
+  first-passes zero b h v = absurd (omega arith)
+  first-passes (suc n) b h v =
+      let ends = taken-ends file at s q v in
+      let e = rw v at (one-step n h) in
+      record {
+        fuel = n;
+        enough = omega (arith, ends .beyond, ends .in-file);
+        answer = ap (λ (a : Answered). a .answer) e;
+        macroblocks = ap (λ (a : Answered). a .macroblocks) e;
+      }
+
+-- ---- the loop
+module _ (transform : List ℤ → ℕ → ℤ) (r : References) (file : List ℕ) where
+  pub record Whole (start : ℕ) (first : PictureState) (output₀ output : List ℕ) (at : ℕ) (s : PictureState) (q : Matrices) : Type 0 where
     pub fuel : ℕ
     pub enough : length file - at ≤ fuel
     pub in-file : at ≤ length file
     pub long : length output ≡ length output₀
-    pub sound : Sound s forward backward output
-    pub same : ran fuel at s output ≡ ran (length file) start first output₀
+    pub sound : Sound s (r .forward) (r .backward) output
+    pub header : s .header ≡ first .header
+    pub so-far : List Made
+    pub holds : output ≡ withMacroblocks transform r (first .header .size) so-far output₀
+    pub answer : recordsOf file start first .answer ≡ recordsFrom file fuel at s q .answer
+    pub macroblocks : recordsOf file start first .macroblocks ≡ so-far ++ recordsFrom file fuel at s q .macroblocks
 
-  pub whole-start : (start : ℕ) (first : PictureState) (output : List ℕ) → Sound first forward backward output → start ≤ length file → Whole start first output output start first
-  whole-start start first output p h = record { fuel = length file; enough = omega arith; in-file = h; long = refl; sound = p; same = refl }
+  pub whole-start : (start : ℕ) (first : PictureState) (output : List ℕ) → Sound first (r .forward) (r .backward) output → start ≤ length file → Whole start first output output start first defaultMatrices
+  whole-start start first output p h = record {
+    fuel = length file;
+    enough = omega arith;
+    in-file = h;
+    long = refl;
+    sound = p;
+    header = refl;
+    so-far = [];
+    holds = macroblocks-none transform r _ output;
+    answer = refl;
+    macroblocks = refl;
+  }
 
-  module _ {start : ℕ} {first : PictureState} {output₀ output : List ℕ} {at : ℕ} {s : PictureState} (w : Whole start first output₀ output at s) where
-    pub whole-done : length file ≤ at → ran (length file) start first output₀ ≡ ended file s output
-    unfolding runFrom
-    whole-done h = sym (w .same) ∙ go (w .fuel)
-      where
-        go : (n : ℕ) → ran n at s output ≡ ended file s output
-        go zero = refl
-        go (suc n) = rw (le-leb (length file) at h)
+  module _ {start : ℕ} {first : PictureState} {output₀ output : List ℕ} {at : ℕ} {s : PictureState} {q : Matrices} (w : Whole start first output₀ output at s q) where
+    -- nothing is made behind this
+    stopped : {a : Answered} → recordsFrom file (w .fuel) at s q ≡ a → a .macroblocks ≡ []
+        → (recordsOf file start first .answer ≡ a .answer) × (output ≡ withMacroblocks transform r (first .header .size) (recordsOf file start first .macroblocks) output₀)
+    stopped {a} e none = (
+      w .answer ∙ ap (λ (x : Answered). x .answer) e,
+      w .holds ∙ ap (λ (l : List Made). withMacroblocks transform r (first .header .size) l output₀) (sym (w .macroblocks ∙ rw (e, none, append-nil))),
+    )
 
-    one-step : (n : ℕ) → at < length file → let t = taken at s output in
-        ran (suc n) at s output ≡ unlessRefused (t .acts .verdict) (λ refusal. refusedAt refusal at (s .made) (t .acts .output)) (ran n (t .end) (t .acts .state) (t .acts .output))
-    unfolding runFrom
-    one-step n h = rw (lt-leb (length file) at h)
+    pub whole-done : length file ≤ at
+        → (recordsOf file start first .answer ≡ ended file s .answer) × (output ≡ withMacroblocks transform r (first .header .size) (recordsOf file start first .macroblocks) output₀)
+    whole-done h = stopped (none-left file at s q (w .fuel) h) refl
 
-    pub whole-refused : {refusal : Refusal} → at < length file → taken at s output .acts .verdict ≡ Refused refusal
-        → ran (length file) start first output₀ ≡ refusedAt refusal at (s .made) (taken at s output .acts .output)
-    whole-refused {refusal} h v = sym (w .same) ∙ go (w .fuel) (w .enough)
-      where
-        go : (n : ℕ) → length file - at ≤ n → ran n at s output ≡ refusedAt refusal at (s .made) (taken at s output .acts .output)
-        go zero b = absurd (omega arith)
-        go (suc n) b = one-step n h ∙ rw v
+    pub whole-refused : {refusal : Refusal} → at < length file → takenAt file at s q .acts .verdict ≡ Refused refusal
+        → (recordsOf file start first .answer ≡ refusedAt refusal at (s .made)) × (output ≡ withMacroblocks transform r (first .header .size) (recordsOf file start first .macroblocks) output₀)
+    whole-refused h v = stopped (first-refused file at s q (w .fuel) (w .enough) h v) refl
 
-    pub whole-next : at < length file → taken at s output .acts .verdict ≡ Passed → length (taken at s output .acts .output) ≡ length output
-        → Whole start first output₀ (taken at s output .acts .output) (taken at s output .end) (taken at s output .acts .state)
-    whole-next h v long = go (w .fuel) (w .enough) (w .same)
-      where
-        ends : Ends file at (taken at s output .end)
-        ends = taken-ends inverseTransform file forward backward at s output v
-
-        kept : Kept s (taken at s output .acts .state)
-        kept = taken-kept inverseTransform file forward backward at s output (w .sound .state) v
-
-        sound : Sound (taken at s output .acts .state) forward backward (taken at s output .acts .output)
-        sound = record {
-          state = kept .within;
-          lent = subst (λ (h : Header). BorrowedBy h forward backward (taken at s output .acts .output)) (sym (kept .header)) (borrowed-again (w .sound .lent) long);
-        }
-
-        go : (n : ℕ) → length file - at ≤ n → ran n at s output ≡ ran (length file) start first output₀ → Whole start first output₀ (taken at s output .acts .output) (taken at s output .end) (taken at s output .acts .state)
-        go zero b q = absurd (omega arith)
-        go (suc n) b q = record {
-          fuel = n;
-          enough = omega (arith, ends .beyond, ends .in-file);
+    pub whole-next : at < length file → takenAt file at s q .acts .verdict ≡ Passed → (next : List ℕ) → next ≡ written transform r s (takenAt file at s q .acts) output → length next ≡ length output
+        → Whole start first output₀ next (takenAt file at s q .end) (takenAt file at s q .acts .state) (takenAt file at s q .matrices)
+    whole-next h v next is long =
+        let t = takenAt file at s q in
+        let ends = taken-ends file at s q v in
+        let kept = taken-kept q s (w .sound .state) file at v in
+        let goes = first-passes file at s q (w .fuel) (w .enough) h v in
+        record {
+          fuel = goes .fuel;
+          enough = goes .enough;
           in-file = ends .in-file;
           long = long ∙ w .long;
-          sound = sound;
-          same = sym (one-step n h ∙ rw v) ∙ q;
+          sound = record {
+            state = kept .within;
+            lent = subst (λ (g : Header). BorrowedBy g (r .forward) (r .backward) next) (sym (kept .header)) (borrowed-again (w .sound .lent) long);
+          };
+          header = kept .header ∙ w .header;
+          so-far = w .so-far ++ t .acts .macroblocks;
+          holds =
+              is ∙ (λ i. withMacroblocks transform r (w .header i .size) (t .acts .macroblocks) (w .holds i))
+              ∙ sym (macroblocks-both transform r (first .header .size) (w .so-far) (t .acts .macroblocks) output₀);
+          answer = w .answer ∙ goes .answer;
+          macroblocks = w .macroblocks ∙ rw (goes .macroblocks, append-assoc);
         }

@@ -1,219 +1,227 @@
--- Every record that passes keeps the state in its ranges, and the header as it was. Assumes nothing.
-use Prim.Native.Nat.{ℕ, _≤_, _<_, zero-le}
-use mathlib.Core.Bool.{Bool, true, false, cond}
-use mathlib.Core.List.{List}
+-- Every record that passes keeps the state in its ranges and the header as it was, and makes macroblocks in order, with coefficients in range. Assumes nothing.
+use Prim.Native.Nat.{ℕ, _+_, _-_, _≤_, _<_, zero-le}
+use mathlib.Core.Bool.{Bool, true, false}
+use mathlib.Core.List.{List, [], _∷_}
 use mathlib.Core.Path.{_≡_, refl, sym, _∙_, subst}
+use native.Mathlib.Nat.{mul-pos}
 use native.Mathlib.Omega.{arith}
-use borrow.Author.Tests.{le-leb}
+use borrow.Author.Tests.{ne-eqb}
 use lib.Dec.{T, eqb}
-use lib.IntN.{ℤ}
-use lib.ListN.{length, take, drop}
-use Rattle.blocks.specs.Blocks.{legalDc}
-use Rattle.format3.proofs.Laws.Chain.{only-all}
-use Rattle.format3.proofs.Laws.Record.{Inside, inside}
-use Rattle.format3.specs.Record.{matrix, slice, recordOf}
+use lib.ListN.{length}
 use Rattle.integers.proofs.Bound.{within-literal}
-use Rattle.macroblock.specs.Compensation.{VectorWithin}
-use Rattle.macroblock_symbols.proofs.Laws.Macroblock.{SymbolsLegal, legal-symbols}
-use Rattle.macroblock_symbols.proofs.Laws.Vectors.{CodesKnown}
-use Rattle.macroblock_symbols.specs.MacroblockSymbols.{symbolsOf}
-use Rattle.matrices.specs.Matrix.{matrixOf}
-use Rattle.motion.proofs.VectorLaws.{factor-least}
-use Rattle.picture_header.specs.Header.{HeaderWithin}
-use Rattle.picture_state.proofs.PlanLaws.{pasts-within, motion-within, no-motion-within, skip-within, own-forward-used, own-backward-used, skip-forward-used, skip-backward-used}
-use Rattle.picture_state.specs.Plan.{planOf, Plannable}
-use Rattle.picture_state.specs.Vectors.{ownMotion, nextPasts, CodesWithin}
-use Rattle.picture_state.specs.State.{zeroVector, startState}
-use Rattle.picture.proofs.RecordLaws.{found-after}
-use Rattle.picture.specs.MacroblockRecord.{contextOf, Acted, advanced, ownDrawn, drawn, macroblockActed}
-use Rattle.picture.specs.Sound.{BorrowedBy, StateWithin, Sound, Planned}
-use Rattle.picture.specs.Step.{matrixOutcome, withSlice, sliceOutcome, acted, takenAt}
-use Rattle.symbols.proofs.Laws.Slice.{slice-sound}
-use Rattle.symbols.specs.Slice.{legalScale, sliceOf}
-use Rattle.refusals.specs.declared.Refusal.{Refusal}
+use Rattle.parsed.proofs.Parsed.{all-at}
+use Rattle.format3.proofs.Laws.Record.{Inside, inside}
+use Rattle.format3.specs.Record.{macroblock, recordOf}
+use Rattle.format3.specs.Turn.{inTurn, turnAfter}
 use Rattle.format3.specs.declared.record.Record.{Record}
 use Rattle.format3.specs.declared.record.Record.the-variants as Record
-use Rattle.format3.specs.declared.verdict.Verdict.{Verdict}
+use Rattle.format3.specs.declared.turn.Turn.{Turn}
+use Rattle.format3.specs.declared.turn.Turn.the-variants as Turn
 use Rattle.format3.specs.declared.verdict.Verdict.the-variants.{Passed, Refused}
+use Rattle.matrices.specs.declared.Matrices.{Matrices}
+use Rattle.motion.proofs.VectorLaws.{factor-least}
+use Rattle.picture_header.specs.Header.{HeaderWithin}
+use Rattle.picture_header.specs.Size.{count}
 use Rattle.picture_header.specs.declared.header.Header.{Header}
+use Rattle.symbols.specs.Slice.{legalScale}
 use Rattle.symbols.specs.declared.vector_codes.VectorCodes.{VectorCodes}
-use Rattle.symbols.specs.declared.slice.SliceAnswer.{SliceAnswer}
-use Rattle.symbols.specs.declared.slice.SliceAnswer.the-variants as Slice
+use Rattle.pairs.proofs.Laws.Range.{zeros-between}
+use Rattle.blocks.specs.Blocks.{legalDc}
+use Rattle.blocks.specs.Coefficients.{InRange}
+use Rattle.macroblock_symbols.proofs.Laws.Macroblock.{SymbolsLegal, symbols-legal, scale-legal-after, pasts-after-legal, coefficients-in-range, MacroblockLegal}
+use Rattle.macroblock_symbols.proofs.Laws.Vectors.{CodesKnown}
+use Rattle.macroblock_symbols.specs.Macroblock.{Macroblock, startingPasts}
+use Rattle.macroblock_symbols.specs.Decoding.{scaleAfter, macroblockCoefficients, decoded}
+use Rattle.macroblock_symbols.specs.declared.DecodedMacroblock.{DecodedMacroblock}
 use Rattle.macroblock_symbols.specs.declared.MacroblockSymbols.{MacroblockSymbols}
-use Rattle.macroblock_symbols.specs.declared.SymbolsAnswer.{SymbolsAnswer}
-use Rattle.macroblock_symbols.specs.declared.SymbolsAnswer.the-variants as Symbols
+use Rattle.macroblock.specs.Compensation.{VectorWithin}
+use Rattle.macroblock.specs.Macroblock.{Made, uncodedFrom, InOrder, Each}
+use Rattle.macroblock.proofs.OrderLaws.{order-both, each-both, uncoded-order, uncoded-each}
+use Rattle.picture_state.proofs.PlanLaws.{pasts-within, motion-within, no-motion-within, skip-within, own-forward-used, own-backward-used, skip-forward-used, skip-backward-used}
+use Rattle.picture_state.specs.Plan.{skipMotion, planOf, ownMade, madeBy, Plannable}
+use Rattle.picture_state.specs.Vectors.{ownMotion, nextPasts, CodesWithin}
+use Rattle.picture_state.specs.State.{zeroVector, startState}
 use Rattle.picture_state.specs.declared.state.PictureState.{PictureState}
+use Rattle.picture.specs.MacroblockRecord.{contextOf, Acted}
+use Rattle.picture.specs.Picture.{isComplete}
+use Rattle.picture.specs.Sound.{BorrowedBy, StateWithin, Planned, PlanLent, Makeable, Given}
+use Rattle.picture.specs.Step.{withMatrix, withSlice, takenAt}
+use Rattle.picture.proofs.RecordLaws.{madeRecord, Ways, taken-all, found-after}
 
--- ---- a macroblock's symbols that were read can be planned and drawn
+-- ---- a macroblock's symbols that were read can be planned and written
 codes-within : {f : ℕ} {c : VectorCodes} → 1 ≤ f → CodesKnown f c → CodesWithin f c
 codes-within h k = record {
   across = record { code = k .across .small; residual = k .across .below h };
   down = record { code = k .down .small; residual = k .down .below h };
 }
 
-pub plannable : (s : PictureState) (m : MacroblockSymbols) → StateWithin s → SymbolsLegal (contextOf s) m → Plannable s m
-plannable s m w l = record {
-  slice = record {
-    symbols = record {
-      forward-few = w .header .forward .most;
-      backward-few = w .header .backward .most;
-      forward = codes-within (factor-least (s .header .forward .«f_code»)) (l .forward-known);
-      backward = codes-within (factor-least (s .header .backward .«f_code»)) (l .backward-known);
+pub given-legal : {s : PictureState} {m : MacroblockSymbols} → Given s m → SymbolsLegal (contextOf s) m
+given-legal {s} g = all-at (symbols-legal (contextOf s) (g .body)) (g .read)
+
+module _ (s : PictureState) (m : DecodedMacroblock) (w : StateWithin s) (l : SymbolsLegal (contextOf s) (m .symbols)) where
+  pub plannable : Plannable s m
+  plannable = record {
+    slice = record {
+      symbols = record {
+        forward-few = w .header .forward .most;
+        backward-few = w .header .backward .most;
+        forward = codes-within (factor-least (s .header .forward .«f_code»)) (l .forward-known);
+        backward = codes-within (factor-least (s .header .backward .«f_code»)) (l .backward-known);
+      };
+      pasts = w .pasts;
     };
+    some = l .increment-some;
+    near = omega (arith, w .inside, w .header .size .few);
+  }
+
+  can-plan : Planned (s .header .size) (planOf s m)
+  unfolding planOf ownMotion
+  can-plan = record {
+    within = w .header .size;
+    place = refl;
+    inside = omega (arith, l .address-inside, l .increment-some);
+    skip-within = skip-within (s .header .«coding_type») (s .slice .motion) (w .motion);
+    own-within = motion-within (s .header) (m .symbols .flags) (nextPasts (s .header) (m .symbols) (s .slice .pasts)) (pasts-within (s .header) m (s .slice) (plannable .slice));
+  }
+
+  plan-lent : {forward backward output : List ℕ} → BorrowedBy (s .header) forward backward output → PlanLent (s .header .size) (planOf s m) forward backward output
+  unfolding planOf ownMotion
+  plan-lent lent = record {
+    skip-lent = record {
+      forward-whole = λ e. lent .forward-whole (skip-forward-used (s .header .«coding_type») (s .slice .motion) (w .forward-used) e);
+      backward-whole = λ e. lent .backward-whole (skip-backward-used (s .header .«coding_type») (s .slice .motion) (w .backward-used) e);
+      output-whole = lent .output-whole;
+    };
+    own-lent = record {
+      forward-whole = λ e. lent .forward-whole (own-forward-used (s .header .«coding_type») (m .symbols .flags) (w .header .first-type) (w .header .last-type) (l .type-legal) e);
+      backward-whole = λ e. lent .backward-whole (own-backward-used (s .header .«coding_type») (m .symbols .flags) (w .header .first-type) (w .header .last-type) (l .type-legal) e);
+      output-whole = lent .output-whole;
+    };
+  }
+
+  pub makeable : {forward backward output : List ℕ} → BorrowedBy (s .header) forward backward output → Makeable s (planOf s m) forward backward output
+  unfolding planOf
+  makeable lent = record {
+    planned = can-plan;
+    lent = plan-lent lent;
+    advancing = record { size = w .header .size; place = refl; inside = can-plan .inside; counted = omega (arith, w .counted) };
+  }
+
+-- ---- what a record that passed keeps
+pub record Kept (s : PictureState) (a : Acted) : Type 0 where
+  pub within : StateWithin (a .state)
+  pub header : a .state .header ≡ s .header
+  pub order : InOrder (s .next) (a .macroblocks) (a .state .next)
+  pub in-range : Each (λ m. InRange (m .coefficients)) (a .macroblocks)
+
+-- a record is in turn only where the picture is not complete
+due : (t : Turn) (kind : ℕ) → inTurn t kind ≡ true → isComplete t ≡ false
+due Turn.Start kind e = refl
+due Turn.Header kind e = refl
+due Turn.Slice kind e = refl
+due Turn.Macroblock kind e = refl
+due Turn.Complete kind e = absurd (subst T (sym e) tt)
+
+after-last : (last : Bool) → isComplete (turnAfter macroblock last) ≡ last
+after-last true = refl
+after-last false = refl
+
+-- ---- each way of a record that passes
+module _ (q : Matrices) (s : PictureState) (w : StateWithin s) where
+  -- before a record in turn a macroblock is missing
+  missing : (kind : ℕ) → inTurn (s .turn) kind ≡ true → eqb (s .next) (count (s .header .size)) ≡ false
+  missing kind turn = sym (w .complete) ∙ due (s .turn) kind turn
+
+  matrix-within : (kind : ℕ) → inTurn (s .turn) kind ≡ true → (body : List ℕ) → StateWithin (withMatrix s body)
+  matrix-within kind turn body = record {
+    header = w .header;
+    scale = w .scale;
+    dc = w .dc;
     pasts = w .pasts;
-  };
-  some = l .increment-some;
-  near = omega (arith, w .inside, w .header .size .few);
-}
+    motion = w .motion;
+    forward-used = w .forward-used;
+    backward-used = w .backward-used;
+    inside = w .inside;
+    counted = w .counted;
+    complete = sym (missing kind turn);
+  }
 
-pub planned : (s : PictureState) (m : MacroblockSymbols) (forward backward output : List ℕ) → Sound s forward backward output → SymbolsLegal (contextOf s) m → Planned s (planOf s m) forward backward output
-unfolding planOf ownMotion
-planned s m forward backward output p l =
-    let w = p .state in
-    let r = pasts-within (s .header) m (s .slice) (plannable s m w l .slice) in
-    record {
-      advancing = record { size = w .header .size; place = refl; inside = omega (arith, l .address-inside, l .increment-some); counted = w .counted };
-      skip-within = skip-within (s .header .«coding_type») (s .slice .motion) (w .motion);
-      own-within = motion-within (s .header) (m .flags) (nextPasts (s .header) m (s .slice .pasts)) r;
-      skip-lent = record {
-        forward-whole = λ e. p .lent .forward-whole (skip-forward-used (s .header .«coding_type») (s .slice .motion) (w .forward-used) e);
-        backward-whole = λ e. p .lent .backward-whole (skip-backward-used (s .header .«coding_type») (s .slice .motion) (w .backward-used) e);
-        output-whole = p .lent .output-whole;
-      };
-      own-lent = record {
-        forward-whole = λ e. p .lent .forward-whole (own-forward-used (s .header .«coding_type») (m .flags) (w .header .first-type) (w .header .last-type) (l .type-legal) e);
-        backward-whole = λ e. p .lent .backward-whole (own-backward-used (s .header .«coding_type») (m .flags) (w .header .first-type) (w .header .last-type) (l .type-legal) e);
-        output-whole = p .lent .output-whole;
-      };
-    }
+  slice-within : (kind : ℕ) → inTurn (s .turn) kind ≡ true → (scale : ℕ) → legalScale scale ≡ true → StateWithin (withSlice s scale)
+  unfolding legalDc
+  slice-within kind turn scale legal = record {
+    header = w .header;
+    scale = legal;
+    dc = record { legal-y = refl; legal-cb = refl; legal-cr = refl };
+    pasts = record { forward = zero-within; backward = zero-within };
+    motion = no-motion-within;
+    forward-used = λ f. absurd (subst T (sym f) tt);
+    backward-used = λ f. absurd (subst T (sym f) tt);
+    inside = w .inside;
+    counted = w .counted;
+    complete = sym (missing kind turn);
+  }
+    where
+      zero-within : VectorWithin 1024 zeroVector
+      zero-within = record { across = within-literal tt; below = within-literal tt }
 
--- ---- what is kept
-pub borrowed-again : {h : Header} {forward backward output next : List ℕ} → BorrowedBy h forward backward output → length next ≡ length output → BorrowedBy h forward backward next
-borrowed-again p e = record { output-whole = e ∙ p .output-whole; forward-whole = p .forward-whole; backward-whole = p .backward-whole }
+  module _ (m : Macroblock) (legal : MacroblockLegal (contextOf s) m) where
+    advanced-within : StateWithin (madeRecord q s m .state)
+    unfolding planOf ownMotion
+    advanced-within =
+        let l = legal .symbols in
+        let pasts = pasts-within (s .header) (decoded (s .slice .dc) m) (s .slice) (plannable s (decoded (s .slice .dc) m) w l .slice) in
+        record {
+          header = w .header;
+          scale = scale-legal-after (s .slice .scale) (m .symbols) (w .scale) (l .scale-legal);
+          dc = pasts-after-legal (s .slice .dc) m (w .dc) (legal .blocks);
+          pasts = pasts;
+          motion = motion-within (s .header) (m .symbols .flags) (nextPasts (s .header) (m .symbols) (s .slice .pasts)) pasts;
+          forward-used = λ e. own-forward-used (s .header .«coding_type») (m .symbols .flags) (w .header .first-type) (w .header .last-type) (l .type-legal) e;
+          backward-used = λ e. own-backward-used (s .header .«coding_type») (m .symbols .flags) (w .header .first-type) (w .header .last-type) (l .type-legal) e;
+          inside = omega (arith, l .address-inside, l .increment-some);
+          counted = omega (arith, w .counted, l .increment-some);
+          complete = after-last _;
+        }
 
-pub record Kept (s t : PictureState) : Type 0 where
-  pub within : StateWithin t
-  pub header : t .header ≡ s .header
+    abbrev skipped : List Made
+    skipped = uncodedFrom (s .next) (m .symbols .increment - 1) (skipMotion (s .header .«coding_type») (s .slice .motion))
 
-advanced-kept : (s : PictureState) (m : MacroblockSymbols) → StateWithin s → SymbolsLegal (contextOf s) m → Kept s (advanced s (planOf s m))
-unfolding planOf ownMotion
-advanced-kept s m w l =
-    let r = pasts-within (s .header) m (s .slice) (plannable s m w l .slice) in
-    record {
-      within = record {
-        header = w .header;
-        scale = rw (le-leb 1 (m .scale) (l .scale-some), le-leb (m .scale) 31 (l .scale-most));
-        dc = l .pasts-legal;
-        pasts = r;
-        motion = motion-within (s .header) (m .flags) (nextPasts (s .header) m (s .slice .pasts)) r;
-        forward-used = λ e. own-forward-used (s .header .«coding_type») (m .flags) (w .header .first-type) (w .header .last-type) (l .type-legal) e;
-        backward-used = λ e. own-backward-used (s .header .«coding_type») (m .flags) (w .header .first-type) (w .header .last-type) (l .type-legal) e;
-        inside = omega (arith, l .address-inside, l .increment-some);
-        counted = omega (arith, w .counted, l .increment-some);
-      };
-      header = refl;
-    }
+    abbrev own : List Made
+    own = ownMade (planOf s (decoded (s .slice .dc) m)) (macroblockCoefficients q (scaleAfter (s .slice .scale) (m .symbols)) (startingPasts (s .slice .dc) (m .symbols .increment)) m) ∷ []
 
--- a record that passed keeps the state in its ranges
-KeptWhen : PictureState → Verdict → PictureState → Type 0
-KeptWhen s v t = v ≡ Passed → Kept s t
+    made-order : InOrder (s .next) (madeRecord q s m .macroblocks) (madeRecord q s m .state .next)
+    unfolding planOf madeBy
+    made-order = order-both (s .next) (s .next + (m .symbols .increment - 1)) _ skipped own (uncoded-order (s .next) _ _) (refl, refl)
 
-not-passed : {A : Type 0} {refusal : Refusal} → Refused refusal ≡ Passed → A
-not-passed e = let z : _≡_ {A = ℕ} 0 1 = cc in absurd (omega arith)
+    made-in-range : Each (λ n. InRange (n .coefficients)) (madeRecord q s m .macroblocks)
+    unfolding planOf madeBy
+    made-in-range =
+        each-both (λ n. InRange (n .coefficients)) skipped own
+        (uncoded-each (λ n. InRange (n .coefficients)) _ (λ address. record { all = λ block. zeros-between 0 }) (s .next) _)
+        (coefficients-in-range q _ _ m (legal .blocks), tt)
 
-macroblock-kept : (transform : List ℤ → ℕ → ℤ) (forward backward : List ℕ) (s : PictureState) (body output : List ℕ) → StateWithin s
-    → let a = macroblockActed transform forward backward s body output in a .verdict ≡ Passed → Kept s (a .state)
-unfolding macroblockActed drawn ownDrawn
-macroblock-kept transform forward backward s body output w =
-    go (symbolsOf (contextOf s) (s .matrices .intra) (s .matrices .«non_intra») body) refl
-  where
-    go : (a : SymbolsAnswer) → symbolsOf (contextOf s) (s .matrices .intra) (s .matrices .«non_intra») body ≡ a → let r = macroblockActed transform forward backward s body output in r .verdict ≡ Passed → Kept s (r .state)
-    go (Symbols.Refused refusal) e = rw e (λ v. not-passed v)
-    go (Symbols.Legal m) e = rw e (
-        only-all (λ (a : Acted). a .verdict ≡ Passed → Kept s (a .state)) _ _ _ (λ v. not-passed v) λ skips.
-        only-all (λ (a : Acted). a .verdict ≡ Passed → Kept s (a .state)) _ _ _ (λ v. not-passed v) λ own v.
-        advanced-kept s m w (legal-symbols (contextOf s) (s .matrices .intra) (s .matrices .«non_intra») (record { legal-pasts = w .dc; legal-scale = w .scale }) body e))
+  kept-ways : Ways (λ a. a .verdict ≡ Passed → Kept s a) q s
+  kept-ways = record {
+    refuses = λ refusal t e. let z : _≡_ {A = ℕ} 0 1 = cc in absurd (omega arith);
+    matrix-passes = λ kind turn body e. record { within = matrix-within kind turn body; header = refl; order = refl; in-range = tt };
+    slice-starts = λ kind turn scale legal e. record { within = slice-within kind turn scale legal; header = refl; order = refl; in-range = tt };
+    macroblocks-made = λ m legal e. record { within = advanced-within m legal; header = refl; order = made-order m legal; in-range = made-in-range m legal };
+  }
 
-matrix-kept : (s : PictureState) (body : List ℕ) → StateWithin s → matrixOutcome s body .verdict ≡ Passed → Kept s (matrixOutcome s body .state)
-unfolding matrixOutcome
-matrix-kept s body w = go (matrixOf body (s .matrices) (s .loaded) .verdict) refl
-  where
-    go : (v : Verdict) → matrixOf body (s .matrices) (s .loaded) .verdict ≡ v → matrixOutcome s body .verdict ≡ Passed → Kept s (matrixOutcome s body .state)
-    go (Refused refusal) e = rw e (λ v. not-passed v)
-    go Passed e = rw e (λ v. record {
-      within = record {
-        header = w .header;
-        scale = w .scale;
-        dc = w .dc;
-        pasts = w .pasts;
-        motion = w .motion;
-        forward-used = w .forward-used;
-        backward-used = w .backward-used;
-        inside = w .inside;
-        counted = w .counted;
-      };
-      header = refl;
-    })
+  pub taken-kept : (file : List ℕ) (at : ℕ) → takenAt file at s q .acts .verdict ≡ Passed → Kept s (takenAt file at s q .acts)
+  taken-kept file at = taken-all (λ a. a .verdict ≡ Passed → Kept s a) q s kept-ways file at
 
-pub reset-within : (s : PictureState) (scale : ℕ) → StateWithin s → legalScale scale ≡ true → StateWithin (withSlice s scale)
-unfolding legalDc
-reset-within s scale w e = record {
-  header = w .header;
-  scale = e;
-  dc = record { legal-y = refl; legal-cb = refl; legal-cr = refl };
-  pasts = record { forward = zero-within; backward = zero-within };
-  motion = no-motion-within;
-  forward-used = λ f. absurd (subst T (sym f) tt);
-  backward-used = λ f. absurd (subst T (sym f) tt);
-  inside = w .inside;
-  counted = w .counted;
-}
-  where
-    zero-within : VectorWithin 1024 zeroVector
-    zero-within = record { across = within-literal tt; below = within-literal tt }
-
-slice-kept : (s : PictureState) (body : List ℕ) → StateWithin s → sliceOutcome s body .verdict ≡ Passed → Kept s (sliceOutcome s body .state)
-unfolding sliceOutcome
-slice-kept s body w = go (sliceOf body (s .next)) refl
-  where
-    go : (a : SliceAnswer) → sliceOf body (s .next) ≡ a → sliceOutcome s body .verdict ≡ Passed → Kept s (sliceOutcome s body .state)
-    go (Slice.Refused refusal) e = rw e (λ v. not-passed v)
-    go (Slice.Legal l) e = rw e (λ v. record { within = reset-within s (l .scale) w (slice-sound body (s .next) .scale l e); header = refl })
-
-acted-kept : (transform : List ℤ → ℕ → ℤ) (forward backward : List ℕ) (s : PictureState) (kind : ℕ) (body output : List ℕ) → StateWithin s
-    → let a = acted transform forward backward s kind body output in a .verdict ≡ Passed → Kept s (a .state)
-unfolding acted
-acted-kept transform forward backward s kind body output w =
-    only-all (λ (a : Acted). a .verdict ≡ Passed → Kept s (a .state)) _ _ _ (λ v. not-passed v) λ turn.
-    either (eqb kind matrix) _ _ (matrix-kept s body w)
-    (either (eqb kind slice) _ _ (slice-kept s body w) (macroblock-kept transform forward backward s body output w))
-  where
-    either : (b : Bool) (x y : Acted) → (x .verdict ≡ Passed → Kept s (x .state)) → (y .verdict ≡ Passed → Kept s (y .state)) → let a = cond b x y in a .verdict ≡ Passed → Kept s (a .state)
-    either true x y p q = p
-    either false x y p q = q
-
--- the record at an offset
-pub taken-kept : (transform : List ℤ → ℕ → ℤ) (file forward backward : List ℕ) (at : ℕ) (s : PictureState) (output : List ℕ) → StateWithin s
-    → let t = takenAt transform file forward backward at s output in t .acts .verdict ≡ Passed → Kept s (t .acts .state)
-unfolding takenAt
-taken-kept transform file forward backward at s output w = go (recordOf file at) refl
-  where
-    go : (r : Record) → recordOf file at ≡ r → let t = takenAt transform file forward backward at s output in t .acts .verdict ≡ Passed → Kept s (t .acts .state)
-    go (Record.Refused refusal) e = rw e (λ v. not-passed v)
-    go (Record.Found kind start n) e = rw e (acted-kept transform forward backward s kind (take n (drop start file)) output w)
-
--- and where it ends: past it, and in the file
+-- ---- where it ends: past it, and in the file
 pub record Ends (file : List ℕ) (at end : ℕ) : Type 0 where
   pub beyond : at < end
   pub in-file : end ≤ length file
 
-pub taken-ends : (transform : List ℤ → ℕ → ℤ) (file forward backward : List ℕ) (at : ℕ) (s : PictureState) (output : List ℕ)
-    → let t = takenAt transform file forward backward at s output in t .acts .verdict ≡ Passed → Ends file at (t .end)
+pub taken-ends : (file : List ℕ) (at : ℕ) (s : PictureState) (q : Matrices) → takenAt file at s q .acts .verdict ≡ Passed → Ends file at (takenAt file at s q .end)
 unfolding takenAt
-taken-ends transform file forward backward at s output = go (recordOf file at) refl
+taken-ends file at s q = go (recordOf file at) refl
   where
-    go : (r : Record) → recordOf file at ≡ r → let t = takenAt transform file forward backward at s output in t .acts .verdict ≡ Passed → Ends file at (t .end)
-    go (Record.Refused refusal) e = rw e (λ v. not-passed v)
+    go : (r : Record) → recordOf file at ≡ r → takenAt file at s q .acts .verdict ≡ Passed → Ends file at (takenAt file at s q .end)
+    go (Record.Refused refusal) e = rw e (λ v. let z : _≡_ {A = ℕ} 0 1 = cc in absurd (omega arith))
     go (Record.Found kind start n) e = rw e (λ v. record {
       beyond = omega (arith, found-after file at kind start n e);
       in-file = subst (Inside file) e (inside file at) .fits;
@@ -231,5 +239,9 @@ start-within h w = record {
   forward-used = λ f. absurd (subst T (sym f) tt);
   backward-used = λ f. absurd (subst T (sym f) tt);
   inside = zero-le;
-  counted = zero-le;
+  counted = refl;
+  complete = sym (ne-eqb 0 (count (h .size)) (λ none. let some = mul-pos (w .size .wide) (w .size .high) in omega arith));
 }
+
+pub borrowed-again : {h : Header} {forward backward output next : List ℕ} → BorrowedBy h forward backward output → length next ≡ length output → BorrowedBy h forward backward next
+borrowed-again p e = record { output-whole = e ∙ p .output-whole; forward-whole = p .forward-whole; backward-whole = p .backward-whole }

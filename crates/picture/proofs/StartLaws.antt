@@ -6,7 +6,7 @@ use mathlib.Core.Path.{_≡_, refl, sym, subst}
 use native.Mathlib.Omega.{arith}
 use lib.Dec.{T, eqb, eqb→eq}
 use lib.ListN.{length}
-use Rattle.format3.proofs.Laws.Chain.{only-all}
+use Rattle.parsed.proofs.Guard.{need-all}
 use Rattle.picture_header.proofs.Laws.Opening.{begun}
 use Rattle.picture_header.specs.Header.{usesForward, usesBackward, HeaderWithin}
 use Rattle.picture_header.specs.Lengths.{referenceLength, lengthsOf}
@@ -35,9 +35,9 @@ used-length false n s e u = absurd (subst T (sym u) tt)
 lengths-whole : (h : Header) (forward backward output : List ℕ) → Lengths h forward backward output (lengthsOf h (length output) (length forward) (length backward))
 unfolding lengthsOf
 lengths-whole h forward backward output =
-    only-all (Lengths h forward backward output) _ _ _ refused-lengths λ o.
-    only-all (Lengths h forward backward output) _ _ _ refused-lengths λ f.
-    only-all (Lengths h forward backward output) _ _ _ refused-lengths λ b.
+    need-all (Lengths h forward backward output) _ _ _ refused-lengths λ o.
+    need-all (Lengths h forward backward output) _ _ _ refused-lengths λ f.
+    need-all (Lengths h forward backward output) _ _ _ refused-lengths λ b.
     record {
       whole = λ e. record {
         output-whole = eqb→eq (length output) (bytes (h .size)) (subst T (sym o) tt);

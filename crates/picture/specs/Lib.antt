@@ -1,5 +1,4 @@
 pub mod MacroblockRecord
-pub mod Sound
 pub mod Step
 pub mod Picture
-pub mod Stopped
+pub mod Sound

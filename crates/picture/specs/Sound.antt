@@ -3,32 +3,31 @@ use mathlib.Core.Bool.{true}
 use mathlib.Core.List.{List}
 use mathlib.Core.Path.{_≡_}
 use Prim.Native.Nat.{ℕ, _+_, _≤_, _<_}
-use lib.IntN.{ℤ}
+use lib.Dec.{eqb}
 use lib.ListN.{length}
-use Rattle.integers.specs.Bound.{AllWithin}
+use Rattle.parsed.specs.Parsed.{parsed}
 use Rattle.picture_header.specs.Header.{usesForward, usesBackward, HeaderWithin}
 use Rattle.picture_header.specs.Size.{count, bytes, SizeWithin}
 use Rattle.picture_header.specs.declared.header.Header.{Header}
+use Rattle.picture_header.specs.declared.size.PictureSize.{PictureSize}
 use Rattle.macroblock.specs.Compensation.{MotionWithin}
-use Rattle.macroblock.specs.Fit.{fitOf, firstMisfit}
 use Rattle.macroblock.specs.Macroblock.{Lent}
-use Rattle.macroblock.specs.declared.fit.Fit.the-variants.{Fits}
 use Rattle.blocks.specs.Blocks.{LegalPasts}
 use Rattle.symbols.specs.Slice.{legalScale}
+use Rattle.macroblock_symbols.specs.Macroblock.{symbolsOf, resetPasts}
+use Rattle.macroblock_symbols.specs.declared.MacroblockSymbols.{MacroblockSymbols}
 use Rattle.picture_state.specs.Vectors.{PastsWithin}
+use Rattle.picture_state.specs.Plan.{planOf}
 use Rattle.picture_state.specs.declared.state.PictureState.{PictureState}
 use Rattle.picture_state.specs.declared.plan.Plan.{Plan}
+use Rattle.picture.specs.MacroblockRecord.{contextOf}
+use Rattle.picture.specs.Picture.{isComplete}
 
 -- the lengths of what the caller lends, after 19, 20 and 21
 pub record BorrowedBy (h : Header) (forward backward output : List ℕ) : Type 0 where
   pub output-whole : length output ≡ bytes (h .size)
   pub forward-whole : usesForward (h .«coding_type») ≡ true → length forward ≡ bytes (h .size)
   pub backward-whole : usesBackward (h .«coding_type») ≡ true → length backward ≡ bytes (h .size)
-
--- a store for a macroblock's coefficients: 384 numbers in the transform's range
-pub record Store (coefficients : List ℤ) : Type 0 where
-  pub long : length coefficients ≡ 384
-  pub small : AllWithin 2048 coefficients
 
 -- a header that was tested, and a slice's state in its ranges
 pub record StateWithin (s : PictureState) : Type 0 where
@@ -40,7 +39,8 @@ pub record StateWithin (s : PictureState) : Type 0 where
   pub forward-used : s .slice .motion .forward ≡ true → usesForward (s .header .«coding_type») ≡ true
   pub backward-used : s .slice .motion .backward ≡ true → usesBackward (s .header .«coding_type») ≡ true
   pub inside : s .next ≤ count (s .header .size)
-  pub counted : s .made ≤ s .next
+  pub counted : s .made ≡ s .next
+  pub complete : isComplete (s .turn) ≡ eqb (s .next) (count (s .header .size))
 
 -- a state that a record may be read against
 pub record Sound (s : PictureState) (forward backward output : List ℕ) : Type 0 where
@@ -54,18 +54,31 @@ pub record Advancing (s : PictureState) (p : Plan) : Type 0 where
   pub inside : p .address < count (s .header .size)
   pub counted : s .made ≤ s .next
 
--- macroblocks that can be tested for their fit and then written
-pub record Planned (s : PictureState) (p : Plan) (forward backward output : List ℕ) : Type 0 where
-  pub advancing : Advancing s p
+-- macroblocks that can be tested for their fit
+pub record Planned (size : PictureSize) (p : Plan) : Type 0 where
+  pub within : SizeWithin 396 size
+  pub place : p .address ≡ p .first + p .skipped
+  pub inside : p .address < count size
   pub skip-within : MotionWithin 2048 (p .«skip_motion»)
   pub own-within : MotionWithin 2048 (p .motion)
-  pub skip-lent : Lent (s .header .size) (p .«skip_motion») forward backward output
-  pub own-lent : Lent (s .header .size) (p .motion) forward backward output
 
--- macroblocks that were tested for their fit
-pub record SkipsFit (s : PictureState) (p : Plan) : Type 0 where
-  pub fit : firstMisfit (s .header .size) (s .next) (p .skipped) (p .«skip_motion») ≡ Fits
+-- and be written, where they fit
+pub record PlanLent (size : PictureSize) (p : Plan) (forward backward output : List ℕ) : Type 0 where
+  pub skip-lent : Lent size (p .«skip_motion») forward backward output
+  pub own-lent : Lent size (p .motion) forward backward output
 
-pub record AllFit (s : PictureState) (p : Plan) : Type 0 where
-  pub skips : SkipsFit s p
-  pub own : fitOf (s .header .size) (p .address) (p .motion) ≡ Fits
+-- macroblocks that can be made
+pub record Makeable (s : PictureState) (p : Plan) (forward backward output : List ℕ) : Type 0 where
+  pub planned : Planned (s .header .size) p
+  pub lent : PlanLent (s .header .size) p forward backward output
+  pub advancing : Advancing s p
+
+-- symbols that some macroblock record gives, read against the state
+pub record Given (s : PictureState) (m : MacroblockSymbols) : Type 0 where
+  pub body : List ℕ
+  pub rest : List ℕ
+  pub read : symbolsOf (contextOf s) body ≡ parsed m rest
+
+-- what such symbols come to, with the DC pasts that a macroblock leaves which is not intra
+abbrev pub startingPlan : PictureState → MacroblockSymbols → Plan
+startingPlan s m = planOf s (record { symbols = m; dc = resetPasts })

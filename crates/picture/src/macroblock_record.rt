@@ -1,24 +1,47 @@
 // What a macroblock record does: its symbols are read and tested to their end, then every vector's fit, then all its macroblocks are written.
 ghost use mathlib.Core.Path.{_≡_};
-ghost use Rattle.integers.specs.Bound.{AllWithin};
+ghost use mathlib.Core.List.{[]};
 ghost use Rattle.transform.specs.Transform.{inverseTransform};
-ghost use Rattle.picture.specs.MacroblockRecord.{outcomeOf, passes, advanced, contextOf, written, ownDrawn, drawn, macroblockActed};
-ghost use Rattle.picture.specs.Sound.{Advancing, Planned, Sound, Store, StateWithin, SkipsFit, AllFit};
+ghost use Rattle.blocks.specs.Coefficients.{InRange};
+ghost use Rattle.blocks.specs.Stored.{sixBlocks};
+ghost use Rattle.matrices.specs.Matrix.{matricesOf};
+ghost use Rattle.macroblock_symbols.specs.Macroblock.{macroblockWith};
+ghost use Rattle.macroblock.specs.Compensation.{references};
+ghost use Rattle.macroblock.specs.Macroblock.{uncodedFrom, withMacroblocks};
+ghost use Rattle.macroblock.specs.declared.fit.Fit.the-variants.{Fits};
+ghost use Rattle.picture.specs.MacroblockRecord.{contextOf, refusedRecord, recordFit, fitVerdict, advanced, planned, reconstructedFrom, macroblockActed, outcomeOf, written};
+ghost use Rattle.picture.specs.Sound.{Advancing, Planned, PlanLent, Makeable, Sound, StateWithin, Given, startingPlan};
+use blocks::blocks::BlocksAnswer;
 use format3::record::MACROBLOCK;
 use format3::verdict::Verdict;
 use macroblock::fit::Fit;
+use macroblock_symbols::DecodedMacroblock;
 use macroblock_symbols::MacroblockContext;
+use macroblock_symbols::MacroblockSymbols;
 use macroblock_symbols::SymbolsAnswer;
+use picture_header::size::PictureSize;
+use picture_state::plan;
 use picture_state::plan::Plan;
 use picture_state::state::PictureState;
 use refusals::Refusal;
 use symbols::macroblock_head::HeadContext;
+use symbols::macroblock_type;
+use symbols::macroblock_type::INTRA;
 
-// What a record comes to: the verdict, and the state after it; a refused record leaves the state as it was. Below, `PictureState { ..picture }` copies
-// it field by field, as `advance` does: the compiler then sees that either way the matrices stay where they are, and does not move them.
+// What a record comes to: the verdict, and the state after it.
 pub struct Outcome {
     pub verdict: Verdict,
     pub state: PictureState,
+}
+
+// A refused record leaves the state as it was.
+pub fn refused_record(picture: PictureState, refusal: Refusal) -> Outcome
+    ensures { λ r. ⌜ r ≡ outcomeOf (refusedRecord refusal picture) ⌝ }
+{
+    Outcome {
+        verdict: Verdict::Refused(refusal),
+        state: PictureState { ..picture },
+    }
 }
 
 // What the record is read against.
@@ -40,7 +63,6 @@ fn context_of(picture: PictureState) -> MacroblockContext
             coding: header.coding_type,
             macroblocks,
             next: picture.next,
-            scale: slice.scale,
             first: slice.first,
             intra: slice.intra,
         },
@@ -50,13 +72,36 @@ fn context_of(picture: PictureState) -> MacroblockContext
     }
 }
 
+// The first misfit among the record's macroblocks: the skipped ones in order, then its own.
+fn record_fit(size: PictureSize, plan: Plan) -> Fit
+    requires { ⌜ Planned size plan ⌝ }
+    ensures { λ r. ⌜ r ≡ recordFit size plan ⌝ }
+{
+    let skip_motion = plan.skip_motion;
+    let motion = plan.motion;
+    match macroblock::fit::first_misfit(size, plan.first, plan.skipped, skip_motion) {
+        Fit::Fits => macroblock::fit::fit_of(size, plan.address, motion),
+        Fit::Forward => Fit::Forward,
+        Fit::Backward => Fit::Backward,
+    }
+}
+
+fn fit_verdict(fit: Fit) -> Verdict
+    ensures { λ r. ⌜ r ≡ fitVerdict fit ⌝ }
+{
+    match fit {
+        Fit::Fits => Verdict::Passed,
+        Fit::Forward => Verdict::Refused(Refusal::VectorOutside),
+        Fit::Backward => Verdict::Refused(Refusal::VectorOutside),
+    }
+}
+
 // The state after the record's macroblocks are written.
 fn advance(picture: PictureState, plan: Plan) -> PictureState
     requires { ⌜ Advancing picture plan ⌝ }
     ensures { λ r. ⌜ r ≡ advanced picture plan ⌝ }
 {
     let header = picture.header;
-    let matrices = picture.matrices;
     let loaded = picture.loaded;
     let slice = plan.slice;
     let size = header.size;
@@ -65,7 +110,6 @@ fn advance(picture: PictureState, plan: Plan) -> PictureState
     let turn = format3::turn::turn_after(MACROBLOCK, complete);
     PictureState {
         header,
-        matrices,
         loaded,
         turn,
         next,
@@ -74,44 +118,47 @@ fn advance(picture: PictureState, plan: Plan) -> PictureState
     }
 }
 
-fn fits(fit: Fit) -> bool
-    ensures { λ r. ⌜ r ≡ passes fit ⌝ }
+// The skipped macroblocks, where all the record's macroblocks fit.
+fn write_skipped(size: PictureSize, plan: Plan, forward: &[u8], backward: &[u8], output: &mut [u8])
+    requires { ⌜ Planned size plan × PlanLent size plan (now forward) (now backward) (now output) × (recordFit size plan ≡ Fits) ⌝ }
+    ensures { λ _. ⌜ now (output .exit) ≡ withMacroblocks inverseTransform (references (now (forward .entry)) (now (backward .entry))) size (uncodedFrom (plan .first) (plan .skipped) (plan .«skip_motion»)) (now (output .entry)) ⌝ }
 {
-    match fit {
-        Fit::Fits => true,
-        Fit::Forward => false,
-        Fit::Backward => false,
-    }
-}
-
-// The skipped macroblocks and its own, written; and the state after them.
-fn write_all(
-    picture: PictureState,
-    plan: Plan,
-    pattern: u8,
-    coefficients: &[i16; 384],
-    forward: &[u8],
-    backward: &[u8],
-    output: &mut [u8],
-) -> PictureState
-    requires { ⌜ Planned picture plan (now forward) (now backward) (now output) × AllWithin 2048 (now coefficients) × AllFit picture plan ⌝ }
-    ensures { λ r. ⌜ r ≡ advanced picture plan ⌝ }
-    ensures { λ _. ⌜ now (output .exit) ≡ written inverseTransform (now (forward .entry)) (now (backward .entry)) picture plan pattern (now (coefficients .entry)) (now (output .entry)) ⌝ }
-{
-    let header = picture.header;
-    let size = header.size;
     let skip_motion = plan.skip_motion;
-    let motion = plan.motion;
     macroblock::write::write_predictions(
         output,
         forward,
         backward,
         size,
-        picture.next,
+        plan.first,
         plan.skipped,
         skip_motion,
-        coefficients,
     );
+}
+
+// A record whose own macroblock has coded blocks: all its macroblocks, where they fit.
+fn write_coded(
+    picture: PictureState,
+    plan: Plan,
+    verdict: Verdict,
+    coefficients: &[i16; 384],
+    forward: &[u8],
+    backward: &[u8],
+    output: &mut [u8],
+) -> Outcome
+    requires { ⌜ Makeable picture plan (now forward) (now backward) (now output) × (verdict ≡ fitVerdict (recordFit (picture .header .size) plan)) × InRange (sixBlocks (now coefficients)) ⌝ }
+    ensures { λ r. ⌜ r ≡ outcomeOf (planned picture plan (sixBlocks (now (coefficients .entry)))) ⌝ }
+    ensures { λ _. ⌜ now (output .exit) ≡ written inverseTransform (references (now (forward .entry)) (now (backward .entry))) picture (planned picture plan (sixBlocks (now (coefficients .entry)))) (now (output .entry)) ⌝ }
+{
+    let Verdict::Passed = verdict else {
+        return Outcome {
+            verdict,
+            state: PictureState { ..picture },
+        };
+    };
+    let header = picture.header;
+    let size = header.size;
+    let motion = plan.motion;
+    write_skipped(size, plan, forward, backward, output);
     macroblock::write::write_macroblock(
         output,
         forward,
@@ -119,119 +166,130 @@ fn write_all(
         size,
         plan.address,
         motion,
-        pattern,
+        plan.pattern,
         coefficients,
     );
-    advance(picture, plan)
+    let state = advance(picture, plan);
+    Outcome { verdict, state }
 }
 
-// Its own vectors' fit; then all is written.
-fn draw_own(
+// A record whose own macroblock has none: the same, without coefficients.
+fn write_predicted(
     picture: PictureState,
     plan: Plan,
-    pattern: u8,
-    coefficients: &[i16; 384],
+    verdict: Verdict,
     forward: &[u8],
     backward: &[u8],
     output: &mut [u8],
 ) -> Outcome
-    requires { ⌜ Planned picture plan (now forward) (now backward) (now output) × AllWithin 2048 (now coefficients) × SkipsFit picture plan ⌝ }
-    ensures { λ r. ⌜ r ≡ outcomeOf (ownDrawn inverseTransform (now (forward .entry)) (now (backward .entry)) picture plan pattern (now (coefficients .entry)) (now (output .entry))) ⌝ }
-    ensures { λ _. ⌜ now (output .exit) ≡ ownDrawn inverseTransform (now (forward .entry)) (now (backward .entry)) picture plan pattern (now (coefficients .entry)) (now (output .entry)) .output ⌝ }
+    requires { ⌜ Makeable picture plan (now forward) (now backward) (now output) × (verdict ≡ fitVerdict (recordFit (picture .header .size) plan)) × (plan .pattern ≡ 0) ⌝ }
+    ensures { λ r. ⌜ r ≡ outcomeOf (planned picture plan []) ⌝ }
+    ensures { λ _. ⌜ now (output .exit) ≡ written inverseTransform (references (now (forward .entry)) (now (backward .entry))) picture (planned picture plan []) (now (output .entry)) ⌝ }
 {
+    let Verdict::Passed = verdict else {
+        return Outcome {
+            verdict,
+            state: PictureState { ..picture },
+        };
+    };
     let header = picture.header;
     let size = header.size;
     let motion = plan.motion;
-    let fit = macroblock::fit::fit_of(size, plan.address, motion);
-    if fits(fit) {
-        let state = write_all(
-            picture,
-            plan,
-            pattern,
-            coefficients,
-            forward,
-            backward,
-            output,
-        );
-        return Outcome {
-            verdict: Verdict::Passed,
-            state,
-        };
-    }
-    Outcome {
-        verdict: Verdict::Refused(Refusal::VectorOutside),
-        state: PictureState { ..picture },
-    }
+    write_skipped(size, plan, forward, backward, output);
+    macroblock::write::write_prediction(output, forward, backward, size, plan.address, motion);
+    let state = advance(picture, plan);
+    Outcome { verdict, state }
 }
 
-// The skipped macroblocks' fit, then its own; then all is written.
-fn draw(
+// A macroblock with coded blocks, from where they start. Their coefficients are kept until the record is known to be whole. `start` is the plan of its symbols,
+// before the DC pasts that its blocks leave, and `verdict` that of its fit.
+fn act_coded<'m>(
     picture: PictureState,
-    plan: Plan,
-    pattern: u8,
-    coefficients: &[i16; 384],
+    symbols: MacroblockSymbols,
+    start: Plan,
+    verdict: Verdict,
+    rest: &[u8],
+    intra: &'m [u8; 64],
+    non_intra: &'m [u8; 64],
     forward: &[u8],
     backward: &[u8],
     output: &mut [u8],
 ) -> Outcome
-    requires { ⌜ Planned picture plan (now forward) (now backward) (now output) × AllWithin 2048 (now coefficients) ⌝ }
-    ensures { λ r. ⌜ r ≡ outcomeOf (drawn inverseTransform (now (forward .entry)) (now (backward .entry)) picture plan pattern (now (coefficients .entry)) (now (output .entry))) ⌝ }
-    ensures { λ _. ⌜ now (output .exit) ≡ drawn inverseTransform (now (forward .entry)) (now (backward .entry)) picture plan pattern (now (coefficients .entry)) (now (output .entry)) .output ⌝ }
+    requires { ⌜ Sound picture (now forward) (now backward) (now output) × Given picture symbols × (start ≡ startingPlan picture symbols) × (verdict ≡ fitVerdict (recordFit (picture .header .size) start)) ⌝ }
+    ensures { λ r. ⌜ r ≡ outcomeOf (reconstructedFrom (matricesOf (now (intra .entry)) (now («non_intra» .entry))) picture (macroblockWith (picture .slice .dc) symbols (now (rest .entry)))) ⌝ }
+    ensures { λ _. ⌜ now (output .exit) ≡ written inverseTransform (references (now (forward .entry)) (now (backward .entry))) picture (reconstructedFrom (matricesOf (now (intra .entry)) (now («non_intra» .entry))) picture (macroblockWith (picture .slice .dc) symbols (now (rest .entry)))) (now (output .entry)) ⌝ }
 {
-    let header = picture.header;
-    let size = header.size;
-    let skip_motion = plan.skip_motion;
-    let fit = macroblock::fit::first_misfit(size, picture.next, plan.skipped, skip_motion);
-    if fits(fit) {
-        return draw_own(
-            picture,
-            plan,
-            pattern,
-            coefficients,
-            forward,
-            backward,
-            output,
-        );
-    }
-    Outcome {
-        verdict: Verdict::Refused(Refusal::VectorOutside),
-        state: PictureState { ..picture },
-    }
+    let slice = picture.slice;
+    let dc = slice.dc;
+    let scale = macroblock_symbols::scale_after(slice.scale, symbols);
+    let pasts = macroblock_symbols::starting_pasts(dc, symbols.increment);
+    let mut coefficients = [0i16; 384];
+    let blocks = macroblock_symbols::read_whole_blocks(
+        rest,
+        symbols,
+        scale,
+        pasts,
+        intra,
+        non_intra,
+        &mut coefficients,
+    );
+    let BlocksAnswer::Legal(running, _) = blocks else {
+        return refused_record(picture, blocks::blocks::blocks_refusal(blocks));
+    };
+    let is_intra = macroblock_type::gives_part(symbols.flags, INTRA);
+    let plan = plan::with_dc(start, macroblock_symbols::pasts_left(is_intra, running));
+    write_coded(
+        picture,
+        plan,
+        verdict,
+        &coefficients,
+        forward,
+        backward,
+        output,
+    )
 }
 
-// A macroblock record. The coefficients that are lent are any from -2048 to 2048, and hold its own afterwards: those of its coded blocks are made 0 before
-// its first one lands, and no other block's are looked at.
-pub fn act_macroblock(
+// A macroblock record.
+pub fn act_macroblock<'m>(
     picture: PictureState,
     body: &[u8],
+    intra: &'m [u8; 64],
+    non_intra: &'m [u8; 64],
     forward: &[u8],
     backward: &[u8],
-    coefficients: &mut [i16; 384],
     output: &mut [u8],
 ) -> Outcome
-    requires { ⌜ Sound picture (now forward) (now backward) (now output) × Store (now coefficients) ⌝ }
-    ensures { λ r. ⌜ r ≡ outcomeOf (macroblockActed inverseTransform (now (forward .entry)) (now (backward .entry)) picture (now (body .entry)) (now (output .entry))) ⌝ }
-    ensures { λ _. ⌜ now (output .exit) ≡ macroblockActed inverseTransform (now (forward .entry)) (now (backward .entry)) picture (now (body .entry)) (now (output .entry)) .output ⌝ }
-    ensures { λ _. ⌜ Store (now (coefficients .exit)) ⌝ }
+    requires { ⌜ Sound picture (now forward) (now backward) (now output) ⌝ }
+    ensures { λ r. ⌜ r ≡ outcomeOf (macroblockActed (matricesOf (now (intra .entry)) (now («non_intra» .entry))) picture (now (body .entry))) ⌝ }
+    ensures { λ _. ⌜ now (output .exit) ≡ written inverseTransform (references (now (forward .entry)) (now (backward .entry))) picture (macroblockActed (matricesOf (now (intra .entry)) (now («non_intra» .entry))) picture (now (body .entry))) (now (output .entry)) ⌝ }
 {
-    let context = context_of(picture);
-    let matrices = picture.matrices;
-    match macroblock_symbols::read_macroblock(body, context, matrices, coefficients) {
-        SymbolsAnswer::Refused(refusal) => Outcome {
-            verdict: Verdict::Refused(refusal),
-            state: PictureState { ..picture },
-        },
-        SymbolsAnswer::Legal(symbols) => {
-            let plan = picture_state::plan::make_plan(picture, symbols);
-            draw(
-                picture,
-                plan,
-                symbols.pattern,
-                coefficients,
-                forward,
-                backward,
-                output,
-            )
-        }
+    let answer = macroblock_symbols::read_symbols(body, context_of(picture));
+    let SymbolsAnswer::Legal(symbols, end) = answer else {
+        return refused_record(picture, macroblock_symbols::symbols_refusal(answer));
+    };
+    let header = picture.header;
+    let size = header.size;
+    let dc = macroblock_symbols::reset_pasts();
+    let plan = plan::make_plan(picture, DecodedMacroblock { symbols, dc });
+    let verdict = fit_verdict(record_fit(size, plan));
+    let symbols_end = end.at;
+    let rest = &body[symbols_end..];
+    if symbols.pattern != 0 {
+        return act_coded(
+            picture,
+            symbols,
+            plan,
+            verdict,
+            rest,
+            intra,
+            non_intra,
+            forward,
+            backward,
+            output,
+        );
     }
+    if 0 < rest.len() {
+        return refused_record(picture, Refusal::BodyLength);
+    }
+    write_predicted(picture, plan, verdict, forward, backward, output)
 }

@@ -3,9 +3,13 @@ ghost use mathlib.Core.Path.{_≡_};
 ghost use Prim.Native.Nat.{_≤_};
 ghost use lib.ListN.{length};
 ghost use Rattle.transform.specs.Transform.{inverseTransform};
-ghost use Rattle.picture.specs.Picture.{answerOf, isComplete, endAnswer, runFrom, pictureOf};
+ghost use Rattle.macroblock.specs.Compensation.{references};
+ghost use Rattle.macroblock.specs.Macroblock.{withMacroblocks};
+ghost use Rattle.picture.specs.Picture.{answerOf, isComplete, refusedAt, endAnswer, recordsOf, pictureOf};
 ghost use Rattle.picture.specs.Sound.{Sound};
 use crate::records;
+use format3::record::MATRIX;
+use format3::record::Record;
 use format3::turn::Turn;
 use format3::verdict::Verdict;
 use picture_header::opening;
@@ -54,7 +58,19 @@ fn answer_at_end(file_length: usize, picture: PictureState) -> Answer
     }
 }
 
-// The records from an offset on. One store of coefficients serves them all.
+// The answer to a refusal.
+fn refused_at(refusal: Refusal, place: usize, made: usize) -> Answer
+    ensures { λ r. ⌜ r ≡ refusedAt refusal place made ⌝ }
+{
+    let number = refusals::number(refusal);
+    Answer {
+        number,
+        place,
+        made,
+    }
+}
+
+// The records from an offset on.
 fn read_records(
     file: &[u8],
     start: usize,
@@ -64,37 +80,43 @@ fn read_records(
     output: &mut [u8],
 ) -> Answer
     requires { ⌜ Sound first (now forward) (now backward) (now output) × (start ≤ length (now file)) ⌝ }
-    ensures { λ r. ⌜ r ≡ answerOf (runFrom inverseTransform (now (file .entry)) (now (forward .entry)) (now (backward .entry)) (length (now (file .entry))) start first (now (output .entry))) ⌝ }
-    ensures { λ _. ⌜ now (output .exit) ≡ runFrom inverseTransform (now (file .entry)) (now (forward .entry)) (now (backward .entry)) (length (now (file .entry))) start first (now (output .entry)) .output ⌝ }
+    ensures { λ r. ⌜ r ≡ recordsOf (now (file .entry)) start first .answer ⌝ }
+    ensures { λ _. ⌜ now (output .exit) ≡ withMacroblocks inverseTransform (references (now (forward .entry)) (now (backward .entry))) (first .header .size) (recordsOf (now (file .entry)) start first .macroblocks) (now (output .entry)) ⌝ }
 {
-    let mut coefficients = [0i16; 384];
     let mut at = start;
     let mut picture = first;
+    let mut matrices = matrices::default_matrices();
     while at < file.len() {
-        let step = records::take_record(
-            file,
-            at,
+        let found = format3::record::record_at(file, at);
+        let Record::Found {
+            kind,
+            start: from,
+            length,
+        } = found
+        else {
+            return refused_at(records::record_refusal(found), at, picture.made);
+        };
+        let end = from + length;
+        let body = &file[from..end];
+        let outcome = records::act(
             picture,
+            kind,
+            body,
+            &matrices.intra,
+            &matrices.non_intra,
             forward,
             backward,
-            &mut coefficients,
             output,
         );
-        let verdict = step.verdict;
-        match verdict {
-            Verdict::Refused(refusal) => {
-                let number = refusals::number(refusal);
-                return Answer {
-                    number,
-                    place: at,
-                    made: picture.made,
-                };
-            }
-            Verdict::Passed => {}
+        let verdict = outcome.verdict;
+        let Verdict::Passed = verdict else {
+            return refused_at(records::verdict_refusal(verdict), at, picture.made);
+        };
+        if kind == MATRIX {
+            matrices = matrices::load_matrix(body, matrices);
         }
-        let state = step.state;
-        picture = state;
-        at = step.end;
+        picture = outcome.state;
+        at = end;
     }
     answer_at_end(file.len(), picture)
 }
@@ -105,14 +127,7 @@ pub fn reconstruct(file: &[u8], forward: &[u8], backward: &[u8], output: &mut [u
     ensures { λ _. ⌜ now (output .exit) ≡ pictureOf inverseTransform (now (file .entry)) (now (forward .entry)) (now (backward .entry)) (now (output .entry)) .output ⌝ }
 {
     match opening::open(file, output.len(), forward.len(), backward.len()) {
-        Opened::Refused(refusal, place) => {
-            let number = refusals::number(refusal);
-            Answer {
-                number,
-                place,
-                made: 0,
-            }
-        }
+        Opened::Refused(refusal, place) => refused_at(refusal, place, 0),
         Opened::Opened(header, end) => {
             let first = state::start_state(header);
             read_records(file, end, first, forward, backward, output)

@@ -11,7 +11,7 @@ use Rattle.picture_header.specs.declared.header.VectorCoding.{VectorCodi
 use Rattle.picture_header.specs.declared.header.Header.{Header}
 use Rattle.picture_header.specs.declared.header.HeaderAnswer.{HeaderAnswer}
 use Rattle.picture_header.specs.declared.header.HeaderAnswer.the-variants.{Legal, Refused}
-use Rattle.format3.specs.Chain.{only, _$_}
+use Rattle.parsed.specs.Guard.{need_else_then_}
 use Rattle.picture_header.specs.Size.{legalSize, SizeWithin}
 
 -- "type (1 I, 2 P, 3 B)"
@@ -58,7 +58,7 @@ headerValue f = record {
 }
 
 unfoldable pub headerWith : HeaderFields → HeaderAnswer
-headerWith f = only (legalHeader f) (Refused Refusal.Header) (Legal (headerValue f))
+headerWith f = need legalHeader f else Refused Refusal.Header then Legal (headerValue f)
 
 -- the fields of a body, a byte each, in this order
 abbrev pub fieldsOf : List ℕ → HeaderFields
@@ -75,7 +75,7 @@ fieldsOf body = record {
 -- "Kind 1, header, 7 bytes": 6, then 8
 unfoldable pub headerOf : List ℕ → HeaderAnswer
 headerOf body =
-    only (eqb (length body) 7) (Refused Refusal.BodyLength) $
+    need eqb (length body) 7 else Refused Refusal.BodyLength then
     headerWith (fieldsOf body)
 
 -- what holds of a header that was read

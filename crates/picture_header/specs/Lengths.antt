@@ -7,7 +7,7 @@ use Rattle.picture_header.specs.declared.size.PictureSize.{PictureSize}
 use Rattle.picture_header.specs.declared.header.Header.{Header}
 use Rattle.format3.specs.declared.verdict.Verdict.{Verdict}
 use Rattle.format3.specs.declared.verdict.Verdict.the-variants.{Passed, Refused}
-use Rattle.format3.specs.Chain.{only, _$_}
+use Rattle.parsed.specs.Guard.{need_else_then_}
 use Rattle.picture_header.specs.Header.{usesForward, usesBackward}
 use Rattle.picture_header.specs.Size.{bytes}
 
@@ -19,7 +19,7 @@ referenceLength false size = 0
 -- "Output is 384 × N; a used reference too, an unused one is empty"
 unfoldable pub lengthsOf : Header → ℕ → ℕ → ℕ → Verdict
 lengthsOf h output forward backward =
-    only (eqb output (bytes (h .size))) (Refused OutputLength) $
-    only (eqb forward (referenceLength (usesForward (h .«coding_type»)) (h .size))) (Refused ForwardLength) $
-    only (eqb backward (referenceLength (usesBackward (h .«coding_type»)) (h .size))) (Refused BackwardLength) $
+    need eqb output (bytes (h .size)) else Refused OutputLength then
+    need eqb forward (referenceLength (usesForward (h .«coding_type»)) (h .size)) else Refused ForwardLength then
+    need eqb backward (referenceLength (usesBackward (h .«coding_type»)) (h .size)) else Refused BackwardLength then
     Passed

@@ -4,7 +4,7 @@ use Prim.Native.Nat.{ℕ, _+_}
 use lib.Dec.{eqb, leb}
 use lib.ListN.{length, getD, take, drop}
 use Rattle.refusals.specs.declared.Refusal.the-variants.{FileEmpty, Version, OutOfTurn, FileEnds}
-use Rattle.format3.specs.Chain.{only, _$_}
+use Rattle.parsed.specs.Guard.{need_else_then_}
 use Rattle.format3.specs.Record.{recordOf}
 use Rattle.format3.specs.Turn.{inTurn}
 use Rattle.format3.specs.declared.record.Record.{Record}
@@ -27,9 +27,9 @@ version = 3
 -- the file's start, up to its header (1 to 8); "place is the offset of the refused record's length (0 for 1 and 2; file length for 7)"
 unfoldable pub firstHeader : List ℕ → Opened
 firstHeader file =
-    only (leb 1 (length file)) (Opened.Refused FileEmpty 0) $
-    only (eqb (getD file 0 0) version) (Opened.Refused Version 0) $
-    only (leb 2 (length file)) (Opened.Refused FileEnds 1) $
+    need leb 1 (length file) else Opened.Refused FileEmpty 0 then
+    need eqb (getD file 0 0) version else Opened.Refused Version 0 then
+    need leb 2 (length file) else Opened.Refused FileEnds 1 then
     found (recordOf file 1)
   where
     legal : ℕ → HeaderAnswer → Opened
@@ -39,7 +39,7 @@ firstHeader file =
     found : Record → Opened
     found (Record.Refused refusal) = Opened.Refused refusal 1
     found (Record.Found kind start n) =
-        only (inTurn Turn.Start kind) (Opened.Refused OutOfTurn 1) $
+        need inTurn Turn.Start kind else Opened.Refused OutOfTurn 1 then
         legal (start + n) (headerOf (take n (drop start file)))
 
 -- "the header ends with 19, 20, 21": then the lengths of what the caller lends

@@ -5,14 +5,14 @@ use lib.Dec.{leb}
 use Rattle.picture_header.specs.declared.size.PictureSize.{PictureSize}
 use Rattle.picture_header.specs.declared.size.NewSize.{NewSize}
 use Rattle.picture_header.specs.declared.size.NewSize.the-variants.{Fits, Beyond}
-use Rattle.format3.specs.Chain.{only}
+use Rattle.parsed.specs.Guard.{need_else_then_}
 
 -- "at most 48 macroblocks wide, 36 high, 396 in all, and at least 1 by 1"
 unfoldable pub legalSize : ℕ → ℕ → Bool
 legalSize width height = leb 1 width && leb width 48 && leb 1 height && leb height 36 && leb (width * height) 396
 
 unfoldable pub sizeOf : ℕ → ℕ → NewSize
-sizeOf width height = only (legalSize width height) Beyond (Fits (record { width = width; height = height }))
+sizeOf width height = need legalSize width height else Beyond then Fits (record { width = width; height = height })
 
 -- N, the count of macroblocks
 abbrev pub count : PictureSize → ℕ

@@ -1,4 +1,6 @@
-pub mod DemandLaws
-pub mod AcceptanceLaws
-pub mod StopLaws
-pub mod EndLaws
+pub mod PassingLaws
+pub mod OpeningLaws
+pub mod Demand1
+pub mod Demand2
+pub mod Alone
+pub mod Worked

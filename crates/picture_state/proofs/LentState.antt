@@ -14,9 +14,9 @@ use denote.Memory.{cellAt, partAt, partOf}
 use denote.Steps.{only, owned, peeks}
 use denote.Struct.Steps.{spelt}
 use denote.Struct.Laws as LL
-use Rattle.macroblock_symbols.specs.declared.MacroblockSymbols.{MacroblockSymbols}
-use Rattle.macroblock_symbols.proofs.MacroblockSymbols as symbols
-use Rattle.macroblock_symbols.proofs.MacroblockSymbols.Laws as symbols′
+use Rattle.macroblock_symbols.specs.declared.DecodedMacroblock.{DecodedMacroblock}
+use Rattle.macroblock_symbols.proofs.DecodedMacroblock as symbols
+use Rattle.macroblock_symbols.proofs.DecodedMacroblock.Laws as symbols′
 use Rattle.picture_header.specs.declared.header.Header.{Header}
 use Rattle.picture_header.proofs.header.Header as header
 use Rattle.picture_header.proofs.header.Header.Laws as header′
@@ -31,7 +31,7 @@ state-val s = only (LL.vals state.the-type state′.the-laws s)
 abbrev pub header-val : Header → Val
 header-val h = only (LL.vals header.the-type header′.the-laws h)
 
-abbrev pub symbols-val : MacroblockSymbols → Val
+abbrev pub symbols-val : DecodedMacroblock → Val
 symbols-val m = only (LL.vals symbols.the-type symbols′.the-laws m)
 
 module _ {M : Type 1} (𝓤 : URA M) (H : Heap 𝓤) (A : Atoms 𝓤) (W : Given 𝓤 H A) (s : SliceState) (b o : ℕ) where

@@ -18,13 +18,13 @@ use Rattle.picture_state.specs.Vectors.{decodedVector, pastsBefore, forw
 use Rattle.picture_state.specs.Plan.{skipMotion}
 use Rattle.picture_state.specs.Slice.{Updatable}
 use Rattle.picture_state.specs.State.{zeroVector, zeroPasts, noMotion, stillMotion}
-use Rattle.symbols.proofs.Laws.MacroblockHead.{types-above}
-use Rattle.symbols.specs.MacroblockHead.{legalType}
+use Rattle.symbols.proofs.Laws.MacroblockType.{types-above}
+use Rattle.symbols.specs.MacroblockType.{givesForward, givesBackward, isIntra, legalType}
 use Rattle.picture_header.specs.declared.header.Header.{Header}
 use Rattle.picture_header.specs.declared.header.VectorCoding.{VectorCoding}
 use Rattle.symbols.specs.declared.vector_codes.VectorCode.{VectorCode}
 use Rattle.symbols.specs.declared.vector_codes.VectorCodes.{VectorCodes}
-use Rattle.macroblock_symbols.specs.Vectors.{gives}
+use Rattle.macroblock_symbols.specs.declared.DecodedMacroblock.{DecodedMacroblock}
 use Rattle.macroblock_symbols.specs.declared.MacroblockSymbols.{MacroblockSymbols}
 use Rattle.macroblock.specs.declared.compensation.Motion.{Motion}
 use Rattle.macroblock.specs.declared.compensation.Vector.{Vector}
@@ -63,24 +63,24 @@ backward-decodable h m past w p = record { few = w .backward-few; small = p; leg
 forward-within : (h : Header) (m : MacroblockSymbols) (past : Vector) → SymbolsWithin h m → VectorWithin 1024 past → VectorWithin 1024 (forwardAfter h m past)
 unfolding forwardAfter
 forward-within h m past w p =
-    either (VectorWithin 1024) (gives (m .flags) 2) (decoded-within (h .forward) past (m .forward) (forward-decodable h m past w p))
+    either (VectorWithin 1024) (givesForward (m .flags)) (decoded-within (h .forward) past (m .forward) (forward-decodable h m past w p))
     (either (VectorWithin 1024) (eqb (h .«coding_type») typeP) (zero-within 1024) p)
 
 backward-within : (h : Header) (m : MacroblockSymbols) (past : Vector) → SymbolsWithin h m → VectorWithin 1024 past → VectorWithin 1024 (backwardAfter h m past)
 unfolding backwardAfter
-backward-within h m past w p = either (VectorWithin 1024) (gives (m .flags) 4) (decoded-within (h .backward) past (m .backward) (backward-decodable h m past w p)) p
+backward-within h m past w p = either (VectorWithin 1024) (givesBackward (m .flags)) (decoded-within (h .backward) past (m .backward) (backward-decodable h m past w p)) p
 
 after-within : (h : Header) (m : MacroblockSymbols) (pasts : VectorPasts) → SymbolsWithin h m → PastsWithin pasts → PastsWithin (pastsAfter h m pasts)
 unfolding pastsAfter
 after-within h m pasts w p =
-    either PastsWithin (gives (m .flags) 16) zero-pasts-within
+    either PastsWithin (isIntra (m .flags)) zero-pasts-within
     (record { forward = forward-within h m (pasts .forward) w (p .forward); backward = backward-within h m (pasts .backward) w (p .backward) })
 
-pub pasts-within : (h : Header) (m : MacroblockSymbols) (s : SliceState) → Updatable h m s → PastsWithin (nextPasts h m (s .pasts))
+pub pasts-within : (h : Header) (m : DecodedMacroblock) (s : SliceState) → Updatable h m s → PastsWithin (nextPasts h (m .symbols) (s .pasts))
 unfolding nextPasts
 pasts-within h m s u =
-    after-within h m (pastsBefore (h .«coding_type») (m .increment) (s .pasts)) (u .symbols)
-    (before-within (h .«coding_type») (m .increment) (s .pasts) (u .pasts))
+    after-within h (m .symbols) (pastsBefore (h .«coding_type») (m .symbols .increment) (s .pasts)) (u .symbols)
+    (before-within (h .«coding_type») (m .symbols .increment) (s .pasts) (u .pasts))
 
 -- ---- a used vector is at most twice a past in size
 used-vector-within : (coding : VectorCoding) (v : Vector) → VectorWithin 1024 v → VectorWithin 2048 (usedOf coding v)
@@ -166,11 +166,11 @@ skip-backward-used coding last used = go (eqb coding typeP)
 
 -- ---- what a reader of document 01 expects of the pasts
 -- "In B an unused direction keeps its past": no reset where a direction is not given
-pub forward-kept-in-B : (h : Header) (m : MacroblockSymbols) (past : Vector) → h .«coding_type» ≡ typeB → gives (m .flags) 2 ≡ false → forwardAfter h m past ≡ past
+pub forward-kept-in-B : (h : Header) (m : MacroblockSymbols) (past : Vector) → h .«coding_type» ≡ typeB → givesForward (m .flags) ≡ false → forwardAfter h m past ≡ past
 unfolding forwardAfter
 forward-kept-in-B h m past type unused = rw (unused, type)
 
-pub backward-kept : (h : Header) (m : MacroblockSymbols) (past : Vector) → gives (m .flags) 4 ≡ false → backwardAfter h m past ≡ past
+pub backward-kept : (h : Header) (m : MacroblockSymbols) (past : Vector) → givesBackward (m .flags) ≡ false → backwardAfter h m past ≡ past
 unfolding backwardAfter
 backward-kept h m past unused = rw unused
 
@@ -193,12 +193,12 @@ unfolding skipMotion
 skip-copies-in-P last = refl
 
 -- in P a macroblock without vector does not keep the past
-pub unused-clears-in-P : (h : Header) (m : MacroblockSymbols) (past : Vector) → h .«coding_type» ≡ typeP → gives (m .flags) 2 ≡ false → forwardAfter h m past ≡ zeroVector
+pub unused-clears-in-P : (h : Header) (m : MacroblockSymbols) (past : Vector) → h .«coding_type» ≡ typeP → givesForward (m .flags) ≡ false → forwardAfter h m past ≡ zeroVector
 unfolding forwardAfter
 unused-clears-in-P h m past type unused = rw (unused, type)
 
 -- intra clears both pasts, in every type
-pub intra-clears : (h : Header) (m : MacroblockSymbols) (pasts : VectorPasts) → gives (m .flags) 16 ≡ true → pastsAfter h m pasts ≡ zeroPasts
+pub intra-clears : (h : Header) (m : MacroblockSymbols) (pasts : VectorPasts) → isIntra (m .flags) ≡ true → pastsAfter h m pasts ≡ zeroPasts
 unfolding pastsAfter
 intra-clears h m pasts intra = rw intra
 

@@ -4,9 +4,9 @@ use mathlib.Core.Path.{_≡_, refl}
 use Prim.Native.Nat.{ℕ}
 use lib.Dec.{ltb, eqb}
 use lib.IntN.{pos}
-use Rattle.macroblock_symbols.specs.MacroblockSymbols.{startingPasts}
-use Rattle.macroblock_symbols.specs.Vectors.{gives}
-use Rattle.macroblock_symbols.specs.declared.MacroblockSymbols.{MacroblockSymbols}
+use Rattle.macroblock_symbols.specs.Macroblock.{startingPasts}
+use Rattle.macroblock_symbols.specs.declared.DecodedMacroblock.{DecodedMacroblock}
+use Rattle.symbols.specs.MacroblockType.{givesForward, givesBackward, isIntra}
 use Rattle.picture_header.specs.Header.{typeP, typeB}
 use Rattle.picture_header.specs.declared.header.Header.{Header}
 use Rattle.picture_state.specs.State.{noMotion, resetSlice}
@@ -40,10 +40,10 @@ reset-keeps-nothing scale = record {
 }
 
 -- ---- an update keeps the past of a direction that a B macroblock does not use, also after skipped macroblocks. It rules out an update that clears it, or puts the other direction's there
-pub record UpdateKeepsUnused (h : Header) (m : MacroblockSymbols) (s : SliceState) : Type 0 where
-  pub forward : gives (m .flags) 2 ≡ false → sliceAfter h m s .pasts .forward ≡ s .pasts .forward
-  pub backward : gives (m .flags) 4 ≡ false → sliceAfter h m s .pasts .backward ≡ s .pasts .backward
+pub record UpdateKeepsUnused (h : Header) (m : DecodedMacroblock) (s : SliceState) : Type 0 where
+  pub forward : givesForward (m .symbols .flags) ≡ false → sliceAfter h m s .pasts .forward ≡ s .pasts .forward
+  pub backward : givesBackward (m .symbols .flags) ≡ false → sliceAfter h m s .pasts .backward ≡ s .pasts .backward
 
-pub update-keeps-unused : (h : Header) (m : MacroblockSymbols) (s : SliceState) → h .«coding_type» ≡ typeB → gives (m .flags) 16 ≡ false → UpdateKeepsUnused h m s
+pub update-keeps-unused : (h : Header) (m : DecodedMacroblock) (s : SliceState) → h .«coding_type» ≡ typeB → isIntra (m .symbols .flags) ≡ false → UpdateKeepsUnused h m s
 unfolding nextPasts pastsBefore pastsAfter forwardAfter backwardAfter
 update-keeps-unused h m s type predicted = record { forward = λ unused. rw (type, predicted, unused); backward = λ unused. rw (type, predicted, unused) }

@@ -1,9 +1,13 @@
 -- What a macroblock's symbols come to, before anything is written (document 01, "Vectors and prediction").
 use mathlib.Core.Bool.{cond}
+use mathlib.Core.List.{List, [], _∷_, _++_}
 use Prim.Native.Nat.{ℕ, _+_, _-_, _≤_}
 use lib.Dec.{eqb}
+use lib.IntN.{ℤ}
 use Rattle.picture_header.specs.Header.{typeP}
-use Rattle.macroblock_symbols.specs.declared.MacroblockSymbols.{MacroblockSymbols}
+use Rattle.blocks.specs.declared.dc.DcPasts.{DcPasts}
+use Rattle.macroblock_symbols.specs.declared.DecodedMacroblock.{DecodedMacroblock}
+use Rattle.macroblock.specs.Macroblock.{Made, uncodedFrom}
 use Rattle.macroblock.specs.declared.compensation.Motion.{Motion}
 use Rattle.picture_state.specs.State.{stillMotion}
 use Rattle.picture_state.specs.Slice.{sliceAfter, Updatable}
@@ -15,17 +19,39 @@ unfoldable pub skipMotion : ℕ → Motion → Motion
 skipMotion coding last = cond (eqb coding typeP) stillMotion last
 
 -- all that the record's symbols come to
-unfoldable pub planOf : PictureState → MacroblockSymbols → Plan
+unfoldable pub planOf : PictureState → DecodedMacroblock → Plan
 planOf s m = record {
-  skipped = m .increment - 1;
+  first = s .next;
+  skipped = m .symbols .increment - 1;
   «skip_motion» = skipMotion (s .header .«coding_type») (s .slice .motion);
-  address = s .next + (m .increment - 1);
+  address = s .next + (m .symbols .increment - 1);
   motion = sliceAfter (s .header) m (s .slice) .motion;
+  pattern = m .symbols .pattern;
   slice = sliceAfter (s .header) m (s .slice);
 }
 
+-- the same with other DC pasts
+abbrev pub withDc : Plan → DcPasts → Plan
+withDc p dc = record {
+  first = p .first;
+  skipped = p .skipped;
+  «skip_motion» = p .«skip_motion»;
+  address = p .address;
+  motion = p .motion;
+  pattern = p .pattern;
+  slice = record { scale = p .slice .scale; dc = dc; pasts = p .slice .pasts; motion = p .slice .motion; intra = p .slice .intra; first = p .slice .first };
+}
+
+-- the macroblock itself, with the coefficients of its blocks
+abbrev pub ownMade : Plan → List (List ℤ) → Made
+ownMade p coefficients = record { address = p .address; motion = p .motion; pattern = p .pattern; coefficients = coefficients }
+
+-- the macroblocks that the record makes: the skipped ones in order, then its own
+unfoldable pub madeBy : Plan → List (List ℤ) → List Made
+madeBy p coefficients = uncodedFrom (p .first) (p .skipped) (p .«skip_motion») ++ (ownMade p coefficients ∷ [])
+
 -- ---- what the code relies on: symbols that were tested, pasts in their range, and an increment
-pub record Plannable (s : PictureState) (m : MacroblockSymbols) : Type 0 where
+pub record Plannable (s : PictureState) (m : DecodedMacroblock) : Type 0 where
   pub slice : Updatable (s .header) m (s .slice)
-  pub some : 1 ≤ m .increment
+  pub some : 1 ≤ m .symbols .increment
   pub near : s .next ≤ 396

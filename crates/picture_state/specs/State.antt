@@ -5,8 +5,7 @@ use lib.IntN.{pos}
 use Rattle.format3.specs.declared.turn.Turn.the-variants as Turn
 use Rattle.macroblock.specs.declared.compensation.Motion.{Motion}
 use Rattle.macroblock.specs.declared.compensation.Vector.{Vector}
-use Rattle.macroblock_symbols.specs.MacroblockSymbols.{resetPasts}
-use Rattle.matrices.specs.Matrix.{defaultMatrices}
+use Rattle.macroblock_symbols.specs.Macroblock.{resetPasts}
 use Rattle.picture_header.specs.declared.header.Header.{Header}
 use Rattle.picture_state.specs.declared.state.VectorPasts.{VectorPasts}
 use Rattle.picture_state.specs.declared.state.SliceState.{SliceState}
@@ -31,11 +30,10 @@ stillMotion = record { forward = true; backward = false; «forward_vector» = ze
 abbrev pub resetSlice : ℕ → SliceState
 resetSlice scale = record { scale = scale; dc = resetPasts; pasts = zeroPasts; motion = noMotion; intra = false; first = true }
 
--- the state after the header: the default matrices, and no macroblock
+-- the state after the header: no matrix is loaded, and no macroblock made
 abbrev pub startState : Header → PictureState
 startState header = record {
   header = header;
-  matrices = defaultMatrices;
   loaded = record { intra = false; «non_intra» = false };
   turn = Turn.Header;
   next = 0;

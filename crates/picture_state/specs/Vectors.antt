@@ -1,4 +1,4 @@
--- The vectors of a macroblock, and the pasts after them (document 01, "Vectors and prediction"). Of the type, a sum, 2 is forward, 4 backward and 16 intra.
+-- The vectors of a macroblock, and the pasts after them (document 01, "Vectors and prediction").
 use mathlib.Core.Bool.{Bool, true, false, cond, _&&_}
 use Prim.Native.Nat.{ℕ, _≤_, _<_}
 use lib.Dec.{eqb, ltb}
@@ -7,9 +7,9 @@ use Rattle.motion.specs.Vector.{factorOf, vectorOf, usedVector}
 use Rattle.picture_header.specs.Header.{typeP}
 use Rattle.picture_header.specs.declared.header.Header.{Header}
 use Rattle.picture_header.specs.declared.header.VectorCoding.{VectorCoding}
+use Rattle.symbols.specs.MacroblockType.{givesForward, givesBackward, isIntra}
 use Rattle.symbols.specs.declared.vector_codes.VectorCode.{VectorCode}
 use Rattle.symbols.specs.declared.vector_codes.VectorCodes.{VectorCodes}
-use Rattle.macroblock_symbols.specs.Vectors.{gives}
 use Rattle.macroblock_symbols.specs.declared.MacroblockSymbols.{MacroblockSymbols}
 use Rattle.macroblock.specs.Compensation.{VectorWithin}
 use Rattle.macroblock.specs.declared.compensation.Motion.{Motion}
@@ -31,15 +31,15 @@ pastsBefore coding increment pasts = cond (eqb coding typeP && ltb 1 increment) 
 -- "in P also after a macroblock without vector .. In B an unused direction keeps its past"
 unfoldable pub forwardAfter : Header → MacroblockSymbols → Vector → Vector
 forwardAfter h m past =
-    cond (gives (m .flags) 2) (decodedVector (h .forward) past (m .forward)) (cond (eqb (h .«coding_type») typeP) zeroVector past)
+    cond (givesForward (m .flags)) (decodedVector (h .forward) past (m .forward)) (cond (eqb (h .«coding_type») typeP) zeroVector past)
 
 unfoldable pub backwardAfter : Header → MacroblockSymbols → Vector → Vector
-backwardAfter h m past = cond (gives (m .flags) 4) (decodedVector (h .backward) past (m .backward)) past
+backwardAfter h m past = cond (givesBackward (m .flags)) (decodedVector (h .backward) past (m .backward)) past
 
 -- "Pasts are 0 .. after intra"
 unfoldable pub pastsAfter : Header → MacroblockSymbols → VectorPasts → VectorPasts
 pastsAfter h m pasts =
-    cond (gives (m .flags) 16) zeroPasts (record { forward = forwardAfter h m (pasts .forward); backward = backwardAfter h m (pasts .backward) })
+    cond (isIntra (m .flags)) zeroPasts (record { forward = forwardAfter h m (pasts .forward); backward = backwardAfter h m (pasts .backward) })
 
 -- "the full-pel flag doubles it afterwards for use"
 abbrev pub usedOf : VectorCoding → Vector → Vector
@@ -47,10 +47,10 @@ usedOf coding v = record { right = usedVector (coding .«full_pel») (v .right);
 
 -- the directions of a macroblock: none where it is intra; "P without vector uses vector 0"
 unfoldable pub predictsForward : ℕ → ℕ → Bool
-predictsForward coding flags = cond (gives flags 16) false (cond (gives flags 2) true (eqb coding typeP))
+predictsForward coding flags = cond (isIntra flags) false (cond (givesForward flags) true (eqb coding typeP))
 
 unfoldable pub predictsBackward : ℕ → Bool
-predictsBackward flags = cond (gives flags 16) false (gives flags 4)
+predictsBackward flags = cond (isIntra flags) false (givesBackward flags)
 
 -- the macroblock's own directions and vectors: what the pasts now are, for use
 unfoldable pub ownMotion : Header → ℕ → VectorPasts → Motion

@@ -5,22 +5,25 @@ ghost use Rattle.picture_state.specs.Slice.{sliceAfter, Updatable};
 use crate::state;
 use crate::state::SliceState;
 use crate::vectors;
-use macroblock_symbols::MacroblockSymbols;
+use macroblock_symbols::DecodedMacroblock;
 use picture_header::header::Header;
-use symbols::macroblock_head::INTRA;
+use symbols::macroblock_type;
+use symbols::macroblock_type::INTRA;
 
-// The state after a macroblock's symbols.
-pub fn slice_after(slice: SliceState, header: Header, symbols: MacroblockSymbols) -> SliceState
-    requires { ⌜ Updatable header symbols slice ⌝ }
-    ensures { λ r. ⌜ r ≡ sliceAfter header symbols slice ⌝ }
+// The state after a macroblock.
+pub fn slice_after(slice: SliceState, header: Header, macroblock: DecodedMacroblock) -> SliceState
+    requires { ⌜ Updatable header macroblock slice ⌝ }
+    ensures { λ r. ⌜ r ≡ sliceAfter header macroblock slice ⌝ }
 {
+    let symbols = macroblock.symbols;
+    let dc = macroblock.dc;
     let kept = slice.pasts;
+    let scale = macroblock_symbols::scale_after(slice.scale, symbols);
     let pasts = vectors::next_pasts(header, symbols, kept);
     let motion = vectors::own_motion(header, symbols.flags, pasts);
-    let dc = symbols.dc;
-    let intra = macroblock_symbols::vectors::gives_part(symbols.flags, INTRA);
+    let intra = macroblock_type::gives_part(symbols.flags, INTRA);
     SliceState {
-        scale: symbols.scale,
+        scale,
         dc,
         pasts,
         motion,
@@ -36,12 +39,12 @@ pub fn reset(state: &mut SliceState, scale: u8)
     *state = state::reset_slice(scale);
 }
 
-// Thin: the lent state is copied out, moved on by a macroblock's symbols, and stored back.
-pub fn update(state: &mut SliceState, header: Header, symbols: MacroblockSymbols)
-    requires { ⌜ Updatable header symbols (now state) ⌝ }
-    ensures { λ _. ⌜ now (state .exit) ≡ sliceAfter header symbols (now (state .entry)) ⌝ }
+// Thin: the lent state is copied out, moved on by a macroblock, and stored back.
+pub fn update(state: &mut SliceState, header: Header, macroblock: DecodedMacroblock)
+    requires { ⌜ Updatable header macroblock (now state) ⌝ }
+    ensures { λ _. ⌜ now (state .exit) ≡ sliceAfter header macroblock (now (state .entry)) ⌝ }
 {
-    *state = slice_after(*state, header, symbols);
+    *state = slice_after(*state, header, macroblock);
 }
 
 // What `reset` leaves of a state by value: whoever calls this lends nothing.
@@ -54,11 +57,11 @@ pub fn after_reset(slice: SliceState, scale: u8) -> SliceState
 }
 
 // What `update` leaves of a state by value: whoever calls this lends nothing.
-pub fn after_update(slice: SliceState, header: Header, symbols: MacroblockSymbols) -> SliceState
-    requires { ⌜ Updatable header symbols slice ⌝ }
-    ensures { λ r. ⌜ r ≡ sliceAfter header symbols slice ⌝ }
+pub fn after_update(slice: SliceState, header: Header, macroblock: DecodedMacroblock) -> SliceState
+    requires { ⌜ Updatable header macroblock slice ⌝ }
+    ensures { λ r. ⌜ r ≡ sliceAfter header macroblock slice ⌝ }
 {
     let mut state = slice;
-    update(&mut state, header, symbols);
+    update(&mut state, header, macroblock);
     state
 }

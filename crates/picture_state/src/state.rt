@@ -1,13 +1,11 @@
 // What is kept from record to record.
 ghost use mathlib.Core.Path.{_≡_};
 ghost use Rattle.picture_state.specs.State.{zeroPasts, stillMotion, resetSlice, startState};
-use blocks::DcPasts;
+use blocks::dc::DcPasts;
 use format3::turn::Turn;
 use macroblock::compensation::Motion;
 use macroblock::compensation::Vector;
-use macroblock_symbols::RESET_DC;
 use matrices::Loaded;
-use matrices::Matrices;
 use picture_header::header::Header;
 
 // The vectors that the next differences are added to.
@@ -31,7 +29,7 @@ pub struct SliceState {
 // What a picture keeps.
 pub struct PictureState {
     pub header: Header,
-    pub matrices: Matrices,
+    // Which quantizer matrices were loaded.
     pub loaded: Loaded,
     pub turn: Turn,
     // The address after the last macroblock's, and the count of macroblocks written.
@@ -66,17 +64,12 @@ pub fn still_motion() -> Motion
 pub fn reset_slice(scale: u8) -> SliceState
     ensures { λ r. ⌜ r ≡ resetSlice scale ⌝ }
 {
+    let dc = macroblock_symbols::reset_pasts();
+    let pasts = zero_pasts();
     SliceState {
         scale,
-        dc: DcPasts {
-            y: RESET_DC,
-            cb: RESET_DC,
-            cr: RESET_DC,
-        },
-        pasts: VectorPasts {
-            forward: Vector { right: 0, down: 0 },
-            backward: Vector { right: 0, down: 0 },
-        },
+        dc,
+        pasts,
         motion: Motion {
             forward: false,
             backward: false,
@@ -92,11 +85,9 @@ pub fn reset_slice(scale: u8) -> SliceState
 pub fn start_state(header: Header) -> PictureState
     ensures { λ r. ⌜ r ≡ startState header ⌝ }
 {
-    let matrices = matrices::default_matrices();
     let slice = reset_slice(1);
     PictureState {
         header,
-        matrices,
         loaded: Loaded {
             intra: false,
             non_intra: false,

@@ -12,9 +12,10 @@ use macroblock_symbols::MacroblockSymbols;
 use picture_header::header::Header;
 use picture_header::header::P_PICTURE;
 use picture_header::header::VectorCoding;
-use symbols::macroblock_head::BACKWARD;
-use symbols::macroblock_head::FORWARD;
-use symbols::macroblock_head::INTRA;
+use symbols::macroblock_type;
+use symbols::macroblock_type::BACKWARD;
+use symbols::macroblock_type::FORWARD;
+use symbols::macroblock_type::INTRA;
 use symbols::vector_codes::VectorCodes;
 
 // The count f of residuals: 1 where the picture has no vectors of this direction.
@@ -69,7 +70,7 @@ fn forward_after(header: Header, symbols: MacroblockSymbols, past: Vector) -> Ve
     requires { ⌜ SymbolsWithin header symbols × VectorWithin 1024 past ⌝ }
     ensures { λ r. ⌜ r ≡ forwardAfter header symbols past ⌝ }
 {
-    let given = macroblock_symbols::vectors::gives_part(symbols.flags, FORWARD);
+    let given = macroblock_type::gives_part(symbols.flags, FORWARD);
     if given {
         let coding = header.forward;
         let codes = symbols.forward;
@@ -86,7 +87,7 @@ fn backward_after(header: Header, symbols: MacroblockSymbols, past: Vector) -> V
     requires { ⌜ SymbolsWithin header symbols × VectorWithin 1024 past ⌝ }
     ensures { λ r. ⌜ r ≡ backwardAfter header symbols past ⌝ }
 {
-    let given = macroblock_symbols::vectors::gives_part(symbols.flags, BACKWARD);
+    let given = macroblock_type::gives_part(symbols.flags, BACKWARD);
     if !given {
         return past;
     }
@@ -100,7 +101,7 @@ fn pasts_after(header: Header, symbols: MacroblockSymbols, pasts: VectorPasts) -
     requires { ⌜ SymbolsWithin header symbols × PastsWithin pasts ⌝ }
     ensures { λ r. ⌜ r ≡ pastsAfter header symbols pasts ⌝ }
 {
-    let intra = macroblock_symbols::vectors::gives_part(symbols.flags, INTRA);
+    let intra = macroblock_type::gives_part(symbols.flags, INTRA);
     if intra {
         return state::zero_pasts();
     }
@@ -125,11 +126,11 @@ fn use_vector(coding: VectorCoding, vector: Vector) -> Vector
 fn predicts_forward(coding: u8, flags: u8) -> bool
     ensures { λ r. ⌜ r ≡ predictsForward coding flags ⌝ }
 {
-    let intra = macroblock_symbols::vectors::gives_part(flags, INTRA);
+    let intra = macroblock_type::gives_part(flags, INTRA);
     if intra {
         return false;
     }
-    let given = macroblock_symbols::vectors::gives_part(flags, FORWARD);
+    let given = macroblock_type::gives_part(flags, FORWARD);
     if given {
         return true;
     }
@@ -140,11 +141,11 @@ fn predicts_forward(coding: u8, flags: u8) -> bool
 fn predicts_backward(flags: u8) -> bool
     ensures { λ r. ⌜ r ≡ predictsBackward flags ⌝ }
 {
-    let intra = macroblock_symbols::vectors::gives_part(flags, INTRA);
+    let intra = macroblock_type::gives_part(flags, INTRA);
     if intra {
         return false;
     }
-    macroblock_symbols::vectors::gives_part(flags, BACKWARD)
+    macroblock_type::gives_part(flags, BACKWARD)
 }
 
 // A macroblock's own directions and vectors for use.

@@ -1,2 +1,2 @@
 pub mod PlayLaws
-pub mod ForgetLaws
+pub mod ItemLaws

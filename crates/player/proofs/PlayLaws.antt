@@ -1,90 +1,83 @@
--- Laws of a reel that is played: the part of the output that is lent, what a position is, and what is kept. Assumes nothing.
+-- Laws of a reel that is played: what the code's buffers hold is what the definition carries. Assumes nothing.
 use mathlib.Core.Bool.{Bool, true, false}
 use mathlib.Core.List.{List}
-use mathlib.Core.Path.{_≡_, refl, sym, _∙_}
-use Prim.Native.Nat.{ℕ, min, _+_, _*_, _≤_, _<_}
+use mathlib.Core.Path.{_≡_, refl, sym, ap, _∙_}
+use Prim.Native.Nat.{ℕ, _≤_}
 use native.Mathlib.Omega.{arith}
-use lib.Dec.{leb}
-use lib.ListN.{length, take, drop, drop-of-length-le}
-use lib.Seq.{take-all}
-use borrow.Author.Tests.{leb-true, leb-false}
-use Rattle.format3.proofs.Laws.Chain.{only-all}
+use lib.Dec.{eqb, leb}
+use lib.ListN.{length, take, replicate, length-replicate}
+use lib.Seq.{length-take-le}
+use borrow.Author.Tests.{eqb-true, leb-true}
+use Rattle.refusals.specs.Refusal.{accepted}
+use Rattle.byte_layout.specs.Laid.{laid}
+use Rattle.byte_layout.proofs.Laws.Laid.{laid-same}
+use Rattle.transform.specs.Transform.{inverseTransform}
 use Rattle.picture_header.proofs.Laws.Opening.{begun}
 use Rattle.picture_header.specs.Opening.{firstHeader}
+use Rattle.picture_header.specs.Size.{count}
 use Rattle.picture_header.specs.declared.opening.Opened.{Opened}
 use Rattle.picture_header.specs.declared.opening.Opened.the-variants as Opened
-use Rattle.reel.specs.Part.{partAt, lengthAt}
-use Rattle.player.specs.Play.{startOf, lentBytes, nextOf}
-use Rattle.reel.specs.declared.part.Part.{Part}
-use Rattle.reel.specs.declared.part.Part.the-variants as Part
-use Rattle.player.specs.declared.play.Position.{Position}
+use Rattle.picture.specs.Picture.{Picture}
+use Rattle.picture.specs.declared.reader.Answer.{Answer}
+use Rattle.picture_laws.proofs.Alone.{picture-alone}
+use Rattle.picture_laws.specs.Alone.{Alike}
+use Rattle.reel.specs.References.{forwardFor, backwardFor}
+use Rattle.reel.specs.declared.references.Kept.{Kept}
+use Rattle.player.specs.Items.{Carried, lentBytes, madeInto, madeFrom}
+use Rattle.player.specs.Next.{StartWithin, KeptWithin, heldIn, keptOf, playedAs, playedInto, playedFile}
 
--- ---- the part of a buffer that is lent, where the buffer may be shorter
-module _ (n : ℕ) (l : List ℕ) where
-  -- what holds of n, and of the buffer's length where that is less, holds of the lesser of the two
-  least : (P : ℕ → Type 0) → P n → (length l ≤ n → P (length l)) → P (min n (length l))
-  least P p q = go (leb n (length l)) refl
-    where
-      go : (b : Bool) → leb n (length l) ≡ b → P (min n (length l))
-      go true e = let m : min n (length l) ≡ n = omega (arith, leb-true n (length l) e) in rw m p
-      go false e =
-          let more = leb-false n (length l) e in
-          let m : min n (length l) ≡ length l = omega arith in
-          rw m (q (omega arith))
+-- ---- the start of a file, and the output that is lent for it
+pub start-within : (file : List ℕ) → StartWithin (firstHeader file)
+start-within file = record { size = λ h end e. begun file e .header .size }
 
-  pub take-least : take (min n (length l)) l ≡ take n l
-  take-least = least (λ k. take k l ≡ take n l) refl (λ h. take-all (length l) l (omega arith) ∙ sym (take-all n l h))
-
-  pub drop-least : drop (min n (length l)) l ≡ drop n l
-  drop-least = least (λ k. drop k l ≡ drop n l) refl (λ h. drop-of-length-le l {i = length l} (omega arith) ∙ sym (drop-of-length-le l {i = n} h))
-
--- ---- the count of macroblocks of a header that was found
-pub start-within : (file : List ℕ) → startOf (firstHeader file) .macroblocks ≤ 396
-start-within file = go (firstHeader file) refl
+pub lent-within : (start : Opened) → lentBytes start ≤ 15360
+lent-within (Opened.Refused refusal place) = omega arith
+lent-within (Opened.Opened h end) = go (leb (count (h .size)) 40) refl
   where
-    go : (x : Opened) → firstHeader file ≡ x → startOf x .macroblocks ≤ 396
-    go (Opened.Refused refusal place) e = omega arith
-    go (Opened.Opened h end) e = begun file e .header .size .few
-
--- ---- an output that is lent fits a buffer for 40 macroblocks, and so does a reference that is kept
-pub lent-within : (macroblocks : ℕ) → lentBytes macroblocks ≤ 15360
-lent-within macroblocks = go (leb macroblocks 40) refl
-  where
-    go : (b : Bool) → leb macroblocks 40 ≡ b → lentBytes macroblocks ≤ 15360
-    go true e = rw e (omega (arith, leb-true macroblocks 40 e))
+    go : (b : Bool) → leb (count (h .size)) 40 ≡ b → lentBytes (Opened.Opened h end) ≤ 15360
+    go true e = rw e (omega (arith, leb-true (count (h .size)) 40 e))
     go false e = rw e (omega arith)
 
--- ---- a file found in the reel lies within it, after its length
-pub record Inside (reel : List ℕ) (at : ℕ) (p : Part) : Type 0 where
-  pub fits : (start n : ℕ) → p ≡ Part.File start n → (start ≡ at + 4) × (start + n ≤ length reel)
+pub lent-part : (start : Opened) (buffer : List ℕ) → 15360 ≤ length buffer → length (take (lentBytes start) buffer) ≡ lentBytes start
+lent-part start buffer long = length-take-le (lentBytes start) buffer (omega (arith, lent-within start))
 
-pub inside : (reel : List ℕ) (at : ℕ) → Inside reel at (partAt reel at)
-unfolding partAt
-inside reel at =
-    only-all (Inside reel at) _ _ _ none λ whole.
-    only-all (Inside reel at) _ _ _ none λ fits.
-    record {
-      fits = λ start n e.
-          let a : _≡_ {A = ℕ} (at + 4) start = cc in
-          let b : _≡_ {A = ℕ} (lengthAt reel at) n = cc in
-          (sym a, omega (arith, leb-true, whole, fits));
-    }
-  where
-    none : Inside reel at Part.Cut
-    none = record { fits = λ start n e. let z : _≡_ {A = ℕ} 0 1 = cc in absurd (omega arith) }
+-- ---- what is kept lies in both buffers
+module _ (kept : Kept) (older newer : List ℕ) (within : KeptWithin kept older newer) where
+  pub newer-length : length (take (kept .newer) newer) ≡ kept .newer
+  newer-length = length-take-le (kept .newer) newer (within .newer-fits)
 
--- ---- the position moves on to the reel's end; a picture takes 4 bytes at least, and counts once
-pub record Moved (reel : List ℕ) (before after : Position) : Type 0 where
-  pub on : before .at < length reel → before .at < after .at
-  pub counted : 4 * before .pictures ≤ before .at → before .at < length reel → 4 * after .pictures ≤ after .at
-  pub once : after .at < length reel → after .pictures ≡ before .pictures + 1
+  -- where no more is kept, that is what is carried on
+  pub nothing-kept : (kept ≡ keptOf (heldIn kept older newer)) × ((older ≡ laid 0 (heldIn kept older newer .older) older) × (newer ≡ laid 0 (heldIn kept older newer .newer) newer))
+  nothing-kept =
+      let older-length = length-take-le (kept .older) older (within .older-fits) in
+      (rw (older-length, newer-length), (sym (laid-same (kept .older) older), sym (laid-same (kept .newer) newer)))
 
-pub moves-on : (reel : List ℕ) (position : Position) (older newer output : List ℕ) → Moved reel position (nextOf reel position older newer output .next .position)
-unfolding nextOf
-moves-on reel position older newer output = go (partAt reel (position .at)) refl
-  where
-    go : (p : Part) → partAt reel (position .at) ≡ p → Moved reel position (nextOf reel position older newer output .next .position)
-    go Part.Cut e = rw e (record { on = λ h. h; counted = λ h i. omega arith; once = λ h. absurd (omega arith) })
-    go (Part.File start n) e =
-        let within = inside reel (position .at) .fits start n e in
-        rw e (record { on = λ h. omega (arith, within .0); counted = λ h i. omega (arith, within .0); once = λ h. refl })
+-- ---- a picture made into a lent output is the definition's, whatever the output held
+pub made-alike : (file : List ℕ) (carried : Carried) (output : List ℕ) → length output ≡ lentBytes (firstHeader file)
+    → Alike (lentBytes (firstHeader file)) (madeInto (firstHeader file) file carried output) (madeFrom file carried)
+unfolding madeInto
+made-alike file carried output lent =
+    let start = firstHeader file in
+    rw lent at (picture-alone inverseTransform file (forwardFor start (carried .older) (carried .newer)) (backwardFor start (carried .newer))
+    output (replicate (lentBytes start) 0) (lent ∙ sym (length-replicate (lentBytes start) 0)))
+
+-- so it is played as the definition's
+module _ (number : ℕ) (start : Opened) (kept : Kept) (older newer : List ℕ) where
+  alike-played : {n : ℕ} {p q : Picture} → Alike n p q → playedAs number start p kept older newer ≡ playedAs number start q kept older newer
+  unfolding playedAs
+  alike-played {n} {p} {q} a = go (eqb (p .number) accepted) refl
+    where
+      same-number : p .number ≡ q .number
+      same-number = ap (λ (x : Answer). x .number) (a .answer)
+
+      go : (b : Bool) → eqb (p .number) accepted ≡ b → playedAs number start p kept older newer ≡ playedAs number start q kept older newer
+      go true e =
+          let same : p ≡ q = λ i. record { number = a .answer i .number; place = a .answer i .place; made = a .answer i .made; output = a .bytes (eqb-true (p .number) accepted e) i } in
+          ap (λ (x : Picture). playedAs number start x kept older newer) same
+      go false e =
+          let other : eqb (q .number) accepted ≡ false = ap (λ (m : ℕ). eqb m accepted) (sym same-number) ∙ e in
+          rw (e, other, a .answer)
+
+pub file-played : (number : ℕ) (file : List ℕ) (kept : Kept) (older newer output : List ℕ) → 15360 ≤ length output
+    → let start = firstHeader file in playedInto number start file kept older newer (take (lentBytes start) output) ≡ playedFile number file kept older newer
+file-played number file kept older newer output long = alike-played number (firstHeader file) kept older newer (made-alike file (heldIn kept older newer) _ (lent-part (firstHeader file) output long))

@@ -1,2 +1,2 @@
-pub mod Line
-pub mod Play
+pub mod Items
+pub mod Next

@@ -1,3 +1,2 @@
-// A reel played: each picture made from the references kept, and its line.
-pub mod line;
+// A reel played: each picture made from the references carried to it.
 pub mod play;

@@ -6,7 +6,7 @@ use lib.ListN.{length, drop}
 use Rattle.refusals.specs.Refusal.{accepted, numberOf}
 use Rattle.refusals.specs.declared.Refusal.{Refusal}
 use Rattle.refusals.specs.declared.Refusal.the-variants as Refusal
-use Rattle.format3.specs.Chain.{only}
+use Rattle.parsed.specs.Guard.{need_else_then_}
 use Rattle.picture_header.specs.Header.{headerWith}
 use Rattle.picture_header.specs.declared.header.HeaderFields.{HeaderFields}
 use Rattle.picture_header.specs.declared.header.HeaderAnswer.{HeaderAnswer}
@@ -49,7 +49,7 @@ acceptedWith records p buffer = record { answer = acceptedAnswer (length records
 
 -- "26 only for a slice that is otherwise accepted; byte and bit 0"
 unfoldable pub fitted : List ℕ → Position → List ℕ → Outcome
-fitted records p buffer = only (leb (length records) (length buffer)) (refusedOutcome Refusal.RecordsLength firstBit buffer) (acceptedWith records p buffer)
+fitted records p buffer = need leb (length records) (length buffer) else refusedOutcome Refusal.RecordsLength firstBit buffer then acceptedWith records p buffer
 
 abbrev pub readOutcome : Read SliceFields → List ℕ → Outcome
 readOutcome (read slice p) buffer = fitted (recordsOf slice) p buffer

@@ -1,4 +1,4 @@
--- The records of a slice and of a macroblock, from their fields (document 01, "The Format 3 file").
+-- The records of a slice and of a macroblock, from their symbols (document 01, "The Format 3 file").
 use mathlib.Core.Bool.{Bool, cond}
 use mathlib.Core.List.{List, [], _∷_, _++_}
 use Prim.Native.Nat.{ℕ, _+_}
@@ -6,8 +6,11 @@ use lib.IntN.{ℤ}
 use lib.ListN.{length}
 use Rattle.lists.specs.Joined.{joined}
 use Rattle.format3.specs.Record.{slice, macroblock}
+use Rattle.symbols.specs.MacroblockType.{givesScale, givesForward, givesBackward, isIntra, codedPattern}
 use Rattle.symbols.specs.declared.vector_codes.VectorCodes.{VectorCodes}
-use Rattle.macroblock_symbols.specs.Vectors.{gives}
+use Rattle.pairs.specs.declared.Pair.{Pair}
+use Rattle.blocks.specs.Blocks.{Block, uncoded, coded}
+use Rattle.macroblock_symbols.specs.Macroblock.{Macroblock}
 use Rattle.byte_layout.specs.Bytes.{signedByte, wordBytes, signedWordBytes}
 
 -- "Each is a 2-byte length (of what comes after it), a kind byte and a body"
@@ -25,38 +28,31 @@ abbrev pub sliceRecord : ℕ → ℕ → List ℕ
 sliceRecord scale start = recordBytes slice (sliceBody scale start)
 
 -- "the pairs, each a run byte and a 2-byte level"
-pub record PairFields : Type 0 where
-  pub run : ℕ
-  pub level : ℤ
-
 unfoldable pub pairBytes : ℕ → ℤ → List ℕ
 pairBytes run level = run ∷ signedWordBytes level
 
-abbrev pub pairsBytes : List PairFields → List ℕ
+abbrev pub pairsBytes : List Pair → List ℕ
 pairsBytes pairs = joined (λ pair. pairBytes (pair .run) (pair .level)) pairs
 
 -- "a count of pairs ..; the pairs"
-unfoldable pub levelsBytes : List PairFields → List ℕ
+unfoldable pub levelsBytes : List Pair → List ℕ
 levelsBytes pairs = length pairs ∷ pairsBytes pairs
 
--- "A block is: intra only, a 2-byte DC difference; a count of pairs ..; the pairs"
-pub record BlockFields : Type 0 where
-  pub difference : ℤ
-  pub pairs : List PairFields
-
+-- "A block is: intra only, a 2-byte DC difference; a count of pairs ..; the pairs". One that is not coded has no bytes
 abbrev pub differenceBytes : Bool → ℤ → List ℕ
 differenceBytes intra difference = cond intra (signedWordBytes difference) []
 
-unfoldable pub blockBytes : Bool → BlockFields → List ℕ
-blockBytes intra block = differenceBytes intra (block .difference) ++ levelsBytes (block .pairs)
+unfoldable pub blockBytes : Bool → Block → List ℕ
+blockBytes intra uncoded = []
+blockBytes intra (coded difference pairs) = differenceBytes intra difference ++ levelsBytes pairs
 
--- the coded blocks, one behind the other
-abbrev pub blocksBytes : Bool → List BlockFields → List ℕ
+-- the blocks, one behind the other
+abbrev pub blocksBytes : Bool → List Block → List ℕ
 blocksBytes intra blocks = joined (blockBytes intra) blocks
 
 -- "type byte, 2-byte address increment, then as the type says: scale"
 unfoldable pub headBytes : ℕ → ℕ → ℕ → List ℕ
-headBytes flags increment scale = flags ∷ wordBytes increment ++ cond (gives flags 1) (scale ∷ []) []
+headBytes flags increment scale = flags ∷ wordBytes increment ++ cond (givesScale flags) (scale ∷ []) []
 
 -- "horizontal code, residual, vertical code, residual, a byte each"
 unfoldable pub codeBytes : ℤ → ℕ → List ℕ
@@ -72,33 +68,24 @@ givenCodesBytes given codes = cond given (codesBytes codes) []
 
 -- "forward codes ..; backward codes"
 abbrev pub vectorsBytes : ℕ → VectorCodes → VectorCodes → List ℕ
-vectorsBytes flags forward backward = givenCodesBytes (gives flags 2) forward ++ givenCodesBytes (gives flags 4) backward
+vectorsBytes flags forward backward = givenCodesBytes (givesForward flags) forward ++ givenCodesBytes (givesBackward flags) backward
 
--- "pattern byte; blocks"
+-- "pattern byte; blocks"; a pattern that is known from the type has no byte
 unfoldable pub patternBytes : ℕ → ℕ → List ℕ
-patternBytes flags pattern = cond (gives flags 8) (pattern ∷ []) []
+patternBytes flags pattern = codedPattern flags (λ known. []) (pattern ∷ [])
 
-abbrev pub residueBytes : ℕ → ℕ → List BlockFields → List ℕ
-residueBytes flags pattern blocks = patternBytes flags pattern ++ blocksBytes (gives flags 16) blocks
+abbrev pub residueBytes : ℕ → ℕ → List Block → List ℕ
+residueBytes flags pattern blocks = patternBytes flags pattern ++ blocksBytes (isIntra flags) blocks
 
--- the fields of a macroblock; one that the type doesn't give is not laid out. The blocks are the coded ones, in their order
-pub record MacroblockFields : Type 0 where
-  pub flags : ℕ
-  pub increment : ℕ
-  pub scale : ℕ
-  pub forward : VectorCodes
-  pub backward : VectorCodes
-  pub pattern : ℕ
-  pub blocks : List BlockFields
+-- a field that the type doesn't give is not laid out
+unfoldable pub macroblockBody : Macroblock → List ℕ
+macroblockBody m =
+    headBytes (m .symbols .flags) (m .symbols .increment) (m .symbols .scale)
+    ++ (vectorsBytes (m .symbols .flags) (m .symbols .forward) (m .symbols .backward) ++ residueBytes (m .symbols .flags) (m .symbols .pattern) (m .blocks))
 
-unfoldable pub macroblockBody : MacroblockFields → List ℕ
-macroblockBody fields =
-    headBytes (fields .flags) (fields .increment) (fields .scale)
-    ++ (vectorsBytes (fields .flags) (fields .forward) (fields .backward) ++ residueBytes (fields .flags) (fields .pattern) (fields .blocks))
-
-abbrev pub macroblockRecord : MacroblockFields → List ℕ
-macroblockRecord fields = recordBytes macroblock (macroblockBody fields)
+abbrev pub macroblockRecord : Macroblock → List ℕ
+macroblockRecord m = recordBytes macroblock (macroblockBody m)
 
 -- a slice's record and those of its macroblocks
-unfoldable pub sliceRecords : ℕ → ℕ → List MacroblockFields → List ℕ
+unfoldable pub sliceRecords : ℕ → ℕ → List Macroblock → List ℕ
 sliceRecords scale start macroblocks = sliceRecord scale start ++ joined macroblockRecord macroblocks

@@ -3,6 +3,8 @@ ghost use mathlib.Core.Path.{_≡_};
 ghost use lib.ListN.{length};
 ghost use Rattle.byte_layout.specs.Laid.{laid};
 ghost use Rattle.record_layout.specs.Records.{recordHead, sliceRecord, headBytes, codeBytes, pairBytes};
+use symbols::macroblock_type;
+use symbols::macroblock_type::SCALE_GIVEN;
 
 // The bytes of a slice's record from its kind on.
 const SLICE_SIZE: u8 = 4;
@@ -34,7 +36,7 @@ pub fn lay_head(buffer: &mut [u8], at: usize, flags: u8, increment: u16, scale: 
 {
     let high = (increment / 256 % 256) as u8;
     let low = (increment % 256) as u8;
-    if flags % 2 == 1 {
+    if macroblock_type::gives_part(flags, SCALE_GIVEN) {
         let bytes = [flags, high, low, scale];
         byte_layout::lay_bytes(buffer, at, &bytes);
         return 4;

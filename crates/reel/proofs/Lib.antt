@@ -1,2 +1,1 @@
-pub mod SumLaws
-pub mod ReferenceLaws
+pub mod PartLaws

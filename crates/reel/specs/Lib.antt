@@ -1,3 +1,2 @@
 pub mod Part
-pub mod Planes
 pub mod References

@@ -1,10 +1,10 @@
 -- A reel taken apart (document 01, "The program `panel` reads a reel").
-use mathlib.Core.Bool.{Bool}
-use mathlib.Core.List.{List}
-use Prim.Native.Nat.{ℕ, _+_, _*_}
+use mathlib.Core.Bool.{Bool, cond}
+use mathlib.Core.List.{List, [], _∷_}
+use Prim.Native.Nat.{ℕ, zero, suc, _+_, _*_}
 use lib.Dec.{ltb, leb}
-use lib.ListN.{length, getD}
-use Rattle.format3.specs.Chain.{only, _$_}
+use lib.ListN.{length, getD, take, drop}
+use Rattle.parsed.specs.Guard.{need_else_then_}
 use Rattle.reel.specs.declared.part.Part.{Part}
 use Rattle.reel.specs.declared.part.Part.the-variants.{File, Cut}
 
@@ -19,6 +19,24 @@ lengthAt reel at = ((getD reel at 0 * 256 + getD reel (at + 1) 0) * 256 + getD r
 -- "per picture a 4-byte length and a file"; "a cut length or file"
 unfoldable pub partAt : List ℕ → ℕ → Part
 partAt reel at =
-    only (leb (at + 4) (length reel)) Cut $
-    only (leb (at + 4 + lengthAt reel at) (length reel)) Cut $
+    need leb (at + 4) (length reel) else Cut then
+    need leb (at + 4 + lengthAt reel at) (length reel) else Cut then
     File (at + 4) (lengthAt reel at)
+
+-- a file of a reel, or the offset of a length at which the reel is cut
+pub data ReelPart : Type 0 where
+  file : List ℕ → ReelPart
+  cut : ℕ → ReelPart
+
+-- the parts from an offset on; n is at least their count
+unfoldable pub partsFrom : ℕ → List ℕ → ℕ → List ReelPart
+partsFrom zero reel at = []
+partsFrom (suc n) reel at = cond (leb (length reel) at) [] (go (partAt reel at) (partsFrom n reel))
+  where
+    go : Part → (ℕ → List ReelPart) → List ReelPart
+    go (File start size) after = file (take size (drop start reel)) ∷ after (start + size)
+    go Cut after = cut at ∷ []
+
+-- "per picture a 4-byte length and a file. .. A cut length or file .. ends it"
+abbrev pub partsOf : List ℕ → List ReelPart
+partsOf reel = partsFrom (length reel) reel 0

@@ -1,4 +1,3 @@
-// A reel taken apart, the references that it keeps and lends, and the sums of a picture's planes.
+// A reel taken apart, and the references that it carries from picture to picture and lends.
 pub mod part;
-pub mod planes;
 pub mod references;

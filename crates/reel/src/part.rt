@@ -16,7 +16,7 @@ pub enum Part {
     Cut,
 }
 
-// Whether a reel of so many bytes is too long.
+// Whether a reel of this length is too long.
 pub fn is_long(bytes: usize) -> bool
     ensures { λ r. ⌜ r ≡ isLong bytes ⌝ }
 {

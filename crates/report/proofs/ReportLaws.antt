@@ -1,90 +1,86 @@
 -- The lines of a reel, put one after another. Assumes nothing.
-use mathlib.Core.Bool.{true, false}
-use mathlib.Core.List.{List, [], _++_, append-nil, append-assoc}
-use mathlib.Core.Path.{_≡_, refl, sym, ap, _∙_}
+use mathlib.Core.List.{List, []}
+use mathlib.Core.Path.{_≡_, refl, sym}
 use Prim.Native.Nat.{ℕ, zero, suc, _+_, _-_, _*_, _/_, _≤_, _<_}
 use native.Mathlib.Omega.{arith}
-use lib.Dec.{leb}
 use lib.ListN.{length, take}
-use borrow.Author.Tests.{le-leb, lt-leb}
-use Rattle.player.specs.Play.{AfterNext, firstPosition, nextOf}
+use Rattle.lists.specs.Joined.{joined}
+use Rattle.byte_layout.specs.Laid.{laid}
+use Rattle.text.proofs.PutLaws.{Put, put, put-rest}
+use Rattle.player.specs.Items.{picture, cut}
+use Rattle.player.specs.Next.{AfterNext, firstPosition, nextOf}
 use Rattle.player.specs.declared.play.Next.{Next}
-use Rattle.player.specs.declared.play.Position.{Position}
-use Rattle.player.proofs.PlayLaws.{moves-on}
-use Rattle.report.specs.Text.{shownText}
-use Rattle.report.specs.Report.{linesFrom}
+use Rattle.player.specs.declared.play.Next.the-variants as Next
+use Rattle.player.specs.declared.play.Played.{Played}
+use Rattle.player.specs.declared.play.ReelPosition.{ReelPosition}
+use Rattle.player.proofs.ItemLaws.{Buffers, itemsLeft, none-left, next-cut, next-picture}
+use Rattle.report.specs.Text.{lineText}
+use Rattle.report.specs.Report.{linesOf}
 
--- the text up to `end` and the lines from the position on are the whole; a line has at most 149 bytes
-pub record Printed (reel whole : List ℕ) (position : Position) (older newer output text : List ℕ) (end : ℕ) : Type 0 where
+-- the lines of the items from the position on, put after what is there, are the whole; a line has at most 149 bytes, and a picture at least 4
+pub record Printed (reel start : List ℕ) (position : ReelPosition) (older newer text : List ℕ) (end : ℕ) : Type 0 where
   pub fuel : ℕ
   pub enough : length reel - position .at ≤ fuel
+  pub inside : position .at ≤ length reel
   pub counted : 4 * position .pictures ≤ position .at
-  pub room : position .at < length reel → end ≤ 149 * position .pictures
-  pub inside : end ≤ length text
-  pub same : take end text ++ linesFrom fuel reel position older newer output ≡ whole
+  pub room : end ≤ 149 * position .pictures
+  pub left : Put end (joined lineText (itemsLeft fuel reel position older newer)) text (length (linesOf reel)) (laid 0 (linesOf reel) start)
 
-pub printed-none : (reel older newer output text : List ℕ) → Printed reel (linesFrom (length reel) reel firstPosition older newer output) firstPosition older newer output text 0
-printed-none reel older newer output text = record {
+pub printed-none : (reel older newer text : List ℕ) → Printed reel text firstPosition older newer text 0
+printed-none reel older newer text = record {
   fuel = length reel;
   enough = omega arith;
-  counted = omega arith;
-  room = λ h. omega arith;
   inside = omega arith;
-  same = refl;
+  counted = omega arith;
+  room = omega arith;
+  left = put (omega arith) refl;
 }
 
--- one line more
-one-more : (n : ℕ) (reel : List ℕ) (position : Position) (older newer output : List ℕ) → position .at < length reel
-    → linesFrom (suc n) reel position older newer output
-    ≡ shownText (nextOf reel position older newer output .next .shown) ++ linesFrom n reel (nextOf reel position older newer output .next .position) (nextOf reel position older newer output .older) (nextOf reel position older newer output .newer) (nextOf reel position older newer output .output)
-unfolding linesFrom
-one-more n reel position older newer output h = rw (lt-leb (length reel) (position .at) h) refl
+-- nothing is left to put
+nothing-left : {at end : ℕ} {before after : List ℕ} → Put at [] before end after → (at ≡ end) × (before ≡ after)
+unfolding laid
+nothing-left p = (omega (arith, p .ends), sym (p .lies))
 
-module _ (reel whole : List ℕ) (position : Position) (older newer output text : List ℕ) (end : ℕ) (p : Printed reel whole position older newer output text end) (h : position .at < length reel) where
-  abbrev after : AfterNext
-  after = nextOf reel position older newer output
+module _ (reel start : List ℕ) (position : ReelPosition) (older newer text : List ℕ) (end : ℕ) (p : Printed reel start position older newer text end) where
+  -- at the reel's end there is no line more
+  pub printed-all : length reel ≤ position .at → (end ≡ length (linesOf reel)) × (text ≡ laid 0 (linesOf reel) start)
+  unfolding joined
+  printed-all h = nothing-left (rw (none-left (p .fuel) reel position older newer h) at (p .left))
 
   -- the next line fits
-  pub line-fits : 149 * (length reel / 4 + 1) ≤ length text → end + 149 ≤ length text
-  line-fits roomy = omega (arith, p .room h, p .counted)
+  pub line-fits : position .at < length reel → 149 * (length reel / 4 + 1) ≤ length text → end + 149 ≤ length text
+  line-fits h roomy = omega (arith, p .room, p .counted)
 
-  more : (text′ : List ℕ) (end′ : ℕ) → end′ ≤ end + 149 → end′ ≤ length text′ → take end′ text′ ≡ take end text ++ shownText (after .next .shown)
-      → Printed reel whole (after .next .position) (after .older) (after .newer) (after .output) text′ end′
-  more text′ end′ short fits put = go (p .fuel) (p .enough) (p .same)
-    where
-      go : (n : ℕ) → length reel - position .at ≤ n → take end text ++ linesFrom n reel position older newer output ≡ whole
-          → Printed reel whole (after .next .position) (after .older) (after .newer) (after .output) text′ end′
-      go zero enough same = absurd (omega arith)
-      go (suc n) enough same =
-          let moved = moves-on reel position older newer output in
-          record {
-            fuel = n;
-            enough = omega (arith, moved .on h);
-            counted = moved .counted (p .counted) h;
-            room = λ more. omega (arith, moved .once more, p .room h);
-            inside = fits;
-            same =
-                ap (λ (l : List ℕ). l ++ linesFrom n reel (after .next .position) (after .older) (after .newer) (after .output)) put
-                ∙ append-assoc (take end text) (shownText (after .next .shown)) _
-                ∙ ap (λ (l : List ℕ). take end text ++ l) (sym (one-more n reel position older newer output h))
-                ∙ same;
-          }
+  module _ (output : List ℕ) (h : position .at < length reel) (long : Buffers older newer output) where
+    abbrev after : AfterNext
+    after = nextOf reel position older newer output
 
-  -- the same, of what the code has at hand
-  pub printed-more : (next : Next) (older′ newer′ output′ : List ℕ) → next ≡ after .next → older′ ≡ after .older → newer′ ≡ after .newer → output′ ≡ after .output
-      → (text′ : List ℕ) (end′ : ℕ) → end′ ≤ end + 149 → end′ ≤ length text′ → take end′ text′ ≡ take end text ++ shownText (next .shown)
-      → Printed reel whole (next .position) older′ newer′ output′ text′ end′
-  printed-more next older′ newer′ output′ a b c d text′ end′ short fits put =
-      rw (a, b, c, d) (more text′ end′ short fits (put ∙ ap (λ (x : Next). take end text ++ shownText (x .shown)) a))
+    -- what is put last, where the reel is cut
+    pub printed-cut : after .next ≡ Next.Cut → {end′ : ℕ} {text′ : List ℕ} → Put end (lineText (cut (position .at))) text end′ text′ → (end′ ≡ length (linesOf reel)) × (text′ ≡ laid 0 (linesOf reel) start)
+    unfolding joined
+    printed-cut e {end′} {text′} line = go (p .fuel) (p .enough) (p .left)
+      where
+        go : (n : ℕ) → length reel - position .at ≤ n → Put end (joined lineText (itemsLeft n reel position older newer)) text (length (linesOf reel)) (laid 0 (linesOf reel) start)
+            → (end′ ≡ length (linesOf reel)) × (text′ ≡ laid 0 (linesOf reel) start)
+        go zero enough left = absurd (omega arith)
+        go (suc n) enough left = nothing-left (put-rest (rw (next-cut n reel position older newer output h long e) at left) line)
 
--- at the reel's end there is no line more
-none-more : (n : ℕ) (reel : List ℕ) (position : Position) (older newer output : List ℕ) → length reel ≤ position .at → linesFrom n reel position older newer output ≡ []
-unfolding linesFrom
-none-more zero reel position older newer output h = refl
-none-more (suc n) reel position older newer output h = rw (le-leb (length reel) (position .at) h) refl
-
-pub printed-all : (reel whole : List ℕ) (position : Position) (older newer output text : List ℕ) (end : ℕ) → Printed reel whole position older newer output text end → length reel ≤ position .at → take end text ≡ whole
-printed-all reel whole position older newer output text end p h =
-    sym (append-nil (take end text))
-    ∙ ap (λ (l : List ℕ). take end text ++ l) (sym (none-more (p .fuel) reel position older newer output h))
-    ∙ p .same
+    -- one line more
+    pub printed-more : {played : Played} {size : ℕ} {next : ReelPosition} → after .next ≡ Next.Picture played size next → {end′ : ℕ} {text′ : List ℕ} → end′ ≤ end + 149
+        → Put end (lineText (picture played (take size (after .output)))) text end′ text′ → Printed reel start next (after .older) (after .newer) text′ end′
+    unfolding joined
+    printed-more {played} {size} {next} e {end′} {text′} short line = go (p .fuel) (p .enough) (p .left)
+      where
+        go : (n : ℕ) → length reel - position .at ≤ n → Put end (joined lineText (itemsLeft n reel position older newer)) text (length (linesOf reel)) (laid 0 (linesOf reel) start)
+            → Printed reel start next (after .older) (after .newer) text′ end′
+        go zero enough left = absurd (omega arith)
+        go (suc n) enough left =
+            let one = next-picture n reel position older newer output h long e in
+            record {
+              fuel = n;
+              enough = omega (arith, one .moved);
+              inside = one .inside;
+              counted = omega (arith, one .moved, one .counted, p .counted);
+              room = omega (arith, one .counted, p .room);
+              left = put-rest (rw (one .items) at left) line;
+            }

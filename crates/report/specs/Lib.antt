@@ -1,2 +1,3 @@
+pub mod Planes
 pub mod Text
 pub mod Report

@@ -1,13 +1,17 @@
--- What is shown, as text in ASCII (document 01, "The program `panel` reads a reel").
+-- What is printed of an item, as text in ASCII (document 01, "The program `panel` reads a reel").
+use mathlib.Core.Bool.{cond}
 use mathlib.Core.List.{List, [], _∷_, _++_}
 use Prim.Native.Nat.{ℕ}
+use lib.Dec.{eqb}
+use Rattle.refusals.specs.Refusal.{accepted}
 use Rattle.text.specs.Number.{field}
+use Rattle.picture_header.specs.Header.{typeI, typeP}
+use Rattle.picture_header.specs.declared.opening.Opened.{Opened}
+use Rattle.picture_header.specs.declared.opening.Opened.the-variants as Opened
 use Rattle.picture.specs.declared.reader.Answer.{Answer}
-use Rattle.reel.specs.declared.planes.Sums.{Sums}
-use Rattle.reel.specs.declared.planes.Sums.the-variants as Sums
-use Rattle.player.specs.declared.line.Line.{Line}
-use Rattle.player.specs.declared.play.Shown.{Shown}
-use Rattle.player.specs.declared.play.Shown.the-variants as Shown
+use Rattle.player.specs.Items.{Item, picture, cut}
+use Rattle.report.specs.Planes.{sumsOf}
+use Rattle.report.specs.declared.planes.Sums.{Sums}
 
 abbrev pub space : ℕ
 space = 32
@@ -15,23 +19,30 @@ space = 32
 abbrev pub lineEnd : ℕ
 lineEnd = 10
 
+-- "letter (`?` if there is no kind 1 header or it was refused by 8 or sooner)": in ASCII I is 73, P 80, B 66 and ? 63
+abbrev pub letterOf : Opened → ℕ
+letterOf (Opened.Opened h end) = cond (eqb (h .«coding_type») typeI) 73 (cond (eqb (h .«coding_type») typeP) 80 66)
+letterOf (Opened.Refused refusal place) = 63
+
 -- "answer, place, made"
 abbrev pub answerText : Answer → List ℕ
 answerText answer = field (answer .number) space ++ (field (answer .place) space ++ field (answer .made) space)
 
 -- "sums of Y, Cb, Cr (`-` each if refused)", and the line's end
 abbrev pub sumsText : Sums → List ℕ
-sumsText (Sums.Planes y cb cr) = field y space ++ (field cb space ++ field cr lineEnd)
-sumsText Sums.Refused = 45 ∷ space ∷ 45 ∷ space ∷ 45 ∷ lineEnd ∷ []
+sumsText sums = field (sums .y) space ++ (field (sums .cb) space ++ field (sums .cr) lineEnd)
 
--- "picture number from 1, letter", then these
-abbrev pub lineText : Line → List ℕ
-lineText line = field (line .number) space ++ ((line .letter ∷ space ∷ []) ++ (answerText (line .answer) ++ sumsText (line .sums)))
+abbrev pub dashes : List ℕ
+dashes = 45 ∷ space ∷ 45 ∷ space ∷ 45 ∷ lineEnd ∷ []
 
--- a line; "a cut length or file prints `cut` and the offset of that length"
-abbrev pub shownText : Shown → List ℕ
-shownText (Shown.Picture line) = lineText line
-shownText (Shown.Cut at) = (99 ∷ 117 ∷ 116 ∷ space ∷ []) ++ field at lineEnd
+abbrev pub planesText : Answer → List ℕ → List ℕ
+planesText answer bytes = cond (eqb (answer .number) accepted) (sumsText (sumsOf bytes)) dashes
+
+-- "A line: picture number from 1, letter, answer, place, made, sums"; "A cut length or file prints `cut` and the offset of that length"
+unfoldable pub lineText : Item → List ℕ
+lineText (picture played bytes) =
+    field (played .number) space ++ ((letterOf (played .start) ∷ space ∷ []) ++ (answerText (played .answer) ++ planesText (played .answer) bytes))
+lineText (cut at) = (99 ∷ 117 ∷ 116 ∷ space ∷ []) ++ field at lineEnd
 
 -- "prints only `long`"
 abbrev pub longText : List ℕ

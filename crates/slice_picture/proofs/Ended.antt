@@ -2,19 +2,17 @@
 use mathlib.Core.List.{List, _++_}
 use mathlib.Core.Path.{_≡_, refl}
 use Prim.Native.Nat.{ℕ}
-use lib.Dec.{leb}
 use lib.ListN.{length, drop}
 use borrow.Author.Tests.{leb-true}
 use Rattle.refusals.specs.Refusal as Refusals
 use Rattle.refusals.specs.declared.Refusal.the-variants.{RecordsLength}
-use Rattle.format3.specs.Chain.{only}
+use Rattle.refusals.proofs.Laws.{never-accepted}
+use Rattle.parsed.proofs.Guard.{need-all}
 use Rattle.picture_header.specs.Header.{headerWith}
 use Rattle.picture_header.specs.declared.header.Header.{Header}
 use Rattle.picture_header.specs.declared.header.HeaderFields.{HeaderFields}
 use Rattle.picture_header.specs.declared.header.HeaderAnswer.{HeaderAnswer}
 use Rattle.picture_header.specs.declared.header.HeaderAnswer.the-variants as Header
-use Rattle.picture_laws.proofs.AcceptanceLaws.{number-not-accepted}
-use Rattle.code_tables.proofs.Laws.Prefix.{case}
 use Rattle.slice_syntax.specs.Read.{Read, read, refused}
 use Rattle.slice_syntax.specs.Slice.{SliceFields, firstBit, rawSliceOf, recordsOf}
 use Rattle.raw_slice.specs.Answer.{Outcome, fitted, readOutcome, headerOutcome, rawSliceOutcome}
@@ -23,12 +21,11 @@ use Rattle.slice_picture.specs.Ended as Ended
 
 module _ (fields : HeaderFields) (bytes buffer : List ℕ) where
   read-ended : (h : Header) → headerWith fields ≡ Header.Legal h → (x : Read SliceFields) → rawSliceOf h bytes ≡ x → Ended fields bytes buffer (readOutcome x buffer)
-  unfolding fitted only
+  unfolding fitted
   read-ended h legal (refused refusal p) e = Ended.refused refusal p
   read-ended h legal (read slice p) e =
-      case (leb (length (recordsOf slice)) (length buffer))
-      (λ t. rw t (Ended.accepted (record { header = h; legal = legal; slice = slice; end = p; is = e; room = leb-true (length (recordsOf slice)) (length buffer) t })))
-      (λ t. rw t (Ended.refused RecordsLength firstBit))
+      need-all (Ended fields bytes buffer) _ _ _ (Ended.refused RecordsLength firstBit) λ t.
+      Ended.accepted (record { header = h; legal = legal; slice = slice; end = p; is = e; room = leb-true (length (recordsOf slice)) (length buffer) t })
 
   header-ended : (a : HeaderAnswer) → headerWith fields ≡ a → Ended fields bytes buffer (headerOutcome a bytes buffer)
   header-ended (Header.Refused refusal) e = Ended.refused refusal firstBit
@@ -60,5 +57,5 @@ module _ (fields : HeaderFields) (bytes buffer : List ℕ) where
   accepted-written number = go (rawSliceOutcome fields bytes buffer) ended number
     where
       go : (o : Outcome) → Ended fields bytes buffer o → o .answer .number ≡ Refusals.accepted → Written o
-      go o (Ended.refused refusal p) n = absurd (number-not-accepted refusal n)
+      go o (Ended.refused refusal p) n = absurd (never-accepted refusal n)
       go o (Ended.accepted t) n = record { taken = t; counted = refl; there = refl }

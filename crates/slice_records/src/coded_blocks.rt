@@ -8,7 +8,7 @@ ghost use Rattle.bits.specs.Bits.{InBytes};
 ghost use Rattle.blocks.specs.Blocks.{isCoded};
 ghost use Rattle.code_tables.specs.Table.{codeTable};
 ghost use Rattle.record_layout.specs.Records.{differenceBytes, blockBytes, blocksBytes};
-ghost use Rattle.slice_syntax.specs.Blocks.{givenDifferenceAt, blockAt, codedBlockAt, blocksFrom};
+ghost use Rattle.slice_syntax.specs.Blocks.{givenDifferenceAt, blockAt, givenBlockAt, blocksFrom};
 ghost use Rattle.slice_records.specs.Laying.{layingOf, LaidAt, farthestBlocks, farthestBlock};
 
 // The DC difference of an intra block.
@@ -53,7 +53,7 @@ fn lay_block(
     match lay_difference(codes, bytes, at, intra, block, buffer, place) {
         Laying::Refused(refusal, refused) => Laying::Refused(refusal, refused),
         Laying::Done(next, first) => {
-            match crate::pairs::lay_pairs(codes, bytes, next, intra, buffer, place + first) {
+            match crate::coded_pairs::lay_pairs(codes, bytes, next, intra, buffer, place + first) {
                 Laying::Refused(refusal, refused) => Laying::Refused(refusal, refused),
                 Laying::Done(end, second) => {
                     let both = first + second;
@@ -65,7 +65,7 @@ fn lay_block(
 }
 
 // A block, if it is coded by the pattern.
-fn lay_coded_block(
+fn lay_given_block(
     pattern: u8,
     codes: &[u16; 4608],
     bytes: &[u8],
@@ -76,16 +76,16 @@ fn lay_coded_block(
     place: usize,
 ) -> Laying
     requires { ⌜ (now codes ≡ codeTable) × InBytes (now bytes) at × (place ≤ farthestBlock) × (block < 6) ⌝ }
-    ensures { λ r. ⌜ r ≡ layingOf (blocksBytes intra) (codedBlockAt (isCoded pattern block) intra block (now (bytes .entry)) at) ⌝ }
-    ensures { λ _. ⌜ LaidAt (blocksBytes intra) place (now (buffer .entry)) (now (buffer .exit)) (codedBlockAt (isCoded pattern block) intra block (now (bytes .entry)) at) ⌝ }
+    ensures { λ r. ⌜ r ≡ layingOf (blockBytes intra) (givenBlockAt (isCoded pattern block) intra block (now (bytes .entry)) at) ⌝ }
+    ensures { λ _. ⌜ LaidAt (blockBytes intra) place (now (buffer .entry)) (now (buffer .exit)) (givenBlockAt (isCoded pattern block) intra block (now (bytes .entry)) at) ⌝ }
 {
-    if blocks::is_coded(pattern, block) {
+    if blocks::blocks::is_coded(pattern, block) {
         return lay_block(codes, bytes, at, intra, block, buffer, place);
     }
     Laying::Done(at, 0)
 }
 
-// The blocks that are coded by the pattern.
+// The six blocks.
 pub fn lay_blocks(
     codes: &[u16; 4608],
     bytes: &[u8],
@@ -103,7 +103,7 @@ pub fn lay_blocks(
     let mut laid: usize = 0;
     let mut block: usize = 0;
     while block < 6 {
-        match lay_coded_block(
+        match lay_given_block(
             pattern,
             codes,
             bytes,

@@ -2,6 +2,8 @@
 use bits::Position;
 use refusals::Refusal;
 use slice_syntax::step::Step;
+use symbols::macroblock_type;
+use symbols::macroblock_type::SCALE_GIVEN;
 ghost use mathlib.Core.Path.{_≡_};
 ghost use Rattle.bits.specs.Bits.{InBytes};
 ghost use Rattle.code_tables.specs.Table.{codeTable};
@@ -18,7 +20,7 @@ fn read_scale(bytes: &[u8], at: Position, flags: u8) -> Step
     requires { ⌜ InBytes (now bytes) at ⌝ }
     ensures { λ r. ⌜ r ≡ stepOf (scaleAt flags (now (bytes .entry)) at) ⌝ }
 {
-    if macroblock_symbols::vectors::gives_part(flags, 1) {
+    if macroblock_type::gives_part(flags, SCALE_GIVEN) {
         return slice_syntax::step::next_field(bytes, at, 5);
     }
     Step::Value(0, at)

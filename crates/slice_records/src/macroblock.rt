@@ -4,6 +4,9 @@ use crate::laying::Laying;
 use bits::Position;
 use picture_header::header::Header;
 use slice_syntax::step::Step;
+use symbols::macroblock_type;
+use symbols::macroblock_type::INTRA;
+use symbols::macroblock_type::PATTERN;
 ghost use mathlib.Core.Path.{_≡_};
 ghost use Prim.Native.Nat.{_≤_};
 ghost use lib.ListN.{length};
@@ -11,41 +14,36 @@ ghost use Rattle.picture_header.specs.Header.{HeaderWithin};
 ghost use Rattle.bits.specs.Bits.{InBytes};
 ghost use Rattle.byte_layout.specs.Laid.{laid, farthest};
 ghost use Rattle.code_tables.specs.Table.{codeTable};
-ghost use Rattle.layout_reading.specs.Matching.{codedPattern};
 ghost use Rattle.record_layout.specs.Records.{patternBytes, macroblockRecord};
 ghost use Rattle.slice_syntax.specs.Answers.{stepOf};
 ghost use Rattle.slice_syntax.specs.Macroblock.{patternAt, residueAt, restAt, macroblockAt};
 ghost use Rattle.slice_records.specs.Laying.{layingOf, LaidAt, farthestRest, farthestResidue, patternAndBlocks, restBytes};
 
+const ALL_BLOCKS: u16 = 63;
+
+// Which blocks are coded: all of an intra macroblock, else those of the pattern, where the type says that one is given.
 fn read_pattern(codes: &[u16; 4608], bytes: &[u8], at: Position, flags: u8) -> Step
     requires { ⌜ (now codes ≡ codeTable) × InBytes (now bytes) at ⌝ }
     ensures { λ r. ⌜ r ≡ stepOf (patternAt flags (now (bytes .entry)) at) ⌝ }
 {
-    if macroblock_symbols::vectors::gives_part(flags, 8) {
+    if macroblock_type::gives_part(flags, INTRA) {
+        return Step::Value(ALL_BLOCKS, at);
+    }
+    if macroblock_type::gives_part(flags, PATTERN) {
         return slice_syntax::step::next_pattern(codes, bytes, at);
     }
     Step::Value(0, at)
 }
 
-// All six blocks of an intra macroblock, and those of another's pattern.
-fn coded_pattern(flags: u8, pattern: u8) -> u8
-    ensures { λ r. ⌜ r ≡ codedPattern flags pattern ⌝ }
-{
-    if macroblock_symbols::vectors::gives_part(flags, 16) {
-        return 63;
-    }
-    if macroblock_symbols::vectors::gives_part(flags, 8) {
-        return pattern;
-    }
-    0
-}
-
-// The pattern, where the type gives one: how many bytes it has.
+// The pattern, where it is not known from the type: how many bytes it has.
 fn lay_pattern(buffer: &mut [u8], place: usize, flags: u8, pattern: u8) -> usize
     ensures { λ r. ⌜ r ≡ length (patternBytes flags pattern) ⌝ }
     ensures { λ _. ⌜ now (buffer .exit) ≡ laid place (patternBytes flags pattern) (now (buffer .entry)) ⌝ }
 {
-    if macroblock_symbols::vectors::gives_part(flags, 8) {
+    if macroblock_type::gives_part(flags, INTRA) {
+        return 0;
+    }
+    if macroblock_type::gives_part(flags, PATTERN) {
         byte_layout::lay_u8(buffer, place, pattern);
         return 1;
     }
@@ -69,15 +67,14 @@ fn lay_residue(
         Step::Refused(refusal, refused) => Laying::Refused(refusal, refused),
         Step::Value(value, next) => {
             let pattern = value as u8;
-            let intra = macroblock_symbols::vectors::gives_part(flags, 16);
-            let coded = coded_pattern(flags, pattern);
+            let intra = macroblock_type::gives_part(flags, INTRA);
             let first = lay_pattern(buffer, place, flags, pattern);
             match crate::coded_blocks::lay_blocks(
                 codes,
                 bytes,
                 next,
                 intra,
-                coded,
+                pattern,
                 buffer,
                 place + first,
             ) {

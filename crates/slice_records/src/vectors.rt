@@ -2,9 +2,12 @@
 use crate::laying::Laying;
 use bits::Position;
 use slice_syntax::vectors::Motion;
+use symbols::macroblock_type;
+use symbols::macroblock_type::BACKWARD;
+use symbols::macroblock_type::FORWARD;
 ghost use mathlib.Core.Path.{_≡_};
 ghost use Prim.Native.Nat.{_<_, _≤_};
-ghost use Rattle.macroblock_symbols.specs.Vectors.{gives};
+ghost use Rattle.symbols.specs.MacroblockType.{gives};
 ghost use Rattle.bits.specs.Bits.{InBytes};
 ghost use Rattle.code_tables.specs.Table.{codeTable};
 ghost use Rattle.record_layout.specs.Records.{codesBytes, givenCodesBytes};
@@ -61,7 +64,7 @@ fn lay_vector(
     }
 }
 
-// The codes of a direction, where the type gives them: 2 in its sum for forward, 4 for backward.
+// The codes of a direction, where the type gives them: `part` is FORWARD or BACKWARD.
 fn lay_given_vector(
     flags: u8,
     part: u8,
@@ -76,7 +79,7 @@ fn lay_given_vector(
     ensures { λ r. ⌜ r ≡ layingOf (givenCodesBytes (gives flags part)) (givenVectorAt (gives flags part) «f_code» (now (bytes .entry)) at) ⌝ }
     ensures { λ _. ⌜ LaidAt (givenCodesBytes (gives flags part)) place (now (buffer .entry)) (now (buffer .exit)) (givenVectorAt (gives flags part) «f_code» (now (bytes .entry)) at) ⌝ }
 {
-    if macroblock_symbols::vectors::gives_part(flags, part) {
+    if macroblock_type::gives_part(flags, part) {
         return lay_vector(codes, bytes, at, f_code, buffer, place);
     }
     Laying::Done(at, 0)
@@ -97,12 +100,12 @@ pub fn lay_vectors(
     ensures { λ r. ⌜ r ≡ layingOf (bothBytes flags) (vectorsAt flags forward backward (now (bytes .entry)) at) ⌝ }
     ensures { λ _. ⌜ LaidAt (bothBytes flags) place (now (buffer .entry)) (now (buffer .exit)) (vectorsAt flags forward backward (now (bytes .entry)) at) ⌝ }
 {
-    match lay_given_vector(flags, 2, codes, bytes, at, forward, buffer, place) {
+    match lay_given_vector(flags, FORWARD, codes, bytes, at, forward, buffer, place) {
         Laying::Refused(refusal, refused) => Laying::Refused(refusal, refused),
         Laying::Done(next, first) => {
             match lay_given_vector(
                 flags,
-                4,
+                BACKWARD,
                 codes,
                 bytes,
                 next,

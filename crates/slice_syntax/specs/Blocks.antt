@@ -1,14 +1,15 @@
 -- A macroblock's blocks: "DC size and difference, first and next coefficients, escape with run and level as one code, end of block (needed even
 -- after position 63)".
 use mathlib.Core.Bool.{Bool, false, cond, not}
-use mathlib.Core.List.{List, [], _∷_, _++_}
+use mathlib.Core.List.{List, [], _∷_}
 use Prim.Native.Nat.{ℕ, zero, suc, _+_}
 use lib.Dec.{eqb, ltb, leb}
 use lib.IntN.{ℤ, pos}
 use Rattle.refusals.specs.declared.Refusal.the-variants.{SliceCode, SliceCut}
-use Rattle.format3.specs.Chain.{only, _$_}
-use Rattle.blocks.specs.Blocks.{isCoded, firstPosition}
-use Rattle.record_layout.specs.Records.{PairFields, BlockFields}
+use Rattle.parsed.specs.Guard.{need_else_then_}
+use Rattle.pairs.specs.declared.Pair.{Pair}
+use Rattle.pairs.specs.Pairs.{firstPosition}
+use Rattle.blocks.specs.Blocks.{Block, uncoded, coded, isCoded}
 use Rattle.bits.specs.Bits.{bitsFrom, advanced}
 use Rattle.bits.specs.declared.Position.{Position}
 use Rattle.code_tables.specs.Code.{Word}
@@ -16,7 +17,7 @@ use Rattle.code_tables.specs.AnnexB.{luminanceSizes, chrominanceSizes}
 use Rattle.codes.specs.Difference.{dcDifferenceOf}
 use Rattle.coefficient_codes.specs.Coefficient.{wordsOf, coefficientOf}
 use Rattle.coefficient_codes.specs.declared.coefficient.Coefficient.{Coefficient}
-use Rattle.coefficient_codes.specs.declared.coefficient.Coefficient.the-variants.{Pair, EndOfBlock, NoCode, Short}
+use Rattle.coefficient_codes.specs.declared.coefficient.Coefficient.the-variants as Coefficient
 use Rattle.slice_syntax.specs.declared.coefficient.NextPair.{NextPair}
 use Rattle.slice_syntax.specs.declared.coefficient.NextPair.the-variants as NextPair
 use Rattle.slice_syntax.specs.Read.{Read, read, refused, readThen, wordAt, fieldAt}
@@ -29,16 +30,16 @@ sizeWords block = cond (ltb block 4) luminanceSizes chrominanceSizes
 unfoldable pub differenceAt : ℕ → List ℕ → Position → Read ℤ
 differenceAt block bytes at =
     readThen (wordAt (sizeWords block) bytes at) λ size next.
-    cond (eqb size 0) (read (pos 0) next) $
-    readThen (fieldAt size bytes next) λ value end.
-    read (dcDifferenceOf size value) end
+    cond (eqb size 0) (read (pos 0) next)
+    (readThen (fieldAt size bytes next) λ value end.
+    read (dcDifferenceOf size value) end)
 
 -- the next pair of a block, where a run of 0 lands at the position `next`, or the block's end: "24 .. a whole code that takes .. a coefficient past 63"
 unfoldable pub nextPairOf : ℕ → Coefficient → Position → NextPair
-nextPairOf next (Pair run level n) at = only (leb (next + run) 63) (NextPair.Refused SliceCode at) (NextPair.Pair run level (advanced at n))
-nextPairOf next (EndOfBlock n) at = NextPair.End (advanced at n)
-nextPairOf next NoCode at = NextPair.Refused SliceCode at
-nextPairOf next Short at = NextPair.Refused SliceCut at
+nextPairOf next (Coefficient.Pair run level n) at = need leb (next + run) 63 else NextPair.Refused SliceCode at then NextPair.Pair run level (advanced at n)
+nextPairOf next (Coefficient.EndOfBlock n) at = NextPair.End (advanced at n)
+nextPairOf next Coefficient.NoCode at = NextPair.Refused SliceCode at
+nextPairOf next Coefficient.Short at = NextPair.Refused SliceCut at
 
 abbrev pub nextPairAt : Bool → ℕ → List ℕ → Position → NextPair
 nextPairAt first next bytes at = nextPairOf next (coefficientOf (wordsOf first) (bitsFrom bytes at)) at
@@ -50,7 +51,7 @@ pairThen (NextPair.End after) pair end = end after
 pairThen (NextPair.Refused refusal at) pair end = refused refusal at
 
 -- a block's pairs to its end. Each pair lands further on, so that with n + next at least 65 the first clause is never reached
-unfoldable pub pairsFrom : ℕ → Bool → ℕ → List ℕ → Position → Read (List PairFields)
+unfoldable pub pairsFrom : ℕ → Bool → ℕ → List ℕ → Position → Read (List Pair)
 pairsFrom zero first next bytes at = refused SliceCut at
 pairsFrom (suc n) first next bytes at =
     pairThen (nextPairAt first next bytes at)
@@ -59,31 +60,27 @@ pairsFrom (suc n) first next bytes at =
     read (record { run = run; level = level } ∷ pairs) end)
     (λ after. read [] after)
 
-unfoldable pub pairsAt : Bool → List ℕ → Position → Read (List PairFields)
+unfoldable pub pairsAt : Bool → List ℕ → Position → Read (List Pair)
 pairsAt intra bytes at = pairsFrom 65 (not intra) (firstPosition intra) bytes at
 
 -- the difference is an intra block's alone
 unfoldable pub givenDifferenceAt : Bool → ℕ → List ℕ → Position → Read ℤ
 givenDifferenceAt intra block bytes at = cond intra (differenceAt block bytes at) (read (pos 0) at)
 
-unfoldable pub blockAt : Bool → ℕ → List ℕ → Position → Read BlockFields
+unfoldable pub blockAt : Bool → ℕ → List ℕ → Position → Read Block
 blockAt intra block bytes at =
     readThen (givenDifferenceAt intra block bytes at) λ difference next.
     readThen (pairsAt intra bytes next) λ pairs end.
-    read (record { difference = difference; pairs = pairs }) end
+    read (coded difference pairs) end
 
 -- a block, if it is coded
-unfoldable pub codedBlockAt : Bool → Bool → ℕ → List ℕ → Position → Read (List BlockFields)
-codedBlockAt coded intra block bytes at =
-    cond coded
-    (readThen (blockAt intra block bytes at) λ fields end.
-    read (fields ∷ []) end)
-    (read [] at)
+unfoldable pub givenBlockAt : Bool → Bool → ℕ → List ℕ → Position → Read Block
+givenBlockAt given intra block bytes at = cond given (blockAt intra block bytes at) (read uncoded at)
 
--- the coded ones of the n blocks from this one on
-unfoldable pub blocksFrom : Bool → ℕ → ℕ → ℕ → List ℕ → Position → Read (List BlockFields)
+-- n blocks from this one on
+unfoldable pub blocksFrom : Bool → ℕ → ℕ → ℕ → List ℕ → Position → Read (List Block)
 blocksFrom intra pattern zero block bytes at = read [] at
 blocksFrom intra pattern (suc n) block bytes at =
-    readThen (codedBlockAt (isCoded pattern block) intra block bytes at) λ first next.
-    readThen (blocksFrom intra pattern n (block + 1) bytes next) λ rest end.
-    read (first ++ rest) end
+    readThen (givenBlockAt (isCoded pattern block) intra block bytes at) λ b next.
+    readThen (blocksFrom intra pattern n (block + 1) bytes next) λ blocks end.
+    read (b ∷ blocks) end

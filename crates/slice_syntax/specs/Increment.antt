@@ -5,7 +5,7 @@ use Prim.Native.Nat.{ℕ, zero, suc, _+_}
 use lib.Dec.{eqb, leb}
 use lib.ListN.{length}
 use Rattle.refusals.specs.declared.Refusal.the-variants.{SliceCode, SliceCut}
-use Rattle.format3.specs.Chain.{only, _$_}
+use Rattle.parsed.specs.Guard.{need_else_then_}
 use Rattle.bits.specs.Bits.{bitsFrom}
 use Rattle.bits.specs.declared.Position.{Position}
 use Rattle.code_tables.specs.AnnexB.{increments, incrementsAfterEscape, stuffing, incrementEscape}
@@ -28,7 +28,7 @@ unfoldable pub afterEscape : ℕ → ℕ → List ℕ → Position → Read ℕ
 afterEscape zero sum bytes at = refused SliceCode at
 afterEscape (suc n) sum bytes at =
     readThen (wordAt incrementsAfterEscape bytes at) λ value next.
-    only (leb (sum + amountOf value) 396) (refused SliceCode at) $
+    need leb (sum + amountOf value) 396 else refused SliceCode at then
     cond (eqb value incrementEscape) (afterEscape n (sum + 33) bytes next) (read (sum + value) next)
 
 unfoldable pub incrementAt : List ℕ → Position → Read ℕ

@@ -5,9 +5,9 @@ use Prim.Native.Nat.{ℕ, zero, suc, _+_, _-_, _*_}
 use lib.Dec.{eqb}
 use lib.ListN.{length}
 use Rattle.refusals.specs.declared.Refusal.the-variants.{SliceCut}
-use Rattle.format3.specs.Chain.{_$_}
 use Rattle.picture_header.specs.declared.header.Header.{Header}
-use Rattle.record_layout.specs.Records.{MacroblockFields, sliceRecords}
+use Rattle.macroblock_symbols.specs.Macroblock.{Macroblock}
+use Rattle.record_layout.specs.Records.{sliceRecords}
 use Rattle.bits.specs.Bits.{allZeros, bitsFrom}
 use Rattle.bits.specs.declared.Position.{Position}
 use Rattle.codes.specs.SliceStart.{sliceStartOf}
@@ -20,34 +20,34 @@ unfoldable pub afterExtra : ℕ → List ℕ → Position → Read (Unit {0})
 afterExtra zero bytes at = refused SliceCut at
 afterExtra (suc n) bytes at =
     readThen (fieldAt 1 bytes at) λ more next.
-    cond (eqb more 0) (read tt next) $
-    readThen (fieldAt 8 bytes next) λ information end.
-    afterExtra n bytes end
+    cond (eqb more 0) (read tt next)
+    (readThen (fieldAt 8 bytes next) λ information end.
+    afterExtra n bytes end)
 
 -- a macroblock with its increment
-unfoldable pub nextAt : Header → List ℕ → Position → Read MacroblockFields
+unfoldable pub nextAt : Header → List ℕ → Position → Read Macroblock
 nextAt h bytes at =
     readThen (incrementAt bytes at) λ increment next.
     macroblockAt h increment bytes next
 
 -- "It ends after a macroblock where only zero bits are left, or none": the macroblocks up to there. A macroblock takes a bit, so that with more
 -- macroblocks to read than bits left the first clause is never reached
-unfoldable pub macroblocksFrom : ℕ → Header → List ℕ → Position → Read (List MacroblockFields)
+unfoldable pub macroblocksFrom : ℕ → Header → List ℕ → Position → Read (List Macroblock)
 macroblocksFrom zero h bytes at = read [] at
 macroblocksFrom (suc n) h bytes at =
-    cond (allZeros (bitsFrom bytes at)) (read [] at) $
-    readThen (nextAt h bytes at) λ first after.
+    cond (allZeros (bitsFrom bytes at)) (read [] at)
+    (readThen (nextAt h bytes at) λ first after.
     readThen (macroblocksFrom n h bytes after) λ rest end.
-    read (first ∷ rest) end
+    read (first ∷ rest) end)
 
-abbrev pub macroblocksAt : Header → List ℕ → Position → Read (List MacroblockFields)
+abbrev pub macroblocksAt : Header → List ℕ → Position → Read (List Macroblock)
 macroblocksAt h bytes at = macroblocksFrom (1 + length (bitsFrom bytes at)) h bytes at
 
--- the fields of a slice's records
+-- a slice: what its records hold
 pub record SliceFields : Type 0 where
   pub scale : ℕ
   pub start : ℕ
-  pub macroblocks : List MacroblockFields
+  pub macroblocks : List Macroblock
 
 -- "The first increment goes into the start address, (row - 1) × width + increment - 1"
 unfoldable pub startAddress : Header → ℕ → ℕ → ℕ

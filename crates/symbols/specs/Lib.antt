@@ -1,3 +1,4 @@
 pub mod Slice
+pub mod MacroblockType
 pub mod VectorCodes
 pub mod MacroblockHead

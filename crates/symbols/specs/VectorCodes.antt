@@ -1,34 +1,47 @@
 -- The codes of a motion vector (document 01, kind 4, "Vectors and prediction", and refusals 6 and 14).
-use mathlib.Core.List.{List}
 use Prim.Native.Nat.{ℕ}
-use lib.ListN.{drop}
+use Rattle.refusals.specs.declared.Refusal.{Refusal}
 use Rattle.refusals.specs.declared.Refusal.the-variants as Refusal
+use Rattle.parsed.specs.Guard.{need_else_then_}
+use Rattle.parsed.specs.Parsed.{Parser, _then_, give, refuse, Found, value, stopped}
+use Rattle.format3.specs.Field.{byte, signedByte}
+use Rattle.motion.specs.Vector.{codeInRange, residualInRange}
 use Rattle.symbols.specs.declared.vector_codes.VectorCode.{VectorCode}
+use Rattle.symbols.specs.declared.vector_codes.VectorCodes.{VectorCodes}
 use Rattle.symbols.specs.declared.vector_codes.CodeAnswer.{CodeAnswer}
 use Rattle.symbols.specs.declared.vector_codes.CodeAnswer.the-variants as Code
 use Rattle.symbols.specs.declared.vector_codes.CodesAnswer.{CodesAnswer}
 use Rattle.symbols.specs.declared.vector_codes.CodesAnswer.the-variants as Codes
-use Rattle.motion.specs.Vector.{codeInRange, residualInRange}
-use Rattle.format3.specs.Chain.{only, _$_}
-use Rattle.format3.specs.Field.{byteOf, signedByteOf, byteThen, signedThen}
 
 -- a code and its residual, "each tested when read"
-unfoldable pub codeOf : ℕ → List ℕ → CodeAnswer
-codeOf f l =
-    signedThen (signedByteOf l) l (Code.Refused Refusal.BodyLength) λ code rest.
-    only (codeInRange code) (Code.Refused Refusal.VectorCode) $
-    byteThen (byteOf rest) rest (Code.Refused Refusal.BodyLength) λ residual end.
-    only (residualInRange f code residual) (Code.Refused Refusal.VectorCode) $
-    Code.Legal (record { code = code; residual = residual }) (record { at = 2 })
-
--- go on with a code, or refuse
-abbrev pub codeThen : CodeAnswer → List ℕ → (VectorCode → List ℕ → CodesAnswer) → CodesAnswer
-codeThen (Code.Legal code cursor) l rest = rest code (drop (cursor .at) l)
-codeThen (Code.Refused refusal) l rest = Codes.Refused refusal
+unfoldable pub codeOf : ℕ → Parser VectorCode
+codeOf f =
+    signedByte then λ code.
+    need codeInRange code else refuse Refusal.VectorCode then
+    byte then λ residual.
+    need residualInRange f code residual else refuse Refusal.VectorCode then
+    give (record { code = code; residual = residual })
 
 -- "horizontal code, residual, vertical code, residual, a byte each"
-unfoldable pub codesOf : ℕ → List ℕ → CodesAnswer
-codesOf f l =
-    codeThen (codeOf f l) l λ horizontal rest.
-    codeThen (codeOf f rest) rest λ vertical end.
-    Codes.Legal (record { horizontal = horizontal; vertical = vertical }) (record { at = 4 })
+unfoldable pub codesOf : ℕ → Parser VectorCodes
+codesOf f =
+    codeOf f then λ horizontal.
+    codeOf f then λ vertical.
+    give (record { horizontal = horizontal; vertical = vertical })
+
+-- ---- what the readers answer. The refusal of a legal answer is never asked for
+abbrev pub codeFound : CodeAnswer → Found VectorCode
+codeFound (Code.Legal code cursor) = value code (cursor .at)
+codeFound (Code.Refused refusal) = stopped refusal
+
+abbrev pub codeRefusal : CodeAnswer → Refusal
+codeRefusal (Code.Legal code cursor) = Refusal.VectorCode
+codeRefusal (Code.Refused refusal) = refusal
+
+abbrev pub codesFound : CodesAnswer → Found VectorCodes
+codesFound (Codes.Legal codes cursor) = value codes (cursor .at)
+codesFound (Codes.Refused refusal) = stopped refusal
+
+abbrev pub codesRefusal : CodesAnswer → Refusal
+codesRefusal (Codes.Legal codes cursor) = Refusal.VectorCode
+codesRefusal (Codes.Refused refusal) = refusal

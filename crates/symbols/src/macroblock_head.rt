@@ -1,38 +1,33 @@
 // The first fields of a macroblock: its type, its address increment, and its quantizer scale.
 ghost use mathlib.Core.Path.{_≡_};
-ghost use Rattle.symbols.specs.MacroblockHead.{legalType, givesScale, mustFollow, legalIncrement, scaleOf, incrementOf, headOf};
+ghost use Rattle.parsed.specs.Parsed.{Finds};
+ghost use Rattle.format3.specs.Field.{testedFound};
+ghost use Rattle.symbols.specs.MacroblockHead.{mustFollow, legalIncrement, givenScaleOf, headOf, headFound, headRefusal};
+use crate::macroblock_type;
+use crate::macroblock_type::SCALE_GIVEN;
+use crate::slice;
+use format3::field;
 use format3::field::ByteField;
 use format3::field::Cursor;
+use format3::field::TestedByte;
 use format3::field::WordField;
 use picture_header::header::B_PICTURE;
 use picture_header::header::I_PICTURE;
-use picture_header::header::P_PICTURE;
 use refusals::Refusal;
-
-// What a macroblock's type is the sum of.
-pub const SCALE_GIVEN: u8 = 1;
-
-pub const FORWARD: u8 = 2;
-
-pub const BACKWARD: u8 = 4;
-
-pub const PATTERN: u8 = 8;
-
-pub const INTRA: u8 = 16;
 
 // What the head of a macroblock is tested against.
 pub struct HeadContext {
     // The picture's coding type and its count of macroblocks.
     pub coding: u8,
     pub macroblocks: usize,
-    // The address after the last macroblock's, and the quantizer scale in force.
+    // The address after the last macroblock's.
     pub next: usize,
-    pub scale: u8,
     // Whether the macroblock is the first of its slice, and whether the one before it was intra.
     pub first: bool,
     pub intra: bool,
 }
 
+// The first fields; the scale is 0 where the type gives none.
 pub struct MacroblockHead {
     pub flags: u8,
     pub increment: u16,
@@ -42,39 +37,6 @@ pub struct MacroblockHead {
 pub enum HeadAnswer {
     Legal(MacroblockHead, Cursor),
     Refused(Refusal),
-}
-
-// The legal types of each coding type, a bit for each.
-const I_TYPES: u32 = (1 << 16) | (1 << 17);
-
-const P_TYPES: u32 = (1 << 2) | (1 << 8) | (1 << 9) | (1 << 10) | (1 << 11) | (1 << 16) | (1 << 17);
-
-const B_TYPES: u32 = (1 << 2) | (1 << 4) | (1 << 6) | (255 << 10);
-
-// Whether a macroblock's type is legal in a picture of this coding type.
-pub fn legal_type(coding: u8, flags: u8) -> bool
-    ensures { λ r. ⌜ r ≡ legalType coding flags ⌝ }
-{
-    if 31 < flags {
-        return false;
-    }
-    if coding == I_PICTURE {
-        let types = I_TYPES >> flags;
-        return types % 2 == 1;
-    }
-    if coding == P_PICTURE {
-        let types = P_TYPES >> flags;
-        return types % 2 == 1;
-    }
-    let types = B_TYPES >> flags;
-    types % 2 == 1
-}
-
-// Whether a type says that a scale is given.
-pub fn gives_scale(flags: u8) -> bool
-    ensures { λ r. ⌜ r ≡ givesScale flags ⌝ }
-{
-    flags % 2 == 1
 }
 
 // Whether a macroblock must follow the one before it, with none skipped.
@@ -115,62 +77,55 @@ fn legal_increment(context: HeadContext, increment: u16) -> bool
     true
 }
 
-// The quantizer scale where the type says that one is given (10); else the head keeps the scale in force.
-fn read_scale(rest: &[u8], head: MacroblockHead) -> HeadAnswer
-    ensures { λ r. ⌜ r ≡ scaleOf head (now (rest .entry)) ⌝ }
+// The scale (10) where the type says that one is given; else 0.
+fn read_given_scale(rest: &[u8], flags: u8) -> TestedByte
+    ensures { λ r. ⌜ Finds (givenScaleOf flags) (now (rest .entry)) (testedFound r) ⌝ }
 {
-    let flags = head.flags;
-    if !gives_scale(flags) {
-        return HeadAnswer::Legal(head, Cursor { at: 3 });
+    if !macroblock_type::gives_part(flags, SCALE_GIVEN) {
+        return TestedByte::Legal(0, Cursor { at: 0 });
     }
-    let ByteField::Value(scale, _) = format3::field::read_u8(rest) else {
+    slice::read_scale(rest)
+}
+
+// The type (12), the address increment (13) and the scale (10).
+pub fn read_head(body: &[u8], context: HeadContext) -> HeadAnswer
+    ensures { λ r. ⌜ Finds (headOf context) (now (body .entry)) (headFound r) ⌝ }
+{
+    let ByteField::Value(flags, after_type) = field::read_u8(body) else {
         return HeadAnswer::Refused(Refusal::BodyLength);
     };
-    if !crate::slice::legal_scale(scale) {
-        return HeadAnswer::Refused(Refusal::QuantizerScale);
+    if !macroblock_type::legal_type(context.coding, flags) {
+        return HeadAnswer::Refused(Refusal::MacroblockType);
     }
-    let increment = head.increment;
+    let rest = field::after(body, after_type.at);
+    let WordField::Value(increment, after_increment) = field::read_u16(rest) else {
+        return HeadAnswer::Refused(Refusal::BodyLength);
+    };
+    if !legal_increment(context, increment) {
+        return HeadAnswer::Refused(Refusal::AddressIncrement);
+    }
+    let left = field::after(rest, after_increment.at);
+    let given = read_given_scale(left, flags);
+    let TestedByte::Legal(scale, after_scale) = given else {
+        return HeadAnswer::Refused(field::tested_refusal(given));
+    };
+    let at = after_type.at + (after_increment.at + after_scale.at);
     HeadAnswer::Legal(
         MacroblockHead {
             flags,
             increment,
             scale,
         },
-        Cursor { at: 4 },
+        Cursor { at },
     )
 }
 
-// The address increment (13), and what follows it.
-fn read_increment(rest: &[u8], flags: u8, context: HeadContext) -> HeadAnswer
-    ensures { λ r. ⌜ r ≡ incrementOf context flags (now (rest .entry)) ⌝ }
+// The refusal of a head that is not legal.
+pub fn head_refusal(answer: HeadAnswer) -> Refusal
+    ensures { λ r. ⌜ r ≡ headRefusal answer ⌝ }
 {
-    let WordField::Value(increment, cursor) = format3::field::read_u16(rest) else {
-        return HeadAnswer::Refused(Refusal::BodyLength);
-    };
-    if !legal_increment(context, increment) {
-        return HeadAnswer::Refused(Refusal::AddressIncrement);
+    match answer {
+        HeadAnswer::Legal(_, _) => Refusal::MacroblockType,
+        HeadAnswer::Refused(refusal) => refusal,
     }
-    let left = format3::field::after(rest, cursor.at);
-    let scale = context.scale;
-    read_scale(
-        left,
-        MacroblockHead {
-            flags,
-            increment,
-            scale,
-        },
-    )
-}
-
-// The type (12), the address increment (13) and the scale (10), with the place after them in the body.
-pub fn read_head(body: &[u8], context: HeadContext) -> HeadAnswer
-    ensures { λ r. ⌜ r ≡ headOf context (now (body .entry)) ⌝ }
-{
-    let ByteField::Value(flags, cursor) = format3::field::read_u8(body) else {
-        return HeadAnswer::Refused(Refusal::BodyLength);
-    };
-    if !legal_type(context.coding, flags) {
-        return HeadAnswer::Refused(Refusal::MacroblockType);
-    }
-    read_increment(format3::field::after(body, cursor.at), flags, context)
 }

@@ -1,7 +1,11 @@
 // A slice's record (kind 3).
 ghost use mathlib.Core.Path.{_≡_};
-ghost use Rattle.symbols.specs.Slice.{legalScale, sliceOf};
+ghost use Rattle.parsed.specs.Parsed.{Finds};
+ghost use Rattle.format3.specs.Field.{testedFound};
+ghost use Rattle.symbols.specs.Slice.{legalScale, scaleOf, sliceOf, sliceAnswer};
+use format3::field;
 use format3::field::ByteField;
+use format3::field::TestedByte;
 use format3::field::WordField;
 use refusals::Refusal;
 
@@ -29,25 +33,33 @@ pub fn legal_scale(scale: u8) -> bool
     scale <= LAST_SCALE
 }
 
-// The body of a slice record, where next is the address that follows the last macroblock: its length (6), its scale (10), its start (11).
-pub fn read_slice(body: &[u8], next: usize) -> SliceAnswer
-    ensures { λ r. ⌜ r ≡ sliceOf (now (body .entry)) next ⌝ }
+// A scale (10).
+pub fn read_scale(rest: &[u8]) -> TestedByte
+    ensures { λ r. ⌜ Finds scaleOf (now (rest .entry)) (testedFound r) ⌝ }
+{
+    let ByteField::Value(scale, cursor) = field::read_u8(rest) else {
+        return TestedByte::Refused(Refusal::BodyLength);
+    };
+    if !legal_scale(scale) {
+        return TestedByte::Refused(Refusal::QuantizerScale);
+    }
+    TestedByte::Legal(scale, cursor)
+}
+
+// The body of a slice record: its length (6), its scale (10), its start.
+pub fn read_slice(body: &[u8]) -> SliceAnswer
+    ensures { λ r. ⌜ r ≡ sliceAnswer (sliceOf (now (body .entry))) ⌝ }
 {
     if body.len() != LENGTH {
         return SliceAnswer::Refused(Refusal::BodyLength);
     }
-    let ByteField::Value(scale, cursor) = format3::field::read_u8(body) else {
+    let first = read_scale(body);
+    let TestedByte::Legal(scale, cursor) = first else {
+        return SliceAnswer::Refused(field::tested_refusal(first));
+    };
+    let rest = field::after(body, cursor.at);
+    let WordField::Value(start, _) = field::read_u16(rest) else {
         return SliceAnswer::Refused(Refusal::BodyLength);
     };
-    if !legal_scale(scale) {
-        return SliceAnswer::Refused(Refusal::QuantizerScale);
-    }
-    let rest = format3::field::after(body, cursor.at);
-    let WordField::Value(start, _) = format3::field::read_u16(rest) else {
-        return SliceAnswer::Refused(Refusal::BodyLength);
-    };
-    if start as usize != next {
-        return SliceAnswer::Refused(Refusal::SliceStart);
-    }
     SliceAnswer::Legal(Slice { scale, start })
 }

@@ -1,7 +1,7 @@
 -- The constant tables: cosines (document 01, "Inverse transform"), the zigzag order and the default matrices (ISO/IEC 11172-2, 2.4.3.2 and 2.4.4.1).
 use mathlib.Core.Bool.{cond}
 use mathlib.Core.List.{List, [], _∷_, _++_}
-use Prim.Native.Nat.{ℕ, suc, _+_}
+use Prim.Native.Nat.{ℕ, suc}
 use lib.Dec.{eqb}
 use lib.IntN.{ℤ, pos}
 use lib.ListN.{replicate}

@@ -1,16 +1,29 @@
--- Bytes put after the first ones of a buffer. Assumes nothing.
-use mathlib.Core.List.{List, _++_, append-assoc}
-use mathlib.Core.Path.{_≡_, ap, _∙_, subst}
-use Prim.Native.Nat.{ℕ, _+_, _≤_}
-use lib.ListN.{length, take}
-use lib.Seq.{length-take-le, take-append-add, take-append-seam}
+-- Text put into a buffer, one part after another, is the whole text put. Assumes nothing.
+use mathlib.Core.List.{List, _++_}
+use mathlib.Core.Path.{_≡_, refl, sym, _∙_}
+use Prim.Native.Nat.{ℕ, _+_}
+use native.Mathlib.Omega.{arith}
+use lib.ListN.{length, length-append}
+use Rattle.byte_layout.specs.Laid.{laid}
+use Rattle.byte_layout.proofs.Laws.Laid.{laid-append}
 
-pub put-taken : (at : ℕ) (text bytes rest more : List ℕ) → at ≤ length text → take (at + length bytes) (take at text ++ ((bytes ++ rest) ++ more)) ≡ take at text ++ bytes
-put-taken at text bytes rest more h =
-    subst (λ (n : ℕ). take (n + length bytes) (take at text ++ ((bytes ++ rest) ++ more)) ≡ take at text ++ bytes) (length-take-le at text h)
-    (take-append-add (take at text) ((bytes ++ rest) ++ more) (length bytes)
-    ∙ ap (λ (l : List ℕ). take at text ++ l) (ap (λ (l : List ℕ). take (length bytes) l) (append-assoc bytes rest more) ∙ take-append-seam bytes (rest ++ more)))
+-- a text put at an offset: where it ends, and the buffer then
+pub record Put (at : ℕ) (text before : List ℕ) (end : ℕ) (after : List ℕ) : Type 0 where
+  pub ends : end ≡ at + length text
+  pub lies : after ≡ laid at text before
 
--- one text after another
-pub appended : (kept one two : List ℕ) {first both : List ℕ} → first ≡ kept ++ one → both ≡ first ++ two → both ≡ kept ++ (one ++ two)
-appended kept one two e f = f ∙ ap (λ (l : List ℕ). l ++ two) e ∙ append-assoc kept one two
+pub put : {at end : ℕ} {text before after : List ℕ} → end ≡ at + length text → after ≡ laid at text before → Put at text before end after
+put e l = record { ends = e; lies = l }
+
+pub put-then : {at middle end : ℕ} {one two before between after : List ℕ} → Put at one before middle between → Put middle two between end after → Put at (one ++ two) before end after
+put-then {at} {middle} {end} {one} {two} {before} {between} {after} p q = record {
+  ends = simp length-append (omega (arith, p .ends, q .ends));
+  lies = q .lies ∙ rw (p .ends, p .lies) (sym (laid-append at one two before));
+}
+
+-- and what is left of it, once its first part is put
+pub put-rest : {at middle end : ℕ} {one two before between after : List ℕ} → Put at (one ++ two) before end after → Put at one before middle between → Put middle two between end after
+put-rest {at} {middle} {end} {one} {two} {before} {between} {after} p q = record {
+  ends = let whole = simp length-append at (p .ends) in omega (arith, q .ends);
+  lies = p .lies ∙ laid-append at one two before ∙ rw (q .ends, q .lies) refl;
+}

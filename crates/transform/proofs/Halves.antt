@@ -1,44 +1,45 @@
 -- A line of eight is the sum and the difference of its even and its odd half. Assumes nothing.
-use Prim.Native.Nat.{ℕ, _+_, _*_}
+use Prim.Native.Nat.{ℕ, _+_, _*_, _^_}
 use mathlib.Core.List.{List, [], _∷_}
 use mathlib.Core.Path.{_≡_, refl}
-use lib.IntN.{ℤ, pos, negsuc, _+ℤ_, _-ℤ_, _*ℤ_}
+use lib.IntN.{ℤ, pos, negℤ, _+ℤ_, _-ℤ_, _*ℤ_}
 use Rattle.integers.proofs.Bound.{within-mul}
 use Rattle.integers.proofs.Solve.{Expression, unknown, constant, _:+_, _:-_, _:*_, solve-by}
 use Rattle.integers.proofs.Sum.{within-sum}
 use Rattle.integers.specs.Bound.{Within, at, AllWithin}
 use Rattle.integers.specs.Sum.{sumTo}
 use Rattle.lists.specs.Tab.{tab}
+use Rattle.tables.specs.Tables.{cosines}
 use Rattle.transform.specs.Line.{lineSum, halfSum}
-use Rattle.transform.specs.Transform.{angle, factorOf, factor}
+use Rattle.transform.specs.Transform.{angle, cosineFactor, factor}
 
 -- ---- the factors of the even and of the odd frequencies at the places 0 to 3, as the code's constants have them
 abbrev pub even0 : List ℤ
-even0 = pos 741455 ∷ pos 968758 ∷ pos 741455 ∷ pos 401273 ∷ []
+even0 = at cosines 3 ∷ at cosines 1 ∷ at cosines 3 ∷ at cosines 5 ∷ []
 
 abbrev pub even1 : List ℤ
-even1 = pos 741455 ∷ pos 401273 ∷ negsuc 741454 ∷ negsuc 968757 ∷ []
+even1 = at cosines 3 ∷ at cosines 5 ∷ negℤ (at cosines 3) ∷ negℤ (at cosines 1) ∷ []
 
 abbrev pub even2 : List ℤ
-even2 = pos 741455 ∷ negsuc 401272 ∷ negsuc 741454 ∷ pos 968758 ∷ []
+even2 = at cosines 3 ∷ negℤ (at cosines 5) ∷ negℤ (at cosines 3) ∷ at cosines 1 ∷ []
 
 abbrev pub even3 : List ℤ
-even3 = pos 741455 ∷ negsuc 968757 ∷ pos 741455 ∷ negsuc 401272 ∷ []
+even3 = at cosines 3 ∷ negℤ (at cosines 1) ∷ at cosines 3 ∷ negℤ (at cosines 5) ∷ []
 
 abbrev pub odd0 : List ℤ
-odd0 = pos 1028428 ∷ pos 871859 ∷ pos 582558 ∷ pos 204567 ∷ []
+odd0 = at cosines 0 ∷ at cosines 2 ∷ at cosines 4 ∷ at cosines 6 ∷ []
 
 abbrev pub odd1 : List ℤ
-odd1 = pos 871859 ∷ negsuc 204566 ∷ negsuc 1028427 ∷ negsuc 582557 ∷ []
+odd1 = at cosines 2 ∷ negℤ (at cosines 6) ∷ negℤ (at cosines 0) ∷ negℤ (at cosines 4) ∷ []
 
 abbrev pub odd2 : List ℤ
-odd2 = pos 582558 ∷ negsuc 1028427 ∷ pos 204567 ∷ pos 871859 ∷ []
+odd2 = at cosines 4 ∷ negℤ (at cosines 0) ∷ at cosines 6 ∷ at cosines 2 ∷ []
 
 abbrev pub odd3 : List ℤ
-odd3 = pos 204567 ∷ negsuc 582557 ∷ pos 871859 ∷ negsuc 1028427 ∷ []
+odd3 = at cosines 6 ∷ negℤ (at cosines 4) ∷ at cosines 2 ∷ negℤ (at cosines 0) ∷ []
 
-pub half-within : (f x : List ℤ) (first : ℕ) → AllWithin 1048576 f → AllWithin 17179869184 x → Within 72057594037927936 (halfSum f x first)
-half-within f x first s t = within-sum _ 18014398509481984 4 (λ k h. within-mul (s .all k) (t .all (first + 2 * k)))
+pub half-within : (f x : List ℤ) (first : ℕ) → AllWithin (2 ^ 20) f → AllWithin (2 ^ 34) x → Within (2 ^ 56) (halfSum f x first)
+half-within f x first s t = within-sum _ (2 ^ 54) 4 (λ k h. within-mul (s .all k) (t .all (first + 2 * k)))
 
 -- ---- the sum and the difference of two halves, in the order of the frequencies
 unfoldable pub mixed : List ℤ → List ℤ → List ℤ → ℤ
@@ -74,5 +75,5 @@ halves-difference e o x = solve-by (unknowns e o x) (even :- odd) (all (λ z. co
 
 -- the factors of the rule: all sixty-four, computed
 pub line-is : (x : List ℤ) → mixed even0 odd0 x ∷ mixed even1 odd1 x ∷ mixed even2 odd2 x ∷ mixed even3 odd3 x ∷ mixed even3 (negated odd3) x ∷ mixed even2 (negated odd2) x ∷ mixed even1 (negated odd1) x ∷ mixed even0 (negated odd0) x ∷ [] ≡ tab 8 (lineSum x 0)
-unfolding tab sumTo mixed negated factor factorOf angle
+unfolding tab sumTo mixed negated factor cosineFactor angle
 line-is x = refl

@@ -1,3 +1,4 @@
+pub mod Factors
 pub mod Columns
 pub mod Halves
 pub mod Passes

@@ -1,54 +1,53 @@
 -- Rows in and columns out, twice, is the double sum; and the size of every number on the way. Assumes nothing.
-use Prim.Native.Nat.{ℕ, _+_, _*_, _/_, _%_, _<_}
-use mathlib.Core.Bool.{Bool, true, false}
+use Prim.Native.Nat.{ℕ, zero, suc, _+_, _-_, _*_, _/_, _%_, _^_, _≤_, _<_}
+use mathlib.Core.Bool.{Bool, true, false, cond}
 use mathlib.Core.List.{List}
 use mathlib.Core.Path.{_≡_, refl, sym, ap, _∙_, subst}
-use native.Mathlib.Decide.{decLt}
+use native.Mathlib.Decide.{ℕ-discrete, decLt}
 use native.Mathlib.Omega.{arith}
 use lib.Dec.{T, leb}
-use lib.IntN.{ℤ, pos, negsuc, natAbs, _*ℤ_}
-use lib.ListN.{length}
-use Rattle.integers.proofs.Bound.{within-mul, within-literal, within-eq, tab-within}
-use Rattle.integers.proofs.Limit.{range-between, limited-within, between-within}
-use Rattle.integers.proofs.Sum.{sum-ext, within-sum, separable}
-use Rattle.integers.specs.Bound.{Within, at, AllWithin}
-use Rattle.integers.specs.Limit.{inRange}
+use lib.IntN.{ℤ, pos, negsuc, natAbs, _*ℤ_, *ℤ-zero}
+use lib.ListN.{length, List·getD-eq-default}
+use Rattle.integers.proofs.Bound.{within-mul, within-literal, tab-within}
+use Rattle.integers.proofs.Compare.{eqZ-true}
+use Rattle.integers.proofs.Limit.{range-between, limited-between, between-within, all-between-within}
+use Rattle.integers.proofs.Sum.{sum-ext, sum-zero, within-sum, separable}
+use Rattle.integers.specs.Bound.{Within, at, AllWithin, Between, AllBetween}
 use Rattle.integers.specs.Sum.{sumTo}
 use Rattle.lists.proofs.Tab.{tab-at, tab-ext}
-use Rattle.lists.proofs.Test.{at-below, at-below₂}
+use Rattle.lists.proofs.Test.{at-below₂, all-passed}
 use Rattle.lists.specs.Tab.{tab}
 use Rattle.lists.specs.Test.{allBelow}
-use Rattle.transform.specs.Answer.{coefficientsInRange}
-use Rattle.transform.specs.Line.{lineSum, rowOf, columnPlace, passed, residueOf}
-use Rattle.transform.specs.Transform.{angle, factorOf, factor, doubleSum, inverseTransform, limitedResidue, residuesBy}
-use lib.ListN.{List·getD-eq-default}
+use Rattle.transform.specs.Answer.{allInRange}
+use Rattle.transform.specs.Line.{lineSum, isZeroRow, usedRows, rowOf, columnPlace, passed, residueOf}
+use Rattle.transform.specs.Transform.{angle, cosineFactor, factor, doubleSum, inverseTransform, limitedResidue, residuesBy}
 
 -- ---- sizes
 small : ℕ → ℕ → Bool
-small p u = leb (natAbs (factor p u)) 1048576
+small p u = leb (natAbs (factor p u)) (2 ^ 20)
 
 every-small : T (allBelow 8 (λ p. allBelow 8 (small p)))
-unfolding allBelow small factor factorOf angle
+unfolding allBelow small factor cosineFactor angle
 every-small = tt
 
-pub factor-within : (p u : ℕ) → p < 8 → u < 8 → Within 1048576 (factor p u)
+pub factor-within : (p u : ℕ) → p < 8 → u < 8 → Within (2 ^ 20) (factor p u)
 unfolding small
 factor-within p u h k = within-literal (at-below₂ 8 8 small every-small p u h k)
 
-pub lineSum-within : {b : ℕ} {c : List ℤ} (start p : ℕ) → AllWithin b c → p < 8 → Within (8 * (1048576 * b)) (lineSum c start p)
-lineSum-within {b} start p s h = within-sum _ (1048576 * b) 8 (λ u k. within-mul (factor-within p u h k) (s .all (start + u)))
+pub lineSum-within : {b : ℕ} {c : List ℤ} (start p : ℕ) → AllWithin b c → p < 8 → Within (8 * (2 ^ 20 * b)) (lineSum c start p)
+lineSum-within {b} start p s h = within-sum _ (2 ^ 20 * b) 8 (λ u k. within-mul (factor-within p u h k) (s .all (start + u)))
 
-pub line-within : {b : ℕ} {x : List ℤ} → AllWithin b x → AllWithin (8 * (1048576 * b)) (tab 8 (lineSum x 0))
-line-within {b} s = tab-within (8 * (1048576 * b)) 8 _ (λ p h. lineSum-within 0 p s h)
+pub line-within : {b : ℕ} {x : List ℤ} → AllWithin b x → AllWithin (8 * (2 ^ 20 * b)) (tab 8 (lineSum x 0))
+line-within {b} s = tab-within (8 * (2 ^ 20 * b)) 8 _ (λ p h. lineSum-within 0 p s h)
 
 pub row-within : {b : ℕ} (c : List ℤ) (v : ℕ) → AllWithin b c → AllWithin b (rowOf c v)
 row-within {b} c v s = tab-within b 8 _ (λ u h. s .all (8 * v + u))
 
-pub pass-within : (c : List ℤ) → AllWithin 2048 c → AllWithin 17179869184 (tab 64 (passed c))
-pass-within c s = tab-within 17179869184 64 _ (λ k h. lineSum-within (8 * (k % 8)) (k / 8) s (omega arith))
+pub pass-within : (c : List ℤ) → AllWithin 2048 c → AllWithin (2 ^ 34) (tab 64 (passed c))
+pass-within c s = tab-within (2 ^ 34) 64 _ (λ k h. lineSum-within (8 * (k % 8)) (k / 8) s (omega arith))
 
 pub residue-within : (z : ℤ) → Within 256 (limitedResidue z)
-residue-within z = limited-within (negsuc 255) (pos 255) z (within-literal tt) (within-literal tt)
+residue-within z = between-within (limited-between (negsuc 255) (pos 255) z (record { le = tt })) (within-literal tt) (within-literal tt)
 
 -- ---- a row that was taken out of a block, and where its numbers go
 row-sum : (c : List ℤ) (v p : ℕ) → lineSum (rowOf c v) 0 p ≡ lineSum c (8 * v) p
@@ -57,16 +56,56 @@ row-sum c v p = sum-ext _ _ 8 (λ u h. ap (λ (z : ℤ). factor p u *ℤ z) (tab
     index : (u : ℕ) → 8 * v + (0 + u) ≡ 8 * v + u
     index u = omega arith
 
-pub line-at : (c x y : List ℤ) (v : ℕ) → v < 8 → x ≡ rowOf c v → y ≡ tab 8 (lineSum x 0) → (u : ℕ) → u < 8 → at y u ≡ passed c (columnPlace v u)
-line-at c x y v h p q u b =
-    ap (λ (l : List ℤ). at l u) q ∙ tab-at 8 (lineSum x 0) u (pos 0) b ∙ ap (λ (l : List ℤ). lineSum l 0 u) p ∙ row-sum c v u
-    ∙ (λ i. lineSum c (8 * row i) (place i))
+passed-at : (c : List ℤ) (v u : ℕ) → v < 8 → lineSum c (8 * v) u ≡ passed c (columnPlace v u)
+passed-at c v u h = λ i. lineSum c (8 * row i) (place i)
   where
     row : v ≡ (8 * u + v) % 8
     row = omega arith
 
     place : u ≡ (8 * u + v) / 8
     place = omega arith
+
+pub line-at : (c x y : List ℤ) (v : ℕ) → v < 8 → x ≡ rowOf c v → y ≡ tab 8 (lineSum x 0) → (u : ℕ) → u < 8 → at y u ≡ passed c (columnPlace v u)
+line-at c x y v h p q u b =
+    ap (λ (l : List ℤ). at l u) q ∙ tab-at 8 (lineSum x 0) u (pos 0) b ∙ ap (λ (l : List ℤ). lineSum l 0 u) p ∙ row-sum c v u ∙ passed-at c v u h
+
+pub zero-row : (c : List ℤ) (v : ℕ) → v < 8 → isZeroRow c v ≡ true → (u : ℕ) → passed c (columnPlace v u) ≡ pos 0
+unfolding isZeroRow
+zero-row c v h e u =
+    sym (passed-at c v u h)
+    ∙ sum-ext _ _ 8 (λ k b. ap (λ (z : ℤ). factor u k *ℤ z) (eqZ-true (at c (8 * v + k)) (pos 0) (all-passed 8 _ e k b)) ∙ *ℤ-zero (factor u k))
+    ∙ sum-zero 8
+
+-- the rows after the last that is not zeros
+pub used-below : (n : ℕ) (c : List ℤ) → usedRows n c ≤ n
+unfolding usedRows
+used-below zero c = omega arith
+used-below (suc n) c = go (isZeroRow c n) (used-below n c)
+  where
+    go : (b : Bool) → usedRows n c ≤ n → cond b (usedRows n c) (suc n) ≤ suc n
+    go true h = omega arith
+    go false h = omega arith
+
+pub unused-zero : (n : ℕ) (c : List ℤ) (v : ℕ) → v < n → usedRows n c ≤ v → isZeroRow c v ≡ true
+unfolding usedRows
+unused-zero zero c v h u = absurd (omega arith)
+unused-zero (suc n) c v h u = go (isZeroRow c n) refl (ℕ-discrete v n) (unused-zero n c v) u
+  where
+    go : (b : Bool) → isZeroRow c n ≡ b → Dec (v ≡ n) → (v < n → usedRows n c ≤ v → isZeroRow c v ≡ true) → cond b (usedRows n c) (suc n) ≤ v → isZeroRow c v ≡ true
+    go true e (yes s) before u = rw s e
+    go true e (no s) before u = before (omega arith) u
+    go false e d before u = absurd (omega arith)
+
+module _ (c : List ℤ) where
+  pub last-used : (rows : ℕ) → 0 < rows → isZeroRow c (rows - 1) ≡ false → usedRows rows c ≡ rows
+  unfolding usedRows
+  last-used zero h e = absurd (omega arith)
+  last-used (suc n) h e = let q : suc n - 1 ≡ n = omega arith in rw (rw q at e)
+
+  pub last-unused : (rows : ℕ) → 0 < rows → isZeroRow c (rows - 1) ≡ true → usedRows rows c ≡ usedRows (rows - 1) c
+  unfolding usedRows
+  last-unused zero h e = absurd (omega arith)
+  last-unused (suc n) h e = let q : suc n - 1 ≡ n = omega arith in rw q (rw (rw q at e))
 
 -- ---- both passes
 column : (c : List ℤ) (q p : ℕ) → q < 8 → p < 8 → lineSum (tab 64 (passed c)) (8 * p) q ≡ doubleSum c q p
@@ -91,18 +130,14 @@ unfolding residuesBy inverseTransform
 passes c = tab-ext 64 _ _ (λ k h. ap residueOf (column c (k / 8) (k % 8) (omega arith) (omega arith)))
 
 -- ---- coefficients that were tested
-pub in-range-within : (c : List ℤ) → length c ≡ 64 → coefficientsInRange c ≡ true → AllWithin 2048 c
-unfolding coefficientsInRange
-in-range-within c long e = record {
+in-range-between : (c : List ℤ) → length c ≡ 64 → allInRange c ≡ true → AllBetween (negsuc 2047) (pos 2047) c
+unfolding allInRange
+in-range-between c long e = record {
   all = λ k. elim (decLt k 64) [
-    | yes h ↦ between-within (range-between (negsuc 2047) (pos 2047) (at c k) (passes-at k h)) (within-literal tt) (within-literal tt)
-    | no h ↦ within-eq (List·getD-eq-default c (pos 0) (omega (arith, long))) (within-literal tt)
+    | yes h ↦ range-between (negsuc 2047) (pos 2047) (at c k) (all-passed 64 _ e k h)
+    | no h ↦ subst (Between (negsuc 2047) (pos 2047)) (sym (List·getD-eq-default c (pos 0) (omega (arith, long)))) (record { lower = record { le = tt }; upper = record { le = tt } })
   ];
 }
-  where
-    truth : (b : Bool) → T b → b ≡ true
-    truth true t = refl
-    truth false t = absurd t
 
-    passes-at : (k : ℕ) → k < 64 → inRange (negsuc 2047) (pos 2047) (at c k) ≡ true
-    passes-at k h = truth _ (at-below 64 _ (subst T (sym e) tt) k h)
+pub in-range-within : (c : List ℤ) → length c ≡ 64 → allInRange c ≡ true → AllWithin 2048 c
+in-range-within c long e = all-between-within (in-range-between c long e) (within-literal tt) (within-literal tt)

@@ -12,12 +12,12 @@ use Rattle.refusals.specs.declared.Refusal.the-variants.{NumberOutOfRange}
 use Rattle.transform.specs.Transform.{inverseTransform, residuesBy}
 
 -- whether every coefficient is in -2048..2047
-unfoldable pub coefficientsInRange : List ℤ → Bool
-coefficientsInRange c = allBelow 64 (λ k. inRange (negsuc 2047) (pos 2047) (at c k))
+unfoldable pub allInRange : List ℤ → Bool
+allInRange c = allBelow 64 (λ k. inRange (negsuc 2047) (pos 2047) (at c k))
 
 abbrev pub transformNumber : List ℤ → ℕ
-transformNumber c = cond (coefficientsInRange c) accepted (numberOf NumberOutOfRange)
+transformNumber c = cond (allInRange c) accepted (numberOf NumberOutOfRange)
 
 -- the residues, or all zeros when refused
 abbrev pub transformResidues : List ℤ → List ℤ
-transformResidues c = cond (coefficientsInRange c) (residuesBy inverseTransform c) (replicate 64 (pos 0))
+transformResidues c = cond (allInRange c) (residuesBy inverseTransform c) (replicate 64 (pos 0))

@@ -1,3 +1,4 @@
 pub mod Transform
+pub mod Factors
 pub mod Line
 pub mod Answer

@@ -1,9 +1,10 @@
 -- The inverse transform (document 01, "Inverse transform"): sixty-four coefficients, row by row, the row being the vertical frequency.
 use mathlib.Core.Bool.{cond}
-use mathlib.Core.List.{List}
+use mathlib.Core.List.{List, _∷_}
 use Prim.Native.Nat.{ℕ, _+_, _-_, _*_, _/_, _%_, _^_}
 use lib.Dec.{ltb, eqb}
 use lib.IntN.{ℤ, pos, negsuc, _+ℤ_, _-ℤ_, _*ℤ_}
+use lib.ListN.{replicate}
 use lib.Signed.{shrZ}
 use Rattle.lists.specs.Tab.{tab}
 use Rattle.integers.specs.Bound.{at}
@@ -20,17 +21,17 @@ unfoldable pub angle : ℕ → ℕ → ℕ
 angle p u = folded ((2 * p + 1) * u % 32)
 
 -- what stands for the cosine of k sixteenths of pi, k from 1 to 15 but 8: the entry of that size, with its sign
-abbrev pub signed : {A : Type 0} → (A → A) → (ℕ → A) → ℕ → A
-signed negated entry k = cond (ltb k 8) (entry (k - 1)) (negated (entry (15 - k)))
+abbrev pub cosineOf : {A : Type 0} → (A → A) → (ℕ → A) → ℕ → A
+cosineOf negated entry k = cond (ltb k 8) (entry (k - 1)) (negated (entry (15 - k)))
 
 -- "The factor for frequency u at place p (0..7) stands for cos((2p+1) × u × pi / 16) .. for u = 0 it is the fourth entry",
 -- for a table of any kind of number
-unfoldable pub factorOf : {A : Type 0} → (A → A) → (ℕ → A) → ℕ → ℕ → A
-factorOf negated entry p u = cond (eqb u 0) (entry 3) (signed negated entry (angle p u))
+unfoldable pub cosineFactor : {A : Type 0} → (A → A) → (ℕ → A) → ℕ → ℕ → A
+cosineFactor negated entry p u = cond (eqb u 0) (entry 3) (cosineOf negated entry (angle p u))
 
 -- the factor by the table of whole numbers
 unfoldable pub factor : ℕ → ℕ → ℤ
-factor p u = factorOf (λ z. pos 0 -ℤ z) (at cosines) p u
+factor p u = cosineFactor (λ z. pos 0 -ℤ z) (at cosines) p u
 
 -- "the sum over all 64 coefficients of horizontal factor × vertical factor × coefficient", at row q and column p
 unfoldable pub doubleSum : List ℤ → ℕ → ℕ → ℤ
@@ -51,3 +52,7 @@ limitedResidue z = limited (negsuc 255) (pos 255) z
 -- the residues of a block by an inverse transform: its sixty-four numbers, limited
 unfoldable pub residuesBy : (List ℤ → ℕ → ℤ) → List ℤ → List ℤ
 residuesBy transform c = tab 64 (λ k. limitedResidue (transform c k))
+
+-- a block with a DC alone: what document 01's figures are about
+abbrev pub dcAlone : ℕ → List ℤ
+dcAlone dc = pos dc ∷ replicate 63 (pos 0)

@@ -4,7 +4,7 @@ ghost use lib.IntN.{pos, negsuc};
 ghost use Rattle.integers.specs.Bound.{AllWithin};
 ghost use Rattle.integers.specs.Limit.{inRange};
 ghost use Rattle.transform.specs.Transform.{inverseTransform, residuesBy};
-ghost use Rattle.transform.specs.Answer.{coefficientsInRange, transformNumber, transformResidues};
+ghost use Rattle.transform.specs.Answer.{allInRange, transformNumber, transformResidues};
 use refusals::Refusal;
 
 mod line;
@@ -26,7 +26,7 @@ pub fn inverse_transform(coefficients: [i16; 64]) -> [i16; 64]
 }
 
 // Whether a coefficient is in -2048..2047.
-fn is_in_range(c: i16) -> bool
+fn in_range(c: i16) -> bool
     ensures { λ r. ⌜ r ≡ inRange (negsuc 2047) (pos 2047) c ⌝ }
 {
     if c < -2048 {
@@ -38,23 +38,23 @@ fn is_in_range(c: i16) -> bool
     true
 }
 
-// Whether every coefficient is. The loop tests all of them, whatever the first ones say: it becomes vector code.
-fn in_range(coefficients: &[i16; 64]) -> bool
-    ensures { λ r. ⌜ r ≡ coefficientsInRange (now (coefficients .entry)) ⌝ }
+// Whether every coefficient is. The loop tests all of them, whatever the first ones say: it becomes SIMD code.
+fn all_in_range(coefficients: &[i16; 64]) -> bool
+    ensures { λ r. ⌜ r ≡ allInRange (now (coefficients .entry)) ⌝ }
 {
     let mut legal = true;
     for k in 0..64 {
-        legal = is_in_range(coefficients[k]) & legal;
+        legal = in_range(coefficients[k]) & legal;
     }
     legal
 }
 
 // The transform entry: any sixty-four numbers.
 pub fn transform(coefficients: [i16; 64]) -> Transformed
-    ensures { λ r. ⌜ r .number ≡ transformNumber coefficients ⌝ }
-    ensures { λ r. ⌜ r .residues ≡ transformResidues coefficients ⌝ }
+    ensures number { λ r. ⌜ r .number ≡ transformNumber coefficients ⌝ }
+    ensures residues { λ r. ⌜ r .residues ≡ transformResidues coefficients ⌝ }
 {
-    let legal = in_range(&coefficients);
+    let legal = all_in_range(&coefficients);
     if legal {
         let residues = inverse_transform(coefficients);
         return Transformed {

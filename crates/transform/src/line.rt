@@ -1,6 +1,6 @@
 // A line of eight, by its even and odd halves.
 ghost use mathlib.Core.Path.{_≡_};
-ghost use Prim.Native.Nat.{_<_};
+ghost use Prim.Native.Nat.{_<_, _^_};
 ghost use Rattle.lists.specs.Tab.{tab};
 ghost use Rattle.integers.specs.Bound.{AllWithin};
 ghost use Rattle.transform.specs.Line.{lineSum, halfSum};
@@ -25,7 +25,7 @@ const ODD3: [i64; 4] = [COSINES[6], -COSINES[4], COSINES[2], -COSINES[0]];
 
 // The four products of one half: the even frequencies (first 0) or the odd ones (first 1).
 fn half_line(factors: [i64; 4], x: [i64; 8], first: usize) -> i64
-    requires { ⌜ AllWithin 1048576 factors × AllWithin 17179869184 x × (first < 2) ⌝ }
+    requires { ⌜ AllWithin (2 ^ 20) factors × AllWithin (2 ^ 34) x × (first < 2) ⌝ }
     ensures { λ r. ⌜ r ≡ halfSum factors x first ⌝ }
 {
     let mut sum: i64 = 0;
@@ -37,7 +37,7 @@ fn half_line(factors: [i64; 4], x: [i64; 8], first: usize) -> i64
 
 // At the places p and 7 - p the even half is the same and the odd half has the other sign.
 pub fn transform_line(x: [i64; 8]) -> [i64; 8]
-    requires { ⌜ AllWithin 17179869184 x ⌝ }
+    requires { ⌜ AllWithin (2 ^ 34) x ⌝ }
     ensures { λ r. ⌜ r ≡ tab 8 (lineSum x 0) ⌝ }
 {
     let e0 = half_line(EVEN0, x, 0);

@@ -43,7 +43,7 @@ extern "C" {
         file: *const u8,
         file_length: usize,
         offset: usize,
-        kind: *mut usize,
+        kind: *mut u8,
         start: *mut usize,
         length: *mut usize,
     ) -> u32;

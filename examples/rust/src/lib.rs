@@ -23,7 +23,7 @@ pub struct Refused {
 /// A record of a file: its kind, and its body as the bytes of the file themselves.
 #[derive(Clone, Copy, Debug, PartialEq, Eq)]
 pub struct Record<'a> {
-    pub kind: usize,
+    pub kind: u8,
     pub body: &'a [u8],
     /// The offset of the next record.
     pub end: usize,

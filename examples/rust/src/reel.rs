@@ -16,7 +16,7 @@ struct Header {
     picture_type: u8,
 }
 
-const HEADER_KIND: usize = 1;
+const HEADER_KIND: u8 = 1;
 const P: u8 = 2;
 const B: u8 = 3;
 

@@ -10,7 +10,7 @@ use super::vectors::{code_legal, decoded, f_of, residual_legal};
 /// What a record shown by itself is: its kind, and where its body lies in the file.
 #[derive(Clone, Copy, Debug, PartialEq, Eq)]
 pub struct Shown {
-    pub kind: usize,
+    pub kind: u8,
     pub start: usize,
     pub length: usize,
 }
@@ -87,7 +87,7 @@ fn show_record(file: &[u8], offset: usize) -> (u32, Shown) {
     match record(file, offset) {
         Ok(record) => {
             let shown = Shown {
-                kind: record.kind.into(),
+                kind: record.kind,
                 start: offset + 3,
                 length: record.body.len(),
             };

@@ -1,15 +1,15 @@
 -- Laws of bytes laid into a buffer: its length stays, bytes that lie apart may be laid in either order, and what fits is there whole. Assumes nothing.
 use mathlib.Core.Bool.{Bool, true, false}
 use mathlib.Core.Path.{_≡_, refl, sym, ap, subst, _∙_}
-use mathlib.Core.List.{List, [], _∷_, _++_}
+use mathlib.Core.List.{List, [], _∷_, _++_, append-nil}
 use Prim.Native.Nat.{ℕ, suc, _+_, _<_, _≤_}
 use native.Mathlib.Numerals.{add-one, unary-clauses}
 use native.Mathlib.Nat.{zero-add, add-assoc, min-eq-left, min-eq-right, le-of-lt}
 use native.Mathlib.Omega.{arith}
 use borrow.Author.Tests.{leb-true, leb-false, lt-leb}
 use lib.Dec.{leb}
-use lib.ListN.{length, getD, take, drop, set, length-set, drop-of-length-le}
-use lib.Seq.{set-out, set-comm, take-set-le, drop-set-lt, sets, sets-eq, drop-cons}
+use lib.ListN.{length, getD, take, drop, set, length-set, take-append-drop, drop-of-length-le}
+use lib.Seq.{length-take-le, take-all, take-append-seam, drop-length, set-out, set-comm, take-set-le, drop-set-lt, sets, sets-eq, drop-cons}
 use Rattle.byte_layout.specs.Laid.{laid, farthest, offsetAfter}
 
 -- the length stays
@@ -23,10 +23,6 @@ pub laid-past : (at : ℕ) (bytes buffer : List ℕ) → length buffer ≤ at �
 unfolding laid
 laid-past at [] buffer h = refl
 laid-past at (byte ∷ bytes) buffer h = rw (set-out buffer at byte h) (laid-past (at + 1) bytes buffer (omega arith))
-
--- nothing is laid into an empty buffer
-pub laid-empty : (at : ℕ) (bytes : List ℕ) → laid at bytes [] ≡ []
-laid-empty at bytes = laid-past at bytes [] (omega arith)
 
 next-offset : (at n : ℕ) → at + 1 + n ≡ at + suc n
 next-offset at n = omega arith
@@ -77,6 +73,37 @@ laid-fits at bytes buffer h = laid-sets at bytes buffer ∙ sets-eq bytes buffer
 
 pub laid-whole : (bytes buffer : List ℕ) → length bytes ≤ length buffer → laid 0 bytes buffer ≡ bytes ++ drop (length bytes) buffer
 laid-whole bytes buffer h = rw (zero-add (length bytes)) at (laid-fits 0 bytes buffer (omega arith))
+
+-- what is laid at the start is there
+pub laid-back : (bytes buffer : List ℕ) → length bytes ≤ length buffer → take (length bytes) (laid 0 bytes buffer) ≡ bytes
+laid-back bytes buffer h = rw (laid-whole bytes buffer h) (take-append-seam bytes (drop (length bytes) buffer))
+
+-- of bytes laid at the start, as many as the buffer has are laid
+pub laid-clipped : (bytes buffer : List ℕ) → laid 0 bytes buffer ≡ laid 0 (take (length buffer) bytes) buffer
+laid-clipped bytes buffer = go (leb (length buffer) (length bytes)) refl
+  where
+    some : List ℕ
+    some = take (length buffer) bytes
+
+    go : (t : Bool) → leb (length buffer) (length bytes) ≡ t → laid 0 bytes buffer ≡ laid 0 some buffer
+    go true e =
+        let whole = length-take-le (length buffer) bytes (leb-true (length buffer) (length bytes) e) in
+        ap (λ (l : List ℕ). laid 0 l buffer) (sym (take-append-drop (length buffer) bytes))
+        ∙ laid-append 0 some (drop (length buffer) bytes) buffer
+        ∙ laid-past (0 + length some) _ (laid 0 some buffer) (rw (laid-length 0 some buffer) (omega (arith, whole)))
+    go false e = rw (take-all (length buffer) bytes (omega (arith, leb-false (length buffer) (length bytes) e)))
+
+-- what a buffer starts with, laid at its start, changes nothing
+pub laid-same : (n : ℕ) (buffer : List ℕ) → laid 0 (take n buffer) buffer ≡ buffer
+laid-same n buffer = go (leb n (length buffer)) refl
+  where
+    go : (t : Bool) → leb n (length buffer) ≡ t → laid 0 (take n buffer) buffer ≡ buffer
+    go true e =
+        let short = length-take-le n buffer (leb-true n (length buffer) e) in
+        laid-whole (take n buffer) buffer (omega (arith, leb-true, short)) ∙ rw short (take-append-drop n buffer)
+    go false e =
+        rw (take-all n buffer (omega (arith, leb-false n (length buffer) e)))
+        (laid-whole buffer buffer (omega arith) ∙ rw (drop-length buffer) (append-nil buffer))
 
 -- ---- the farthest offset stands for all that are past it, also where it is tested whether so many bytes fit
 module _ (at n : ℕ) where

@@ -3,23 +3,23 @@ use mathlib.Core.Bool.{Bool}
 use mathlib.Core.Path.{_≡_, sym, _∙_}
 use borrow.Author.Needs.{needs}
 use mir.Syntax.{w16}
-use Rattle.coefficient.proofs.Ranges.{held, Ranges, legal-ranges}
-use Rattle.coefficient.specs.Answer.{legal}
+use Rattle.coefficient.proofs.Ranges.{held, Ranges, known-ranges}
+use Rattle.coefficient.specs.Answer.{allInRange}
 use Rattle.coefficient.specs.Scaling.{coefficientOf}
 use Rattle.integers.proofs.Machine.{parameter, bound, returned}
 use Rattle.coefficient.proofs.coefficient.Statement.{statement}
 use Rattle.coefficient.proofs.coefficient.Tie as tie
 
-test : (c : tie.After-in-ranges) {b : Bool} → c .in-ranges .result ≡ b → legal (c .before .args .level) (c .before .args .scale) (c .before .args .weight) ≡ b
+test : (c : tie.After-all-in-range) {b : Bool} → c .all-in-range .result ≡ b → allInRange (c .before .args .level) (c .before .args .scale) (c .before .args .weight) ≡ b
 test c t =
     let f = c .before .fits in
-    sym (c .in-ranges .ensures ∙ (λ i. legal (held (f .level) .is i) (held (f .scale) .is i) (held (f .weight) .is i))) ∙ t
+    sym (c .all-in-range .ensures ∙ (λ i. allInRange (held (f .level) .is i) (held (f .scale) .is i) (held (f .weight) .is i))) ∙ t
 
 ranges : (c : tie.Then1) → let a = c .before .before .args in Ranges (a .level) (a .scale) (a .weight)
-ranges c = legal-ranges _ _ _ (test (c .before) (c .if1 .taken))
+ranges c = known-ranges _ _ _ (test (c .before) (c .if1 .taken))
 
-in-ranges-requires : tie.Need-in-ranges-requires
-in-ranges-requires c κs = search needs
+all-in-range-requires : tie.Need-all-in-range-requires
+all-in-range-requires c κs = search needs
 
 scale-level-requires : tie.Need-scale-level-requires
 scale-level-requires c κs =
@@ -43,4 +43,4 @@ returns-2 c =
     (rw e (c .number .ensures), rw e)
 
 pub coefficient-spec : {M : Type 1} → statement M
-coefficient-spec = tie.close (tie.spec in-ranges-requires scale-level-requires returns number-requires returns-2)
+coefficient-spec = tie.close (tie.spec all-in-range-requires scale-level-requires returns number-requires returns-2)

@@ -1,7 +1,6 @@
 -- `coefficient::limit` meets its contract: each way rewrites with the tests that led there. Assumes nothing.
 use mir.Syntax.{w32}
 use mir.ValLaws.{toZ-ofZ}
-use Rattle.integers.specs.Bound.{at}
 use Rattle.coefficient.proofs.limit.Statement.{statement}
 use Rattle.coefficient.proofs.limit.Tie as tie
 

@@ -12,49 +12,30 @@ use lib.Seq.{take-all, drop-length}
 use mir.Syntax.{w16}
 use mir.Val.{SFits}
 use Rattle.integers.proofs.Difference.{up, dn, same-of, parts-add, parts-neg}
-use Rattle.format3.specs.Field.{bigEndian, twosComplement, byteOf, wordOf, byteThen, wordThen, signedThen}
-use Rattle.format3.specs.declared.field.ByteField.{ByteField}
-use Rattle.format3.specs.declared.field.ByteField.the-variants as B
-use Rattle.format3.specs.declared.field.WordField.{WordField}
-use Rattle.format3.specs.declared.field.WordField.the-variants as W
-use Rattle.format3.specs.declared.field.SignedField.{SignedField}
-use Rattle.format3.specs.declared.field.SignedField.the-variants as S
+use Rattle.parsed.specs.Parsed.{value, stopped, Finds}
+use Rattle.format3.specs.Field.{notInside, bigEndian, twosComplement, byte, word}
 
-pub byte-short : (l : List ℕ) → length l < 1 → B.Short ≡ byteOf l
-unfolding byteOf
+pub byte-short : (l : List ℕ) → length l < 1 → Finds byte l (stopped notInside)
+unfolding byte
 byte-short [] h = refl
 byte-short (a ∷ l) h = absurd (omega arith)
 
-pub byte-read : (l : List ℕ) → 1 ≤ length l → B.Value (getD l 0 0) (record { at = 1 }) ≡ byteOf l
-unfolding byteOf
+pub byte-read : (l : List ℕ) → 1 ≤ length l → Finds byte l (value (getD l 0 0) 1)
+unfolding byte
 byte-read [] h = absurd (omega arith)
-byte-read (a ∷ l) h = refl
+byte-read (a ∷ l) h = (refl, h)
 
-pub word-short : (l : List ℕ) → length l < 2 → W.Short ≡ wordOf l
-unfolding wordOf
+pub word-short : (l : List ℕ) → length l < 2 → Finds word l (stopped notInside)
+unfolding word
 word-short [] h = refl
 word-short (a ∷ []) h = refl
 word-short (a ∷ b ∷ l) h = absurd (omega arith)
 
-pub word-read : (l : List ℕ) → 2 ≤ length l → W.Value (bigEndian (getD l 0 0) (getD l 1 0)) (record { at = 2 }) ≡ wordOf l
-unfolding wordOf
+pub word-read : (l : List ℕ) → 2 ≤ length l → Finds word l (value (bigEndian (getD l 0 0) (getD l 1 0)) 2)
+unfolding word
 word-read [] h = absurd (omega arith)
 word-read (a ∷ []) h = absurd (omega arith)
-word-read (a ∷ b ∷ l) h = refl
-
--- what holds of the answer for a field that is not wholly inside, and of what follows any value, holds of both together
-module _ {A : Type 0} (P : A → Type 0) (l : List ℕ) (short : A) where
-  pub byte-all : (f : ByteField) (rest : ℕ → List ℕ → A) → P short → ((n : ℕ) (left : List ℕ) → P (rest n left)) → P (byteThen f l short rest)
-  byte-all (B.Value n c) rest s r = r n _
-  byte-all B.Short rest s r = s
-
-  pub word-all : (f : WordField) (rest : ℕ → List ℕ → A) → P short → ((n : ℕ) (left : List ℕ) → P (rest n left)) → P (wordThen f l short rest)
-  word-all (W.Value n c) rest s r = r n _
-  word-all W.Short rest s r = s
-
-  pub signed-all : (f : SignedField) (rest : ℤ → List ℕ → A) → P short → ((z : ℤ) (left : List ℕ) → P (rest z left)) → P (signedThen f l short rest)
-  signed-all (S.Value z c) rest s r = r z _
-  signed-all S.Short rest s r = s
+word-read (a ∷ b ∷ l) h = (refl, h)
 
 -- the part from n on, as a slice gives it
 pub rest-from : (n : ℕ) (l : List ℕ) → take (length l - n) (drop n l) ≡ drop n l

@@ -8,10 +8,10 @@ use lib.Dec.{leb}
 use lib.ListN.{length}
 use borrow.Author.Tests.{le-leb, lt-leb, leb-true}
 use Rattle.refusals.specs.declared.Refusal.{Refusal}
+use Rattle.parsed.proofs.Guard.{need-all}
 use Rattle.format3.specs.declared.record.Record.{Record}
 use Rattle.format3.specs.declared.record.Record.the-variants.{Refused}
 use Rattle.format3.specs.Record.{recordOf, startOf, bodyLengthOf}
-use Rattle.format3.proofs.Laws.Chain.{only-all}
 
 -- in a file of n bytes, fewer than 3 are left from the offset on
 pub none-left : (offset n : ℕ) → n ≤ offset → leb (offset + 3) n ≡ false
@@ -42,8 +42,8 @@ refused = record { fits = omega arith }
 pub inside : (file : List ℕ) (offset : ℕ) → Inside file (recordOf file offset)
 unfolding recordOf
 inside file offset =
-    only-all (Inside file) _ _ _ refused λ head.
-    only-all (Inside file) _ _ _ refused λ some.
-    only-all (Inside file) _ _ _ refused λ whole.
-    only-all (Inside file) _ _ _ refused λ kind.
+    need-all (Inside file) _ _ _ refused λ head.
+    need-all (Inside file) _ _ _ refused λ some.
+    need-all (Inside file) _ _ _ refused λ whole.
+    need-all (Inside file) _ _ _ refused λ kind.
     record { fits = omega (arith, leb-true) }

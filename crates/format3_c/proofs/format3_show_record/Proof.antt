@@ -10,9 +10,6 @@ record-at-requires c κs = search needs
 enum-known-found : tie.Need-enum-known-found
 enum-known-found c = search needs
 
-cast-kind : tie.Need-cast-kind
-cast-kind c = search needs
-
 enum-known-refusal : tie.Need-enum-known-refusal
 enum-known-refusal c = search needs
 
@@ -31,7 +28,6 @@ format3-show-record-spec =
     (tie.spec
     record-at-requires
     enum-known-found
-    cast-kind
     enum-known-refusal
     number-requires
     returns

@@ -1,60 +1,91 @@
--- What is known of a macroblock's symbols where they are legal, and of its coefficients always. Assumes nothing.
-use mathlib.Core.Path.{_≡_, refl, subst}
+-- What is known of a macroblock that was read: its symbols are legal, so are the DC pasts that it leaves, its coefficients are in range, and its blocks end
+-- with its body.
+-- Assumes nothing.
+use mathlib.Core.Path.{_≡_, refl}
 use mathlib.Core.Bool.{Bool, true, false, cond, _&&_}
-use mathlib.Core.List.{List}
-use Prim.Native.Nat.{ℕ, zero, suc, _+_, _≤_}
+use mathlib.Core.List.{List, [], _∷_}
+use Prim.Native.Nat.{ℕ, _+_, _<_, _≤_}
 use native.Mathlib.Omega.{arith}
 use borrow.Author.Tests.{leb-true}
 use lib.Dec.{leb, ltb}
-use lib.IntN.{ℤ}
-use lib.ListN.{length, drop}
-use Rattle.integers.specs.Bound.{AllWithin}
+use lib.ListN.{length, drop, replicate, length-drop, drop-of-length-le}
 use Rattle.refusals.specs.declared.Refusal.{Refusal}
-use Rattle.refusals.specs.declared.Refusal.the-variants as Refusal
-use Rattle.format3.specs.declared.field.Cursor.{Cursor}
-use Rattle.format3.specs.Field.{byteOf}
-use Rattle.format3.proofs.Laws.Chain.{only-all, both}
-use Rattle.format3.proofs.Laws.Field.{byte-all}
+use Rattle.refusals.specs.declared.Refusal.the-variants.{BodyLength}
+use Rattle.parsed.specs.Parsed.{Parsed, Parser, parsed, refused, bind, give, value, stopped, Finds}
+use Rattle.parsed.proofs.Guard.{both}
+use Rattle.parsed.proofs.Parsed.{All, here, none, all-then, made-of, stopped-before}
+use Rattle.matrices.specs.Matrix.{matrixFor}
+use Rattle.matrices.specs.declared.Matrices.{Matrices}
 use Rattle.symbols.specs.declared.macroblock_head.HeadContext.{HeadContext}
-use Rattle.symbols.specs.declared.macroblock_head.MacroblockHead.{MacroblockHead}
-use Rattle.symbols.specs.declared.macroblock_head.HeadAnswer.{HeadAnswer}
-use Rattle.symbols.specs.declared.macroblock_head.HeadAnswer.the-variants as Head
-use Rattle.symbols.specs.declared.vector_codes.VectorCodes.{VectorCodes}
-use Rattle.symbols.specs.declared.vector_codes.CodesAnswer.{CodesAnswer}
-use Rattle.symbols.specs.declared.vector_codes.CodesAnswer.the-variants as Codes
+use Rattle.symbols.specs.MacroblockType.{givesScale, isIntra, legalType}
+use Rattle.symbols.specs.MacroblockHead.{mustFollow, legalIncrement}
 use Rattle.symbols.specs.Slice.{legalScale}
-use Rattle.symbols.specs.MacroblockHead.{legalType, mustFollow, legalIncrement, headOf}
-use Rattle.blocks.specs.declared.DcPasts.{DcPasts}
-use Rattle.blocks.specs.declared.BlocksCoding.{BlocksCoding}
-use Rattle.blocks.specs.declared.BlockAnswer.{BlockAnswer}
-use Rattle.blocks.specs.declared.BlockAnswer.the-variants as Block
-use Rattle.macroblock_symbols.specs.declared.vectors.Vectors.{Vectors}
-use Rattle.macroblock_symbols.specs.declared.vectors.VectorsAnswer.{VectorsAnswer}
-use Rattle.macroblock_symbols.specs.declared.vectors.VectorsAnswer.the-variants as Vectors
+use Rattle.symbols.proofs.Laws.MacroblockHead.{head-legal}
+use Rattle.blocks.specs.declared.dc.DcPasts.{DcPasts}
+use Rattle.blocks.specs.declared.blocks.BlocksCoding.{BlocksCoding}
+use Rattle.blocks.specs.Blocks.{Block, uncoded, legalDc, isCoded, blocksOf, sixBlocksOf, LegalPasts}
+use Rattle.blocks.specs.Stored.{Decoded, decodedOf, decodingOf}
+use Rattle.blocks.specs.Coefficients.{pastsThrough, InRange}
+use Rattle.blocks.proofs.Laws.Blocks.{LegalBlocks, blocks-legal, through-legal, in-range}
 use Rattle.macroblock_symbols.specs.declared.MacroblockContext.{MacroblockContext}
 use Rattle.macroblock_symbols.specs.declared.MacroblockSymbols.{MacroblockSymbols}
-use Rattle.macroblock_symbols.specs.declared.PatternAnswer.{PatternAnswer}
-use Rattle.macroblock_symbols.specs.declared.PatternAnswer.the-variants as Pattern
-use Rattle.macroblock_symbols.specs.declared.ResidueAnswer.{ResidueAnswer}
-use Rattle.macroblock_symbols.specs.declared.ResidueAnswer.the-variants as Residue
-use Rattle.macroblock_symbols.specs.declared.SymbolsAnswer.{SymbolsAnswer}
-use Rattle.macroblock_symbols.specs.declared.SymbolsAnswer.the-variants as Symbols
-use Rattle.pairs.specs.Reading.{Reading, plain}
-use Rattle.blocks.specs.Blocks.{legalDc, blockOf, afterBlock, blocksOf, LegalPasts}
-use Rattle.macroblock_symbols.specs.Vectors.{gives, givenCodes, codesThen, vectorsOf}
-use Rattle.macroblock_symbols.specs.MacroblockSymbols.{legalPattern, patternOf, resetPasts, startingPasts, pastsAfter, codedBlocksOf, patternThen, afterBlocks, blocksThen, blocksCoding, residueOf, vectorsThen, afterResidue, residueThen, symbolsWith, afterHeadOf, headThen, macroblockOf, symbolsOf, coefficientsOf, LegalContext}
-use Rattle.pairs.proofs.Laws.Reading.{Keeps, Sound, sound-plain, sound-storing}
-use Rattle.blocks.proofs.Laws.Blocks.{BlockSound, block-sound}
-use Rattle.symbols.proofs.Laws.MacroblockHead.{LegalHead, head-sound}
-use Rattle.macroblock_symbols.proofs.Laws.Vectors.{CodesKnown, codes-known}
+use Rattle.macroblock_symbols.specs.Macroblock.{Macroblock, codedPatternOf, symbolsOf, resetPasts, startingPasts, atEnd, wholeBlocksOf, macroblockOf}
+use Rattle.macroblock_symbols.specs.Decoding.{scaleAfter, blockCoding, macroblockCoefficients, pastsLeft, decoded, decodingBlocksOf}
+use Rattle.macroblock_symbols.proofs.Laws.Vectors.{CodesKnown, vectors-known}
 
-pub scale-below : (scale : ℕ) → legalScale scale ≡ true → scale ≤ 31
-scale-below scale e = leb-true scale 31 (both (leb 1 scale) (leb scale 31) e .1)
+-- ---- the symbols before the blocks
+pub record SymbolsLegal (c : MacroblockContext) (m : MacroblockSymbols) : Type 0 where
+  pub type-legal : legalType (c .head .coding) (m .flags) ≡ true
+  pub increment-some : 1 ≤ m .increment
+  pub address-inside : c .head .next + m .increment ≤ c .head .macroblocks
+  pub scale-legal : givesScale (m .flags) ≡ true → legalScale (m .scale) ≡ true
+  pub forward-known : CodesKnown (c .«forward_f») (m .forward)
+  pub backward-known : CodesKnown (c .«backward_f») (m .backward)
+  pub none-coded : m .pattern ≡ 0 → isIntra (m .flags) ≡ false
 
-scale-above : (scale : ℕ) → legalScale scale ≡ true → 1 ≤ scale
-scale-above scale e = leb-true 1 scale (both (leb 1 scale) (leb scale 31) e .0)
+-- an intra macroblock has all six blocks coded
+pattern-inter : (flags : ℕ) (part : List ℕ) → All (λ pattern rest. pattern ≡ 0 → isIntra flags ≡ false) (codedPatternOf flags part)
+pattern-inter flags part = go (isIntra flags) refl
+  where
+    every : (x : Parsed ℕ) → isIntra flags ≡ false → All (λ pattern rest. pattern ≡ 0 → isIntra flags ≡ false) x
+    every (parsed pattern rest) inter = here {a = pattern} (λ e. inter)
+    every (refused refusal) inter = none
 
--- ---- the pasts
+    go : (intra : Bool) → isIntra flags ≡ intra → All (λ pattern rest. pattern ≡ 0 → isIntra flags ≡ false) (codedPatternOf flags part)
+    go true e = rw e (here {a = 63} (λ z. absurd (omega (arith, z))))
+    go false e = every (codedPatternOf flags part) e
+
+module _ (c : HeadContext) (increment : ℕ) (e : legalIncrement c increment ≡ true) where
+  tests : (leb 1 increment ≡ true) × (leb (c .next + increment) (c .macroblocks) ≡ true)
+  unfolding legalIncrement
+  tests =
+      both (leb 1 increment) (leb (c .next + increment) (c .macroblocks))
+      (both (leb 1 increment && leb (c .next + increment) (c .macroblocks)) (cond (mustFollow c) (leb increment 1) true) e .0)
+
+pub symbols-legal : (c : MacroblockContext) (body : List ℕ) → All (λ m rest. SymbolsLegal c m) (symbolsOf c body)
+unfolding symbolsOf
+symbols-legal c body =
+    all-then (head-legal (c .head) body) λ head rest h.
+    all-then (vectors-known (head .flags) (c .«forward_f») (c .«backward_f») rest) λ vectors left v.
+    all-then (pattern-inter (head .flags) left) λ pattern end inter.
+    here (record {
+      type-legal = h .type;
+      increment-some = leb-true _ _ (tests (c .head) (head .increment) (h .increment) .0);
+      address-inside = leb-true _ _ (tests (c .head) (head .increment) (h .increment) .1);
+      scale-legal = h .scale;
+      forward-known = v .forward;
+      backward-known = v .backward;
+      none-coded = inter;
+    })
+
+-- ---- the scale and the pasts that hold
+pub scale-legal-after : (before : ℕ) (m : MacroblockSymbols) → legalScale before ≡ true → (givesScale (m .flags) ≡ true → legalScale (m .scale) ≡ true) → legalScale (scaleAfter before m) ≡ true
+scale-legal-after before m old new = go (givesScale (m .flags)) new
+  where
+    go : (b : Bool) → (b ≡ true → legalScale (m .scale) ≡ true) → legalScale (cond b (m .scale) before) ≡ true
+    go true f = f refl
+    go false f = old
+
 reset-legal : LegalPasts resetPasts
 unfolding legalDc
 reset-legal = record { legal-y = refl; legal-cb = refl; legal-cr = refl }
@@ -67,231 +98,83 @@ starting-legal pasts increment p = go (ltb 1 increment)
     go true = reset-legal
     go false = p
 
-after-legal : (intra : Bool) (running : DcPasts) → LegalPasts running → LegalPasts (pastsAfter intra running)
-after-legal true running p = p
-after-legal false running p = reset-legal
+left-legal : (intra : Bool) (running : DcPasts) → LegalPasts running → LegalPasts (pastsLeft intra running)
+left-legal true running p = p
+left-legal false running p = reset-legal
 
--- ---- the head
-pub head-scale : (c : HeadContext) (body : List ℕ) {head : MacroblockHead} {cursor : Cursor} → legalScale (c .scale) ≡ true → headOf c body ≡ Head.Legal head cursor → legalScale (head .scale) ≡ true
-head-scale c body {head} {cursor} s e = head-sound c body .legal head cursor e .scale s
-
--- the whole, as the head decides it
-module _ (c : MacroblockContext) (intraMatrix nonIntraMatrix body : List ℕ) where
-  pub refused-head : {refusal : Refusal} → headOf (c .head) body ≡ Head.Refused refusal → plain (Symbols.Refused refusal) ≡ macroblockOf c intraMatrix nonIntraMatrix body
-  unfolding macroblockOf
-  refused-head e = rw e
-
-  pub legal-head : {head : MacroblockHead} {cursor : Cursor} → headOf (c .head) body ≡ Head.Legal head cursor → afterHeadOf c head intraMatrix nonIntraMatrix (drop (cursor .at) body) ≡ macroblockOf c intraMatrix nonIntraMatrix body
-  unfolding macroblockOf
-  legal-head e = rw e
-
--- ---- the vectors
-record VectorsKnown (forwardF backwardF : ℕ) (v : Vectors) : Type 0 where
-  pub forward-known : CodesKnown forwardF (v .forward)
-  pub backward-known : CodesKnown backwardF (v .backward)
-
-unfoldable VectorsSound : ℕ → ℕ → VectorsAnswer → Type 0
-VectorsSound f b (Vectors.Legal vectors cursor) = VectorsKnown f b vectors
-VectorsSound f b (Vectors.Refused refusal) = Unit
-
-codes-then : (f b : ℕ) (a : CodesAnswer) (rest : VectorCodes → Cursor → VectorsAnswer)
-    → ((codes : VectorCodes) (cursor : Cursor) → a ≡ Codes.Legal codes cursor → VectorsSound f b (rest codes cursor)) → VectorsSound f b (codesThen a rest)
-unfolding VectorsSound
-codes-then f b (Codes.Legal codes cursor) rest r = r codes cursor refl
-codes-then f b (Codes.Refused refusal) rest r = tt
-
-vectors-known : (f b : ℕ) (vectors : Vectors) (cursor : Cursor) → VectorsKnown f b vectors → VectorsSound f b (Vectors.Legal vectors cursor)
-unfolding VectorsSound
-vectors-known f b vectors cursor p = p
-
-vectors-sound : (flags f b : ℕ) (l : List ℕ) → VectorsSound f b (vectorsOf flags f b l)
-unfolding vectorsOf
-vectors-sound flags f b l =
-    codes-then f b (givenCodes (gives flags 2) f l) _ λ forward first p.
-    codes-then f b (givenCodes (gives flags 4) b (drop (first .at) l)) _ λ backward second q.
-    vectors-known f b _ _ (record { forward-known = codes-known (gives flags 2) f l p; backward-known = codes-known (gives flags 4) b (drop (first .at) l) q })
-
--- ---- the blocks
-unfoldable pub BlocksSound : BlockAnswer → Type 0
-BlocksSound (Block.Legal pasts cursor) = LegalPasts pasts
-BlocksSound (Block.Refused refusal) = Unit
-
-blocks-legal : (pasts : DcPasts) (cursor : Cursor) → LegalPasts pasts → BlocksSound (Block.Legal pasts cursor)
-unfolding BlocksSound
-blocks-legal pasts cursor p = p
-
-after-block : (a : BlockAnswer) (store : List ℤ → List ℤ) (rest : DcPasts → ℕ → Reading BlockAnswer) → BlockSound a → Keeps store
-    → ((next : DcPasts) (size : ℕ) → LegalPasts next → Sound BlocksSound (rest next size)) → Sound BlocksSound (afterBlock a store rest)
-unfolding BlockSound BlocksSound
-after-block (Block.Legal pasts cursor) store rest s k r = sound-storing k (r pasts (cursor .at) (s .legal))
-after-block (Block.Refused refusal) store rest s k r = record { sound = tt; keeps = k }
-
-pub blocks-sound : (c : BlocksCoding) (matrix : List ℕ) (n block at : ℕ) (pasts : DcPasts) (l : List ℕ) → LegalPasts pasts → Sound BlocksSound (blocksOf c matrix n block at pasts l)
-unfolding blocksOf
-blocks-sound c matrix zero block at pasts l p = sound-plain (blocks-legal pasts (record { at = at }) p)
-blocks-sound c matrix (suc n) block at pasts l p =
-    let one = block-sound c matrix block pasts (drop at l) p in
-    after-block (blockOf c matrix block pasts (drop at l) .answer) (blockOf c matrix block pasts (drop at l) .store) _ (one .sound) (one .keeps)
-    (λ next size q. blocks-sound c matrix n (block + 1) (at + size) next l q)
-
--- ---- the residue
-unfoldable PatternSound : PatternAnswer → Type 0
-PatternSound (Pattern.Legal pattern cursor) = pattern ≤ 63
-PatternSound (Pattern.Refused refusal) = Unit
-
-pattern-refused : (refusal : Refusal) → PatternSound (Pattern.Refused refusal)
-unfolding PatternSound
-pattern-refused refusal = tt
-
-pattern-legal : (pattern : ℕ) (cursor : Cursor) → pattern ≤ 63 → PatternSound (Pattern.Legal pattern cursor)
-unfolding PatternSound
-pattern-legal pattern cursor h = h
-
-pattern-sound : (flags : ℕ) (l : List ℕ) → PatternSound (patternOf flags l)
-unfolding patternOf
-pattern-sound flags l = go (gives flags 16) _
-    (only-all PatternSound (gives flags 8) _ _ (pattern-legal 0 _ (omega arith)) λ given.
-    byte-all PatternSound l _ (byteOf l) _ (pattern-refused Refusal.BodyLength) λ pattern rest.
-    only-all PatternSound (legalPattern pattern) _ _ (pattern-refused Refusal.Pattern) λ legal.
-    pattern-legal pattern _ (leb-true pattern 63 (both (leb 1 pattern) (leb pattern 63) legal .1)))
+-- ---- the whole
+pub whole-legal : (m : MacroblockSymbols) (pasts : DcPasts) (bytes : List ℕ) → All (λ blocks rest. LegalBlocks (isIntra (m .flags)) pasts 0 blocks) (wholeBlocksOf m pasts bytes)
+unfolding wholeBlocksOf
+whole-legal m pasts bytes = all-then (blocks-legal (isIntra (m .flags)) (m .pattern) 6 pasts 0 bytes) last
   where
-    go : (intra : Bool) (a : PatternAnswer) → PatternSound a → PatternSound (cond intra (Pattern.Legal 63 (record { at = 0 })) a)
-    go true a s = pattern-legal 63 _ (omega arith)
-    go false a s = s
+    last : (blocks : List Block) (rest : List ℕ) → LegalBlocks (isIntra (m .flags)) pasts 0 blocks → All (λ blocks rest. LegalBlocks (isIntra (m .flags)) pasts 0 blocks) (atEnd blocks rest)
+    last blocks [] legal = here legal
+    last blocks (b ∷ rest) legal = none
 
-record ResidueLegal (pattern : ℕ) (pasts : DcPasts) : Type 0 where
-  pub pattern-below : pattern ≤ 63
-  pub pasts-legal : LegalPasts pasts
+-- the pasts that it leaves are legal, and its coefficients in range
+pub pasts-after-legal : (before : DcPasts) (m : Macroblock) → LegalPasts before → LegalBlocks (isIntra (m .symbols .flags)) (startingPasts before (m .symbols .increment)) 0 (m .blocks) → LegalPasts (decoded before m .dc)
+pasts-after-legal before m p legal =
+    left-legal (isIntra (m .symbols .flags)) _ (through-legal (isIntra (m .symbols .flags)) _ 0 (m .blocks) (starting-legal before (m .symbols .increment) p) legal)
 
-unfoldable ResidueSound : ResidueAnswer → Type 0
-ResidueSound (Residue.Legal pattern pasts) = ResidueLegal pattern pasts
-ResidueSound (Residue.Refused refusal) = Unit
+pub coefficients-in-range : (matrices : Matrices) (scale : ℕ) (pasts : DcPasts) (m : Macroblock) → LegalBlocks (isIntra (m .symbols .flags)) pasts 0 (m .blocks) → InRange (macroblockCoefficients matrices scale pasts m)
+coefficients-in-range matrices scale pasts m legal = in-range (blockCoding (m .symbols) scale) _ pasts 0 (m .blocks) legal
 
-residue-refused : (refusal : Refusal) → ResidueSound (Residue.Refused refusal)
-unfolding ResidueSound
-residue-refused refusal = tt
+pub record MacroblockLegal (c : MacroblockContext) (m : Macroblock) : Type 0 where
+  pub symbols : SymbolsLegal c (m .symbols)
+  pub blocks : LegalBlocks (isIntra (m .symbols .flags)) (startingPasts (c .dc) (m .symbols .increment)) 0 (m .blocks)
 
-residue-legal : (pattern : ℕ) (pasts : DcPasts) → ResidueLegal pattern pasts → ResidueSound (Residue.Legal pattern pasts)
-unfolding ResidueSound
-residue-legal pattern pasts p = p
+pub macroblock-legal : (c : MacroblockContext) (body : List ℕ) → All (λ m rest. MacroblockLegal c m) (macroblockOf c body)
+unfolding macroblockOf
+macroblock-legal c body =
+    all-then (symbols-legal c body) λ m rest s.
+    all-then (whole-legal m (startingPasts (c .dc) (m .increment)) rest) λ blocks end legal.
+    here (record { symbols = s; blocks = legal })
 
-pattern-then : (a : PatternAnswer) (l : List ℕ) (rest : ℕ → List ℕ → Reading ResidueAnswer) → PatternSound a
-    → ((pattern : ℕ) (left : List ℕ) → pattern ≤ 63 → Sound ResidueSound (rest pattern left)) → Sound ResidueSound (patternThen a l rest)
-unfolding PatternSound
-pattern-then (Pattern.Legal pattern cursor) l rest s r = r pattern (drop (cursor .at) l) s
-pattern-then (Pattern.Refused refusal) l rest s r = sound-plain (residue-refused refusal)
+-- ---- the blocks, and then nothing
+module _ (m : MacroblockSymbols) (scale : ℕ) (matrices : Matrices) (pasts : DcPasts) (part : List ℕ) where
+  abbrev pub blocksCoding : BlocksCoding
+  blocksCoding = record { pattern = m .pattern; intra = isIntra (m .flags); scale = scale }
 
-after-blocks : (a : BlockAnswer) (rest : DcPasts → ℕ → ResidueAnswer) → BlocksSound a → ((pasts : DcPasts) (size : ℕ) → LegalPasts pasts → ResidueSound (rest pasts size)) → ResidueSound (afterBlocks a rest)
-unfolding BlocksSound
-after-blocks (Block.Legal pasts cursor) rest s r = r pasts (cursor .at) s
-after-blocks (Block.Refused refusal) rest s r = residue-refused refusal
+  abbrev pub six : Parser Decoded
+  six = decodingOf blocksCoding (matrixFor (isIntra (m .flags)) matrices) pasts
 
-blocks-then : (blocks : Reading BlockAnswer) (rest : DcPasts → ℕ → ResidueAnswer) → Sound BlocksSound blocks → ((pasts : DcPasts) (size : ℕ) → LegalPasts pasts → ResidueSound (rest pasts size)) → Sound ResidueSound (blocksThen blocks rest)
-blocks-then blocks rest s r = record { sound = after-blocks (blocks .answer) rest (s .sound) r; keeps = s .keeps }
+  pub six-stop : {refusal : Refusal} → Finds six part (stopped refusal) → Finds (decodingBlocksOf m scale matrices pasts) part (stopped refusal)
+  unfolding wholeBlocksOf
+  six-stop found = rw (stopped-before (sixBlocksOf (isIntra (m .flags)) (m .pattern) pasts) _ part found)
 
-coded-sound : (c : BlocksCoding) (intraMatrix nonIntraMatrix : List ℕ) (pasts : DcPasts) (l : List ℕ) → LegalPasts pasts → Sound BlocksSound (codedBlocksOf c intraMatrix nonIntraMatrix pasts l)
-unfolding codedBlocksOf
-coded-sound c intraMatrix nonIntraMatrix pasts l p = blocks-sound c (cond (c .intra) intraMatrix nonIntraMatrix) 6 0 0 pasts l p
+  module _ {d : Decoded} {n : ℕ} (found : Finds six part (value d n)) where
+    pub bytes-left : n < length part → Finds (decodingBlocksOf m scale matrices pasts) part (stopped BodyLength)
+    unfolding wholeBlocksOf
+    bytes-left more = rw (made-of (sixBlocksOf (isIntra (m .flags)) (m .pattern) pasts) _ part found .found .0) (go (drop n part) (omega (arith, length-drop n part)))
+      where
+        go : (rest : List ℕ) → 0 < length rest → bind (atEnd (made-of (sixBlocksOf (isIntra (m .flags)) (m .pattern) pasts) _ part found .source) rest) (λ blocks. give (decodedOf (blockCoding m scale) (matrixFor (isIntra (m .flags)) matrices) pasts blocks)) ≡ refused BodyLength
+        go [] h = absurd (omega arith)
+        go (b ∷ rest) h = refl
 
-residue-sound : (head : MacroblockHead) (intraMatrix nonIntraMatrix : List ℕ) (pasts : DcPasts) (l : List ℕ) → LegalPasts pasts → Sound ResidueSound (residueOf head intraMatrix nonIntraMatrix pasts l)
-unfolding residueOf
-residue-sound head intraMatrix nonIntraMatrix pasts l p =
-    pattern-then (patternOf (head .flags) l) l _ (pattern-sound (head .flags) l) λ pattern blocks below.
-    blocks-then (codedBlocksOf (blocksCoding head pattern) intraMatrix nonIntraMatrix pasts blocks) _ (coded-sound (blocksCoding head pattern) intraMatrix nonIntraMatrix pasts blocks p) λ running size q.
-    only-all ResidueSound (leb (length blocks) size) _ _ (residue-refused Refusal.BodyLength) λ whole.
-    residue-legal pattern _ (record { pattern-below = below; pasts-legal = after-legal (gives (head .flags) 16) running q })
+    pub no-byte-left : length part ≤ n → Finds (decodingBlocksOf m scale matrices pasts) part (value d n)
+    unfolding wholeBlocksOf
+    no-byte-left none-more =
+        let b = made-of (sixBlocksOf (isIntra (m .flags)) (m .pattern) pasts) _ part found in
+        (rw (b .found .0, drop-of-length-le part none-more, b .is), found .1)
 
--- ---- the whole: what is known of legal symbols
-pub record SymbolsLegal (c : MacroblockContext) (s : MacroblockSymbols) : Type 0 where
-  pub type-legal : legalType (c .head .coding) (s .flags) ≡ true
-  pub increment-legal : legalIncrement (c .head) (s .increment) ≡ true
-  pub increment-some : 1 ≤ s .increment
-  pub address-inside : c .head .next + s .increment ≤ c .head .macroblocks
-  pub scale-some : 1 ≤ s .scale
-  pub scale-most : s .scale ≤ 31
-  pub forward-known : CodesKnown (c .«forward_f») (s .forward)
-  pub backward-known : CodesKnown (c .«backward_f») (s .backward)
-  pub pattern-below : s .pattern ≤ 63
-  pub pasts-legal : LegalPasts (s .dc)
+-- ---- where no block is coded, none is read, and the pasts stay
+abbrev pub noneCoded : List Block
+noneCoded = replicate 6 uncoded
 
-unfoldable SymbolsSound : MacroblockContext → SymbolsAnswer → Type 0
-SymbolsSound c (Symbols.Legal symbols) = SymbolsLegal c symbols
-SymbolsSound c (Symbols.Refused refusal) = Unit
+module _ (m : MacroblockSymbols) (pasts : DcPasts) (none-given : m .pattern ≡ 0) where
+  none-read : (bytes : List ℕ) → sixBlocksOf (isIntra (m .flags)) (m .pattern) pasts bytes ≡ parsed noneCoded bytes
+  unfolding blocksOf isCoded
+  none-read bytes = rw none-given
 
-symbols-refused : (c : MacroblockContext) (refusal : Refusal) → SymbolsSound c (Symbols.Refused refusal)
-unfolding SymbolsSound
-symbols-refused c refusal = tt
+  pub none-then-end : wholeBlocksOf m pasts [] ≡ parsed noneCoded []
+  unfolding wholeBlocksOf
+  none-then-end = rw (none-read [])
 
-abbrev follows : HeadContext → ℕ → Bool
-follows c increment = cond (mustFollow c) (leb increment 1) true
+  pub none-then-more : (bytes : List ℕ) → 0 < length bytes → wholeBlocksOf m pasts bytes ≡ refused BodyLength
+  unfolding wholeBlocksOf
+  none-then-more [] h = absurd (omega arith)
+  none-then-more (b ∷ bytes) h = rw (none-read (b ∷ bytes))
 
-increment-some : (c : HeadContext) (increment : ℕ) → legalIncrement c increment ≡ true → 1 ≤ increment
-unfolding legalIncrement
-increment-some c increment e = leb-true 1 increment (both (leb 1 increment) (leb (c .next + increment) (c .macroblocks)) (both (leb 1 increment && leb (c .next + increment) (c .macroblocks)) (follows c increment) e .0) .0)
-
-increment-inside : (c : HeadContext) (increment : ℕ) → legalIncrement c increment ≡ true → c .next + increment ≤ c .macroblocks
-unfolding legalIncrement
-increment-inside c increment e = leb-true (c .next + increment) (c .macroblocks) (both (leb 1 increment) (leb (c .next + increment) (c .macroblocks)) (both (leb 1 increment && leb (c .next + increment) (c .macroblocks)) (follows c increment) e .0) .1)
-
-symbols-legal : (c : MacroblockContext) (head : MacroblockHead) (vectors : Vectors) (pattern : ℕ) (pasts : DcPasts) → legalScale (c .head .scale) ≡ true → LegalHead (c .head) head → VectorsKnown (c .«forward_f») (c .«backward_f») vectors → ResidueLegal pattern pasts → SymbolsSound c (Symbols.Legal (symbolsWith head vectors pattern pasts))
-unfolding SymbolsSound
-symbols-legal c head vectors pattern pasts s h v r = record {
-  type-legal = h .type;
-  increment-legal = h .increment;
-  increment-some = increment-some (c .head) (head .increment) (h .increment);
-  address-inside = increment-inside (c .head) (head .increment) (h .increment);
-  scale-some = scale-above (head .scale) (h .scale s);
-  scale-most = scale-below (head .scale) (h .scale s);
-  forward-known = v .forward-known;
-  backward-known = v .backward-known;
-  pattern-below = r .pattern-below;
-  pasts-legal = r .pasts-legal;
-}
-
-vectors-then : (c : MacroblockContext) (a : VectorsAnswer) (l : List ℕ) (rest : Vectors → List ℕ → Reading SymbolsAnswer) → VectorsSound (c .«forward_f») (c .«backward_f») a
-    → ((vectors : Vectors) (left : List ℕ) → VectorsKnown (c .«forward_f») (c .«backward_f») vectors → Sound (SymbolsSound c) (rest vectors left)) → Sound (SymbolsSound c) (vectorsThen a l rest)
-unfolding VectorsSound
-vectors-then c (Vectors.Legal vectors cursor) l rest s r = r vectors (drop (cursor .at) l) s
-vectors-then c (Vectors.Refused refusal) l rest s r = sound-plain (symbols-refused c refusal)
-
-after-residue : (c : MacroblockContext) (a : ResidueAnswer) (rest : ℕ → DcPasts → SymbolsAnswer) → ResidueSound a → ((pattern : ℕ) (pasts : DcPasts) → ResidueLegal pattern pasts → SymbolsSound c (rest pattern pasts)) → SymbolsSound c (afterResidue a rest)
-unfolding ResidueSound
-after-residue c (Residue.Legal pattern pasts) rest s r = r pattern pasts s
-after-residue c (Residue.Refused refusal) rest s r = symbols-refused c refusal
-
-residue-then : (c : MacroblockContext) (residue : Reading ResidueAnswer) (rest : ℕ → DcPasts → SymbolsAnswer) → Sound ResidueSound residue → ((pattern : ℕ) (pasts : DcPasts) → ResidueLegal pattern pasts → SymbolsSound c (rest pattern pasts)) → Sound (SymbolsSound c) (residueThen residue rest)
-residue-then c residue rest s r = record { sound = after-residue c (residue .answer) rest (s .sound) r; keeps = s .keeps }
-
-head-then : (c : MacroblockContext) (a : HeadAnswer) (l : List ℕ) (rest : MacroblockHead → List ℕ → Reading SymbolsAnswer)
-    → ((head : MacroblockHead) (cursor : Cursor) → a ≡ Head.Legal head cursor → Sound (SymbolsSound c) (rest head (drop (cursor .at) l))) → Sound (SymbolsSound c) (headThen a l rest)
-head-then c (Head.Legal head cursor) l rest r = r head cursor refl
-head-then c (Head.Refused refusal) l rest r = sound-plain (symbols-refused c refusal)
-
-module _ (c : MacroblockContext) (intraMatrix nonIntraMatrix : List ℕ) (p : LegalContext c) where
-  after-head-sound : (head : MacroblockHead) (l : List ℕ) → LegalHead (c .head) head → Sound (SymbolsSound c) (afterHeadOf c head intraMatrix nonIntraMatrix l)
-  unfolding afterHeadOf
-  after-head-sound head l h =
-      vectors-then c (vectorsOf (head .flags) (c .«forward_f») (c .«backward_f») l) l _ (vectors-sound (head .flags) (c .«forward_f») (c .«backward_f») l) λ vectors rest v.
-      residue-then c (residueOf head intraMatrix nonIntraMatrix (startingPasts (c .dc) (head .increment)) rest) _
-      (residue-sound head intraMatrix nonIntraMatrix (startingPasts (c .dc) (head .increment)) rest (starting-legal (c .dc) (head .increment) (p .legal-pasts))) λ pattern pasts r.
-      symbols-legal c head vectors pattern pasts (p .legal-scale) h v r
-
-  macroblock-sound : (body : List ℕ) → Sound (SymbolsSound c) (macroblockOf c intraMatrix nonIntraMatrix body)
-  unfolding macroblockOf
-  macroblock-sound body =
-      head-then c (headOf (c .head) body) body _ λ head cursor e.
-      after-head-sound head (drop (cursor .at) body) (head-sound (c .head) body .legal head cursor e)
-
-  -- a legal answer has its type, increment, scale, codes, pattern and pasts in their ranges
-  pub legal-symbols : (body : List ℕ) {symbols : MacroblockSymbols} → symbolsOf c intraMatrix nonIntraMatrix body ≡ Symbols.Legal symbols → SymbolsLegal c symbols
-  unfolding symbolsOf SymbolsSound
-  legal-symbols body e = subst (SymbolsSound c) e (macroblock-sound body .sound)
-
-  -- the coefficients stay in the transform's range, and as many
-  pub coefficients-within : (body : List ℕ) (l : List ℤ) → AllWithin 2048 l → AllWithin 2048 (coefficientsOf c intraMatrix nonIntraMatrix body l)
-  unfolding coefficientsOf
-  coefficients-within body l s = macroblock-sound body .keeps .small l s
-
-  pub coefficients-length : (body : List ℕ) (l : List ℤ) → length (coefficientsOf c intraMatrix nonIntraMatrix body l) ≡ length l
-  unfolding coefficientsOf
-  coefficients-length body l = macroblock-sound body .keeps .long l
+pub none-through : (intra : Bool) (pasts : DcPasts) → pastsThrough intra pasts 0 noneCoded ≡ pasts
+unfolding pastsThrough
+none-through intra pasts = refl

@@ -1,18 +1,18 @@
--- Laws of a macroblock's vectors: the codes of a direction are legal, given or not, and their bytes are few. Assumes nothing.
-use mathlib.Core.Path.{_≡_, refl}
+-- The codes of a macroblock's vectors are known: -16..16, and residuals below f, given or not. Assumes nothing.
+use mathlib.Core.Path.{refl}
 use mathlib.Core.Bool.{Bool, true, false}
 use mathlib.Core.List.{List}
 use Prim.Native.Nat.{ℕ, _≤_, _<_}
-use native.Mathlib.Omega.{arith}
 use Rattle.integers.specs.Bound.{Within}
 use Rattle.motion.specs.Vector.{codeInRange, residualInRange}
 use Rattle.motion.proofs.VectorLaws.{code-known, residual-known}
-use Rattle.format3.specs.declared.field.Cursor.{Cursor}
+use Rattle.parsed.proofs.Parsed.{All, here, all-then, all-more}
 use Rattle.symbols.specs.declared.vector_codes.VectorCode.{VectorCode}
 use Rattle.symbols.specs.declared.vector_codes.VectorCodes.{VectorCodes}
-use Rattle.symbols.specs.declared.vector_codes.CodesAnswer.the-variants as Codes
-use Rattle.symbols.proofs.Laws.VectorCodes.{LegalCode, SoundCodes, legal-codes, codes-sound}
-use Rattle.macroblock_symbols.specs.Vectors.{noCode, noCodes, givenCodes}
+use Rattle.symbols.specs.MacroblockType.{givesForward, givesBackward}
+use Rattle.symbols.proofs.Laws.VectorCodes.{LegalCode, codes-legal}
+use Rattle.macroblock_symbols.specs.declared.vectors.Vectors.{Vectors}
+use Rattle.macroblock_symbols.specs.Vectors.{noCode, givenCodesOf, vectorsOf}
 
 -- a code is -16..16, and its residual is below f, where f is not 0
 pub record CodeKnown (f : ℕ) (c : VectorCode) : Type 0 where
@@ -30,14 +30,17 @@ no-code : (f : ℕ) → LegalCode f noCode
 unfolding codeInRange residualInRange
 no-code f = record { code = refl; residual = refl }
 
-given-sound : (given : Bool) (f : ℕ) (l : List ℕ) → SoundCodes f (givenCodes given f l)
-unfolding givenCodes
-given-sound true f l = codes-sound f l
-given-sound false f l = legal-codes noCodes (record { at = 0 }) (no-code f) (no-code f) (omega arith)
+given-known : (given : Bool) (f : ℕ) (bytes : List ℕ) → All (λ codes rest. CodesKnown f codes) (givenCodesOf given f bytes)
+given-known true f bytes = all-more (codes-legal f bytes) λ codes rest p. record { across = known (p .across); down = known (p .down) }
+given-known false f bytes = here (record { across = known (no-code f); down = known (no-code f) })
 
-module _ (given : Bool) (f : ℕ) (l : List ℕ) {codes : VectorCodes} {cursor : Cursor} (e : givenCodes given f l ≡ Codes.Legal codes cursor) where
-  pub codes-known : CodesKnown f codes
-  codes-known = let p = given-sound given f l .legal codes cursor e in record { across = known (p .0); down = known (p .1) }
+pub record VectorsKnown (forwardF backwardF : ℕ) (vectors : Vectors) : Type 0 where
+  pub forward : CodesKnown forwardF (vectors .forward)
+  pub backward : CodesKnown backwardF (vectors .backward)
 
-  pub codes-short : cursor .at ≤ 4
-  codes-short = given-sound given f l .short codes cursor e
+pub vectors-known : (flags forwardF backwardF : ℕ) (bytes : List ℕ) → All (λ vectors rest. VectorsKnown forwardF backwardF vectors) (vectorsOf flags forwardF backwardF bytes)
+unfolding vectorsOf
+vectors-known flags forwardF backwardF bytes =
+    all-then (given-known (givesForward flags) forwardF bytes) λ forward rest p.
+    all-then (given-known (givesBackward flags) backwardF rest) λ backward end q.
+    here (record { forward = p; backward = q })

@@ -1,6 +1,6 @@
 -- `starting_pasts` meets its contract: its test is that of the definition. Assumes nothing.
 use borrow.Author.Tests.{lt-ltb, le-ltb}
-use Rattle.macroblock_symbols.specs.MacroblockSymbols.{startingPasts}
+use Rattle.macroblock_symbols.specs.Macroblock.{startingPasts}
 use borrow.Author.Needs.{needs}
 use Rattle.macroblock_symbols.proofs.starting_pasts.Statement.{statement}
 use Rattle.macroblock_symbols.proofs.starting_pasts.Tie as tie

@@ -10,7 +10,7 @@ use borrow.Author.Tests.{le-leb, lt-leb, eqb-true}
 use Rattle.refusals.specs.declared.Refusal.the-variants.{BodyLength}
 use Rattle.format3.specs.declared.verdict.Verdict.{Verdict}
 use Rattle.format3.specs.declared.verdict.Verdict.the-variants.{Passed, Refused}
-use Rattle.format3.proofs.Laws.Chain.{only-all}
+use Rattle.parsed.proofs.Guard.{need-all}
 use Rattle.matrices.specs.declared.Loaded.{Loaded}
 use Rattle.matrices.specs.Matrix.{verdictOf}
 
@@ -30,6 +30,6 @@ record Long (body : List ℕ) (v : Verdict) : Type 0 where
 pub passed-long : (body : List ℕ) (l : Loaded) → verdictOf body l ≡ Passed → length body ≡ 65
 unfolding verdictOf
 passed-long body l e =
-    only-all (Long body) (eqb (length body) 65) (Refused BodyLength) _
+    need-all (Long body) (eqb (length body) 65) (Refused BodyLength) _
     (record { long = λ (r : Refused BodyLength ≡ Passed). absurd (let z : _≡_ {A = ℕ} 0 1 = cc in omega arith) })
     (λ t. record { long = λ r. eqb-true (length body) 65 t }) .long e

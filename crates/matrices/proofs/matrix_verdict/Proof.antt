@@ -7,7 +7,7 @@ use lib.Dec.{leb, eqb}
 use lib.ListN.{length}
 use borrow.Author.Tests.{le-leb, lt-leb, eq-eqb, ne-eqb, not-true, not-false}
 use borrow.Author.Needs.{needs}
-use Rattle.format3.specs.Chain.{only}
+use Rattle.parsed.specs.Guard.{need_else_then_}
 use Rattle.matrices.specs.Matrix.{whichOf, weightsOf, positive, loadedAlready, verdictOf}
 use Rattle.matrices.proofs.Laws.Matrix.{weights-long}
 use Rattle.matrices.proofs.matrix_verdict.Statement.{statement}
@@ -30,21 +30,21 @@ weighted : (c : tie.Else4) → positive (weightsOf (body (c .before .before .bef
 weighted c = cc (not-false (c .before .all-positive .result) (c .if4 .left))
 
 returns : tie.Need-returns
-unfolding verdictOf only
+unfolding verdictOf need_else_then_
 returns c = rw (ne-eqb _ _ (c .if1 .taken))
 
 shared-slice-read-which : tie.Need-shared-slice-read-which
 shared-slice-read-which c = search needs
 
 returns-2 : tie.Need-returns-2
-unfolding verdictOf only
+unfolding verdictOf need_else_then_
 returns-2 c = rw (eq-eqb _ _ (c .before .before .if1 .left), lt-leb _ _ (c .if2 .taken))
 
 loaded-already-requires : tie.Need-loaded-already-requires
 loaded-already-requires c κs = search needs
 
 returns-3 : tie.Need-returns-3
-unfolding verdictOf only
+unfolding verdictOf need_else_then_
 returns-3 c = rw (eq-eqb _ _ (c .before .before .before .before .if1 .left), le-leb _ _ (c .before .before .if2 .left), ← c .before .loaded-already .ensures, c .if3 .taken)
 
 after-requires : tie.Need-after-requires
@@ -54,7 +54,7 @@ all-positive-requires : tie.Need-all-positive-requires
 all-positive-requires c κs = rw (c .after .ensures) (weights-long (c .before .before .before .before .before .before .before .args .body .now) (c .before .before .before .before .before .if1 .left))
 
 returns-4 : tie.Need-returns-4
-unfolding verdictOf only
+unfolding verdictOf need_else_then_
 returns-4 c =
     let t = c .before .before .before in
     rw (long t, known t, fresh t, ← c .before .before .after .ensures, ← c .before .all-positive .ensures, not-true (c .before .all-positive .result) (c .if4 .taken))
@@ -66,13 +66,13 @@ legal-first-requires : tie.Need-legal-first-requires
 legal-first-requires c κs = search needs
 
 returns-5 : tie.Need-returns-5
-unfolding verdictOf only
+unfolding verdictOf need_else_then_
 returns-5 c =
     let t = c .before .before .before .before .before .before in
     rw (long t, known t, fresh t, weighted (c .before .before .before), ← c .before .legal-first .ensures, not-true (c .before .legal-first .result) (c .if5 .taken))
 
 returns-6 : tie.Need-returns-6
-unfolding verdictOf only
+unfolding verdictOf need_else_then_
 returns-6 c =
     let t = c .before .before .before .before .before .before in
     rw (long t, known t, fresh t, weighted (c .before .before .before), ← c .before .legal-first .ensures, not-false (c .before .legal-first .result) (c .if5 .left))

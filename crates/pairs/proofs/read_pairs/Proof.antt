@@ -1,34 +1,51 @@
--- `read_pairs` meets its contract. The loop's invariant: what is left to read, with what is stored so far, is the whole. Assumes nothing.
-use borrow.Author.Needs.{needs}
+-- `read_pairs` meets its contract. The loop's invariant: the block holds the pairs read so far, and with what is left to read they are the whole.
+-- Assumes nothing.
+use mathlib.Core.Path.{_≡_, refl}
+use Prim.Native.Nat.{_+_, _<_, suc-le-suc}
 use native.Mathlib.Omega.{arith}
-use mathlib.Core.Path.{_≡_, refl, sym, _∙_}
-use lib.ListN.{drop}
-use Rattle.pairs.specs.declared.PairAnswer.the-variants.{Legal}
-use Rattle.pairs.specs.Pairs.{pairOf}
-use Rattle.pairs.proofs.Laws.Pairs.{Left, placed, all-answered, all-stored, refused-answered, refused-stored, one-more}
+use borrow.Author.Needs.{needs}
+use lib.ListN.{drop, getD, length-drop}
+use mir.Syntax.{w16}
+use mir.Val.{toZ, ofZ}
+use Rattle.integers.proofs.Bound.{within-eq}
+use Rattle.integers.proofs.Machine.{returned}
+use Rattle.format3.proofs.Laws.Field.{rest-from}
+use Rattle.parsed.specs.Parsed.{value, Finds}
+use Rattle.parsed.proofs.Parsed.{all-at}
+use Rattle.tables.proofs.Zigzag.{place-below}
+use Rattle.pairs.specs.Pairs.{pairOf, pairFound}
+use Rattle.pairs.proofs.Laws.Pairs.{Legal, pair-legal}
+use Rattle.pairs.proofs.Laws.Coefficients.{SoFar, at-start, stops, ends, one-more}
 use Rattle.pairs.proofs.read_pairs.Statement.{statement}
 use Rattle.pairs.proofs.read_pairs.Tie as tie
 
 abbrev Inv-loop : tie.InvT-loop
-Inv-loop rest count first coding order matrix coefficients₀ left₀ next₀ at₀ coefficients left next at =
-    Left coding matrix count first rest coefficients₀ coefficients left next at
+Inv-loop rest count first coding order matrix block₀ left₀ next₀ at₀ block left next at = SoFar coding matrix count first rest block₀ block left next at
 
 abbrev μ-loop : tie.MeasureT-loop
-μ-loop rest count first coding order matrix coefficients₀ left₀ next₀ at₀ coefficients left next at =
-    left
+μ-loop rest count first coding order matrix block₀ left₀ next₀ at₀ block left next at = left
 
--- what the reader found, in the words of the definition
-found : (c : tie.After-read-pair Inv-loop μ-loop) → let at-loop = c .before .before .before in pairOf (at-loop .loop .next) (drop (at-loop .loop .at) (at-loop .before .before .args .rest .now)) ≡ c .read-pair .result
-found c = rw (← c .before .after .ensures) (sym (c .read-pair .ensures))
+-- the pair that was read, in the words of the definition
+found : (c : tie.After-read-pair Inv-loop μ-loop) → Finds (pairOf (c .before .before .before .loop .next)) (drop (c .before .before .before .loop .at) (c .before .before .before .before .before .args .rest .now)) (pairFound (c .read-pair .result))
+found c = rw rest-from at (c .read-pair .ensures)
 
-legal : (c : tie.After-answer2 Inv-loop μ-loop) → let at-loop = c .before .before .before .before .before in pairOf (at-loop .loop .next) (drop (at-loop .loop .at) (at-loop .before .before .args .rest .now)) ≡ Legal (c .answer2 .given .0 .0)
-legal c = found (c .before .before) ∙ c .answer2 .given .1
+got : (c : tie.After-answer Inv-loop μ-loop) → Finds (pairOf (c .before .before .before .before .before .loop .next)) (drop (c .before .before .before .before .before .loop .at) (c .before .before .before .before .before .before .before .args .rest .now)) (value (c .answer .given .0 .0) (c .answer .given .0 .1 .0 .at))
+got c = rw (c .answer .given .1) at (found (c .before .before))
+
+lands : (c : tie.After-answer Inv-loop μ-loop) → Legal (c .before .before .before .before .before .loop .next) (c .answer .given .0 .0)
+lands c = all-at (pair-legal _ _) (got c .0)
 
 loop-holds : tie.Need-loop-holds Inv-loop μ-loop
-loop-holds c = record { near = c .before .pre .0; passed = omega arith; answered = refl; stored = refl }
+loop-holds c = at-start _ _ (c .before .pre .0)
 
-after-requires : tie.Need-after-requires Inv-loop μ-loop
-after-requires c κs = search needs
+sub-read-pair : tie.Need-sub-read-pair Inv-loop μ-loop
+sub-read-pair c = search needs
+
+part-read-pair-start : tie.Need-part-read-pair-start Inv-loop μ-loop
+part-read-pair-start c = search needs
+
+part-read-pair-end : tie.Need-part-read-pair-end Inv-loop μ-loop
+part-read-pair-end c = search needs
 
 read-pair-requires : tie.Need-read-pair-requires Inv-loop μ-loop
 read-pair-requires c κs = c .before .before .loop .inv .near
@@ -36,26 +53,53 @@ read-pair-requires c κs = c .before .before .loop .inv .near
 enum-known-answer : tie.Need-enum-known-answer Inv-loop μ-loop
 enum-known-answer c = search needs
 
+enum-told : tie.Need-enum-told Inv-loop μ-loop
+enum-told c = search needs
+
+pair-refusal-requires : tie.Need-pair-refusal-requires Inv-loop μ-loop
+pair-refusal-requires c κs = search needs
+
 returns : tie.Need-returns Inv-loop μ-loop
 returns c =
-    let at-read = c .before .before .before in
-    let at-loop = at-read .before .before .before in
-    let read = found at-read ∙ c .before .answer .given .1 in
-    (refused-answered _ _ (at-loop .loop .inv) (at-read .before .before .loop-test .taken) read, refused-stored _ _ (at-loop .loop .inv) (at-read .before .before .loop-test .taken) read)
+    let e = c .before .enum-told .given .1 in
+    rw (c .pair-refusal .ensures, e) (stops _ _ (c .before .before .before .before .before .before .loop .inv) (c .before .before .before .before .before .loop-test .taken) (rw e at (found (c .before .before .before))))
 
-enum-known-answer-2 : tie.Need-enum-known-answer-2 Inv-loop μ-loop
-enum-known-answer-2 c = search needs
+cast-position : tie.Need-cast-position Inv-loop μ-loop
+cast-position c = search needs
 
-store-pair-requires : tie.Need-store-pair-requires Inv-loop μ-loop
-store-pair-requires c κs =
-    let start = c .before .before .before .before .before .before .before .before .before in
-    (placed _ _ (legal (c .before .before)), start .pre .1, start .pre .2)
+add-position : tie.Need-add-position Inv-loop μ-loop
+add-position c = omega (arith, lands (c .before .before) .low)
+
+-- the place of the pair is in the block
+below : (c : tie.After-struct-known Inv-loop μ-loop) → getD (c .before .before .before .before .before .before .before .before .before .args .order .now) (c .before .before .before .before .before .before .before .loop .next + c .before .before .answer .given .0 .0 .run) 0 < 64
+below c = rw (c .before .before .before .before .before .before .before .before .before .pre .2) (place-below _ (suc-le-suc (lands (c .before .before) .low)))
+
+element-copy-out-place : tie.Need-element-copy-out-place Inv-loop μ-loop
+element-copy-out-place c = suc-le-suc (lands (c .before .before) .low)
+
+cast-place : tie.Need-cast-place Inv-loop μ-loop
+cast-place c = omega (arith, below (c .before))
+
+element-copy-out-scaled : tie.Need-element-copy-out-scaled Inv-loop μ-loop
+element-copy-out-scaled c = below (c .before)
+
+same : (c : tie.After-struct-told Inv-loop μ-loop) → let level = c .before .before .before .before .before .answer .given .0 .0 .level in toZ w16 (ofZ w16 level) ≡ level
+same c = returned w16 (c .struct-told .given .1 .0 .1) refl
+
+scaled-requires : tie.Need-scaled-requires Inv-loop μ-loop
+scaled-requires c κs = (within-eq (same c) (lands (c .before .before .before .before .before) .small), c .before .before .before .before .before .before .before .before .before .before .before .before .pre .1)
+
+mul-block : tie.Need-mul-block Inv-loop μ-loop
+mul-block c = omega (arith, below (c .before .before .before .before))
+
+array-set-from-block : tie.Need-array-set-from-block Inv-loop μ-loop
+array-set-from-block c = below (c .before .before .before .before)
 
 add-next : tie.Need-add-next Inv-loop μ-loop
-add-next c = omega (arith, placed _ _ (legal (c .before .before .before .before)) .low)
+add-next c = omega (arith, lands (c .before .before .before .before .before .before) .low)
 
 add-at : tie.Need-add-at Inv-loop μ-loop
-add-at c = omega (arith, c .before .before .before .before .before .before .before .before .before .loop .inv .passed)
+add-at c = omega (arith, c .before .before .before .before .before .before .before .before .before .before .before .before .loop .inv .inside, got (c .before .before .before .before .before .before .before) .1, length-drop (c .before .before .before .before .before .before .before .before .before .before .before .before .loop .at) (c .before .before .before .before .before .before .before .before .before .before .before .before .before .before .args .rest .now), c .before .before .before .before .before .before .before .before .before .before .before .before .before .before .good)
 
 sub-left : tie.Need-sub-left Inv-loop μ-loop
 sub-left c = search needs
@@ -65,11 +109,11 @@ loop-less c = search needs
 
 loop-again : tie.Need-loop-again Inv-loop μ-loop
 loop-again c =
-    let in-loop = c .before .before .before .before .before .before .before .before in
-    rw (c .before .store-pair .ensures) (one-more _ _ (in-loop .before .loop .inv) (in-loop .loop-test .taken) (legal (c .before .before .before .before)))
+    let scaled = returned w16 (c .before .scaled .ok) (rw (same (c .before .before)) at (c .before .scaled .ensures)) in
+    rw (scaled, c .before .before .before .before .before .before .before .before .before .before .before .before .before .before .pre .2) (one-more _ _ (c .before .before .before .before .before .before .before .before .before .before .before .before .loop .inv) (c .before .before .before .before .before .before .before .before .before .before .before .loop-test .taken) (got (c .before .before .before .before .before .before .before)))
 
 returns-2 : tie.Need-returns-2 Inv-loop μ-loop
-returns-2 c = (all-answered _ _ (c .before .loop .inv) (omega arith), all-stored _ _ (c .before .loop .inv) (omega arith))
+returns-2 c = ends _ _ (c .before .loop .inv) (omega arith)
 
 pub read-pairs-spec : {M : Type 1} → statement M
 read-pairs-spec =
@@ -78,12 +122,22 @@ read-pairs-spec =
     Inv-loop
     μ-loop
     loop-holds
-    after-requires
+    sub-read-pair
+    part-read-pair-start
+    part-read-pair-end
     read-pair-requires
     enum-known-answer
+    enum-told
+    pair-refusal-requires
     returns
-    enum-known-answer-2
-    store-pair-requires
+    cast-position
+    add-position
+    element-copy-out-place
+    cast-place
+    element-copy-out-scaled
+    scaled-requires
+    mul-block
+    array-set-from-block
     add-next
     add-at
     sub-left

@@ -7,7 +7,7 @@ use native.Mathlib.Omega.{arith}
 use lib.Dec.{leb, eqb}
 use lib.ListN.{length}
 use borrow.Author.Tests.{leb-true, eqb-true}
-use Rattle.format3.proofs.Laws.Chain.{only-all, both}
+use Rattle.parsed.proofs.Guard.{need-all, both}
 use Rattle.picture_header.specs.declared.header.HeaderFields.{HeaderFields}
 use Rattle.picture_header.specs.declared.header.Header.{Header}
 use Rattle.picture_header.specs.declared.header.HeaderAnswer.{HeaderAnswer}
@@ -45,12 +45,12 @@ pub record Sound (a : HeaderAnswer) : Type 0 where
 
 pub made-within : (f : HeaderFields) → Sound (headerWith f)
 unfolding headerWith
-made-within f = only-all Sound (legalHeader f) _ (Legal (headerValue f))
+made-within f = need-all Sound (legalHeader f) _ (Legal (headerValue f))
     (record { within = λ h e. absurd (let z : _≡_ {A = ℕ} 0 1 = cc in omega arith) })
     (λ legal. record { within = λ h e. let p : _≡_ {A = Header} (headerValue f) h = cc in subst HeaderWithin p (value-within f legal) })
 
 pub read-within : (body : List ℕ) → Sound (headerOf body)
 unfolding headerOf
-read-within body = only-all Sound (eqb (length body) 7) _ (headerWith (fieldsOf body))
+read-within body = need-all Sound (eqb (length body) 7) _ (headerWith (fieldsOf body))
     (record { within = λ h e. absurd (let z : _≡_ {A = ℕ} 0 1 = cc in omega arith) })
     (λ long. made-within (fieldsOf body))

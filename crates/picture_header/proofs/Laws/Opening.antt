@@ -7,9 +7,9 @@ use lib.Dec.{leb, eqb}
 use lib.ListN.{length, getD, take, drop}
 use Rattle.refusals.specs.declared.Refusal.{Refusal}
 use Rattle.refusals.specs.declared.Refusal.the-variants.{FileEmpty, Version, FileEnds}
-use Rattle.format3.proofs.Laws.Chain.{only-all}
+use Rattle.parsed.proofs.Guard.{need-all}
 use Rattle.format3.proofs.Laws.Record.{Inside, inside}
-use Rattle.format3.specs.Chain.{only, _$_}
+use Rattle.parsed.specs.Guard.{need_else_then_}
 use Rattle.format3.specs.Record.{recordOf}
 use Rattle.format3.specs.declared.record.Record.{Record}
 use Rattle.format3.specs.declared.record.Record.the-variants as Record
@@ -34,14 +34,14 @@ module _ (file : List ℕ) where
   refused-good = record { good = λ h end e. let z : _≡_ {A = ℕ} 0 1 = cc in absurd (omega arith) }
 
   tests-good : (rest : Opened) → Good rest → Good (
-      only (leb 1 (length file)) (Opened.Refused FileEmpty 0) $
-      only (eqb (getD file 0 0) version) (Opened.Refused Version 0) $
-      only (leb 2 (length file)) (Opened.Refused FileEnds 1) $
+      need leb 1 (length file) else Opened.Refused FileEmpty 0 then
+      need eqb (getD file 0 0) version else Opened.Refused Version 0 then
+      need leb 2 (length file) else Opened.Refused FileEnds 1 then
       rest)
   tests-good rest g =
-      only-all Good _ _ _ refused-good λ some.
-      only-all Good _ _ _ refused-good λ version.
-      only-all Good _ _ _ refused-good λ more. g
+      need-all Good _ _ _ refused-good λ some.
+      need-all Good _ _ _ refused-good λ version.
+      need-all Good _ _ _ refused-good λ more. g
 
   legal-good : (h : Header) (end : ℕ) → HeaderWithin h → end ≤ length file → Good (Opened.Opened h end)
   legal-good h end within fits = record {
@@ -56,8 +56,8 @@ module _ (file : List ℕ) where
   first-good = found (recordOf file 1) refl
     where
       legal : (kind start n : ℕ) → recordOf file 1 ≡ Record.Found kind start n → (a : HeaderAnswer) → headerOf (take n (drop start file)) ≡ a → Good (firstHeader file)
-      legal kind start n e (Answer.Refused refusal) l = rw (e, l) (tests-good _ (only-all Good _ _ _ refused-good λ turn. refused-good))
-      legal kind start n e (Answer.Legal h) l = rw (e, l) (tests-good _ (only-all Good _ _ _ refused-good λ turn.
+      legal kind start n e (Answer.Refused refusal) l = rw (e, l) (tests-good _ (need-all Good _ _ _ refused-good λ turn. refused-good))
+      legal kind start n e (Answer.Legal h) l = rw (e, l) (tests-good _ (need-all Good _ _ _ refused-good λ turn.
           legal-good h (start + n) (read-within (take n (drop start file)) .within h l) (subst (Inside file) e (inside file 1) .fits)))
 
       found : (r : Record) → recordOf file 1 ≡ r → Good (firstHeader file)

@@ -6,8 +6,8 @@ use native.Mathlib.Omega.{arith}
 use native.Mathlib.Nat.{le-trans, le-mul-of-pos-right, div-lt-iff-lt-mul, mod-lt, mul-comm}
 use lib.Dec.{leb}
 use borrow.Author.Tests.{leb-true}
-use Rattle.format3.specs.Chain.{only}
-use Rattle.format3.proofs.Laws.Chain.{only-all, both}
+use Rattle.parsed.specs.Guard.{need_else_then_}
+use Rattle.parsed.proofs.Guard.{need-all, both}
 use Rattle.picture_header.specs.declared.size.PictureSize.{PictureSize}
 use Rattle.picture_header.specs.declared.size.NewSize.{NewSize}
 use Rattle.picture_header.specs.declared.size.NewSize.the-variants.{Fits, Beyond}
@@ -28,24 +28,24 @@ pub record Sound (n : NewSize) : Type 0 where
 
 pub made-within : (w h : ℕ) → Sound (sizeOf w h)
 unfolding sizeOf
-made-within w h = only-all Sound (legalSize w h) Beyond (Fits (record { width = w; height = h }))
+made-within w h = need-all Sound (legalSize w h) Beyond (Fits (record { width = w; height = h }))
     (record { within = λ s e. absurd (let z : _≡_ {A = ℕ} 0 1 = cc in omega arith) })
     (λ legal. record { within = λ s e. let p : _≡_ {A = PictureSize} (record { width = w; height = h }) s = cc in rw (← p) (legal-within w h legal) })
 
 -- what the answer tells of the two numbers
 pub made : (w h : ℕ) (s : PictureSize) → sizeOf w h ≡ Fits s → (legalSize w h ≡ true) × (s ≡ record { width = w; height = h })
-unfolding sizeOf only
+unfolding sizeOf need_else_then_
 made w h s e = go (legalSize w h) e
   where
-    go : (b : Bool) → only b Beyond (Fits (record { width = w; height = h })) ≡ Fits s → (b ≡ true) × (s ≡ record { width = w; height = h })
+    go : (b : Bool) → (need b else Beyond then Fits (record { width = w; height = h })) ≡ Fits s → (b ≡ true) × (s ≡ record { width = w; height = h })
     go true e = (refl, cc)
     go false e = absurd (let z : _≡_ {A = ℕ} 0 1 = cc in omega arith)
 
 pub not-made : (w h : ℕ) → sizeOf w h ≡ Beyond → legalSize w h ≡ false
-unfolding sizeOf only
+unfolding sizeOf need_else_then_
 not-made w h e = go (legalSize w h) e
   where
-    go : (b : Bool) → only b Beyond (Fits (record { width = w; height = h })) ≡ Beyond → b ≡ false
+    go : (b : Bool) → (need b else Beyond then Fits (record { width = w; height = h })) ≡ Beyond → b ≡ false
     go true e = absurd (let z : _≡_ {A = ℕ} 0 1 = cc in omega arith)
     go false e = refl
 

@@ -1,8 +1,8 @@
 -- The entry's answer, by what is measured; and the numbers that a header takes. Assumes nothing.
 use mathlib.Core.Bool.{true, false}
-use mathlib.Core.List.{List, [], _∷_, _++_}
-use mathlib.Core.Path.{_≡_, refl, ap, _∙_}
-use Prim.Native.Nat.{ℕ, _+_, _*_, _<_, _≤_}
+use mathlib.Core.List.{List, _++_}
+use mathlib.Core.Path.{_≡_, ap, _∙_}
+use Prim.Native.Nat.{ℕ, _*_, _<_, _≤_}
 use native.Mathlib.Omega.{arith}
 use lib.Dec.{leb}
 use lib.ListN.{length, drop}
@@ -10,8 +10,8 @@ use lib.Seq.{take-append-seam}
 use borrow.Author.Tests.{leb-true, le-leb, lt-leb}
 use Rattle.refusals.specs.declared.Refusal.{Refusal}
 use Rattle.refusals.specs.declared.Refusal.the-variants as Refusal
-use Rattle.format3.specs.Chain.{only}
-use Rattle.format3.proofs.Laws.Chain.{both}
+use Rattle.parsed.specs.Guard.{need_else_then_}
+use Rattle.parsed.proofs.Guard.{both}
 use Rattle.picture_header.specs.Size.{legalSize}
 use Rattle.picture_header.specs.Header.{legalHeader, headerValue, headerWith}
 use Rattle.picture_header.specs.declared.header.Header.{Header}
@@ -61,7 +61,7 @@ whole e h r = omega (arith, e)
 
 module _ (x : Read SliceFields) {p : Position} {n : ℕ} (m : Measured x p n) (buffer : List ℕ) (room : length buffer < farthest) where
   pub too-long : length buffer < n → readOutcome x buffer ≡ refusedOutcome Refusal.RecordsLength firstBit buffer
-  unfolding fitted only
+  unfolding fitted need_else_then_
   too-long h = rw (m .is, lt-leb (length (recordsOf (m .slice))) (length buffer) longer)
     where
       longer : length buffer < length (recordsOf (m .slice))
@@ -74,7 +74,7 @@ module _ (x : Read SliceFields) {p : Position} {n : ℕ} (m : Measured x p n) (b
   whole-size h = whole (m .size) h room
 
   pub it-fits : n ≤ length buffer → readOutcome x buffer ≡ acceptedWith (recordsOf (m .slice)) p buffer
-  unfolding fitted only
+  unfolding fitted need_else_then_
   it-fits h = rw (m .is, le-leb (length (recordsOf (m .slice))) (length buffer) (short-enough h))
 
   pub laid-there : {after : List ℕ} → n ≤ length buffer → LaidAt recordsOf 0 buffer after x → after ≡ recordsOf (m .slice) ++ drop (length (recordsOf (m .slice))) buffer
@@ -123,7 +123,7 @@ size-small w h e =
     (leb-true w 48 (wide .1), leb-true h 36 (high .1))
 
 legal-made : (f : HeaderFields) → legalHeader f ≡ true → headerWith f ≡ Header.Legal (headerValue f)
-unfolding headerWith only
+unfolding headerWith need_else_then_
 legal-made f e = rw e
 
 front : (f : HeaderFields) → legalHeader f ≡ true → legalSize (f .width) (f .height) ≡ true
@@ -137,11 +137,11 @@ legal-small f e =
     record { wide = size .0; high = size .1; type = within .last-type; forward = within .forward .most; backward = within .backward .most }
 
 pub illegal : (f : HeaderFields) → (Small f → ⊥) → Header.Refused Refusal.Header ≡ headerWith f
-unfolding headerWith only
+unfolding headerWith need_else_then_
 illegal f large = case (legalHeader f) (λ t. absurd (large (legal-small f t))) (λ t. rw t)
 
 pub legal-height : (f : HeaderFields) {h : Header} → headerWith f ≡ Header.Legal h → h .size .height ≤ 36
-unfolding headerWith only
+unfolding headerWith need_else_then_
 legal-height f {h} e =
     case (legalHeader f)
     (λ t. let same : headerValue f ≡ h = cc (rw t at e) in omega (arith, ap (λ (x : Header). x .size .height) same, legal-small f t .high))

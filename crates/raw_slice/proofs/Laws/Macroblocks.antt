@@ -1,6 +1,6 @@
 -- The macroblocks of a slice, one at a time: what is still to be read comes behind those that are laid. Assumes nothing.
 use mathlib.Core.Bool.{true, false}
-use mathlib.Core.List.{List, [], _∷_, _++_, append-assoc, append-nil}
+use mathlib.Core.List.{List, [], _∷_, _++_, append-nil}
 use mathlib.Core.Path.{_≡_, refl, sym, ap, _∙_}
 use Prim.Native.Nat.{ℕ, zero, suc, _+_, _-_, _<_, _≤_}
 use native.Mathlib.Omega.{arith}
@@ -13,29 +13,26 @@ use Rattle.bits.specs.declared.Position.{Position}
 use Rattle.bits.proofs.Rest.{rest-length}
 use Rattle.byte_layout.specs.Laid.{laid, farthest, offsetAfter}
 use Rattle.byte_layout.proofs.Laws.Laid.{laid-length, laid-farthest}
-use Rattle.record_layout.specs.Records.{MacroblockFields, macroblockRecord}
+use Rattle.macroblock_symbols.specs.Macroblock.{Macroblock}
+use Rattle.record_layout.specs.Records.{macroblockRecord}
 use Rattle.record_layout.proofs.Laws.Laying.{joined-append, laid-more}
-use Rattle.slice_syntax.specs.Read.{Read, read, refused, readThen}
+use Rattle.slice_syntax.specs.Read.{Read, read, refused}
 use Rattle.slice_syntax.specs.Increment.{incrementAt}
 use Rattle.slice_syntax.specs.Slice.{nextAt, macroblocksFrom, macroblocksAt}
-use Rattle.slice_syntax.proofs.Laws.Read.{Ahead, reached}
+use Rattle.slice_syntax.proofs.Laws.Read.{Ahead, reached, after, nothing-after, after-after}
 use Rattle.slice_syntax.proofs.Laws.Onward.{next-onward}
 use Rattle.slice_records.specs.Laying.{LaidAt}
 use Rattle.slice_records.proofs.Laws.Laying.{Part}
 
-abbrev records : List MacroblockFields → List ℕ
+abbrev records : List Macroblock → List ℕ
 records = joined macroblockRecord
 
-one-record : (fields : MacroblockFields) → records (fields ∷ []) ≡ macroblockRecord fields
+one-record : (m : Macroblock) → records (m ∷ []) ≡ macroblockRecord m
 unfolding joined
-one-record fields = append-nil (macroblockRecord fields)
+one-record m = append-nil (macroblockRecord m)
 
--- macroblocks behind others
-abbrev pub after : List MacroblockFields → Read (List MacroblockFields) → Read (List MacroblockFields)
-after some x = readThen x λ more p. read (some ++ more) p
-
-pub record Passed (bytes : List ℕ) (h : Header) (whole : Read (List MacroblockFields)) (place : ℕ) (before now : List ℕ) (at : Position) (end : ℕ) : Type 0 where
-  pub some : List MacroblockFields
+pub record Passed (bytes : List ℕ) (h : Header) (whole : Read (List Macroblock)) (place : ℕ) (before now : List ℕ) (at : Position) (end : ℕ) : Type 0 where
+  pub some : List Macroblock
   pub fuel : ℕ
   pub enough : length (bitsFrom bytes at) < fuel
   pub inside : InBytes bytes at
@@ -59,14 +56,6 @@ unfolding offsetAfter
 offset-none place h = omega arith
 
 module _ (bytes : List ℕ) (h : Header) (at : Position) where
-  nothing-after : (x : Read (List MacroblockFields)) → after [] x ≡ x
-  nothing-after (read a p) = refl
-  nothing-after (refused r p) = refl
-
-  after-after : (a b : List MacroblockFields) (x : Read (List MacroblockFields)) → after a (after b x) ≡ after (a ++ b) x
-  after-after a b (read c p) = ap (λ (l : List MacroblockFields). read l p) (sym (append-assoc a b c))
-  after-after a b (refused r p) = refl
-
   pub passed-none : (place : ℕ) (buffer : List ℕ) → place ≤ farthest → InBytes bytes at → Passed bytes h (macroblocksAt h bytes at) place buffer buffer at place
   unfolding laid joined
   passed-none place buffer near within = record {
@@ -92,19 +81,19 @@ module _ (bytes : List ℕ) (h : Header) (at : Position) where
   from-refused zero k z e = absurd (omega arith)
   from-refused (suc n) k z e = rw (z, e)
 
-  from-read : (n : ℕ) {fields : MacroblockFields} {p : Position} → allZeros (bitsFrom bytes at) ≡ false → nextAt h bytes at ≡ read fields p
-      → macroblocksFrom (suc n) h bytes at ≡ after (fields ∷ []) (macroblocksFrom n h bytes p)
+  from-read : (n : ℕ) {m : Macroblock} {p : Position} → allZeros (bitsFrom bytes at) ≡ false → nextAt h bytes at ≡ read m p
+      → macroblocksFrom (suc n) h bytes at ≡ after (m ∷ []) (macroblocksFrom n h bytes p)
   unfolding macroblocksFrom
   from-read n z e = rw (z, e)
 
-  module _ {whole : Read (List MacroblockFields)} {place : ℕ} {before now : List ℕ} {end : ℕ} (s : Passed bytes h whole place before now at end) where
+  module _ {whole : Read (List Macroblock)} {place : ℕ} {before now : List ℕ} {end : ℕ} (s : Passed bytes h whole place before now at end) where
     pub passed-end : allZeros (bitsFrom bytes at) ≡ true → whole ≡ read (s .some) at
-    passed-end z = sym (s .same) ∙ rw (from-end (s .fuel) (s .enough) z) (ap (λ (l : List MacroblockFields). read l at) (append-nil (s .some)))
+    passed-end z = sym (s .same) ∙ rw (from-end (s .fuel) (s .enough) z) (ap (λ (l : List Macroblock). read l at) (append-nil (s .some)))
 
     pub passed-refused : {refusal : Refusal} {p : Position} → allZeros (bitsFrom bytes at) ≡ false → nextAt h bytes at ≡ refused refusal p → whole ≡ refused refusal p
     passed-refused z e = sym (s .same) ∙ rw (from-refused (s .fuel) (s .enough) z e)
 
-    pub next-ahead : {fields : MacroblockFields} {p : Position} → nextAt h bytes at ≡ read fields p → Ahead bytes 1 at p
+    pub next-ahead : {m : Macroblock} {p : Position} → nextAt h bytes at ≡ read m p → Ahead bytes 1 at p
     next-ahead e = reached (next-onward bytes h at (s .inside)) e
 
     pub passed-more : {p : Position} {n : ℕ} {later : List ℕ} → length before ≤ farthest → allZeros (bitsFrom bytes at) ≡ false → (one : Part macroblockRecord (nextAt h bytes at) p n)

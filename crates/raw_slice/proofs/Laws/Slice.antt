@@ -8,14 +8,15 @@ use lib.ListN.{length, length-append}
 use borrow.Author.Tests.{leb-true}
 use Rattle.lists.specs.Joined.{joined}
 use Rattle.refusals.specs.declared.Refusal.{Refusal}
-use Rattle.format3.specs.Chain.{only}
+use Rattle.parsed.specs.Guard.{need_else_then_}
 use Rattle.picture_header.specs.declared.header.Header.{Header}
 use Rattle.bits.specs.Bits.{bitsFrom}
 use Rattle.bits.specs.declared.Position.{Position}
 use Rattle.byte_layout.specs.Laid.{laid, offsetAfter}
 use Rattle.byte_layout.specs.Bytes.{wordBytes}
 use Rattle.byte_layout.proofs.Laws.Laid.{laid-append}
-use Rattle.record_layout.specs.Records.{recordHead, recordBytes, sliceBody, sliceRecord, MacroblockFields, headBytes, macroblockBody, macroblockRecord, sliceRecords}
+use Rattle.macroblock_symbols.specs.Macroblock.{Macroblock}
+use Rattle.record_layout.specs.Records.{recordHead, recordBytes, sliceBody, sliceRecord, headBytes, macroblockBody, macroblockRecord, sliceRecords}
 use Rattle.record_layout.proofs.Laws.Lengths.{record-length, head-short}
 use Rattle.format3.specs.Record.{macroblock}
 use Rattle.code_tables.specs.Code.{codeOf}
@@ -26,7 +27,7 @@ use Rattle.code_tables.proofs.Laws.Prefix.{case}
 use Rattle.codes.proofs.Laws.Range as Known
 use Rattle.slice_syntax.specs.Read.{Read, read, refused, readThen, readCode, wordAt}
 use Rattle.slice_syntax.specs.Increment.{afterStuffing, amountOf, afterEscape, incrementAt}
-use Rattle.slice_syntax.specs.Macroblock.{HeadFields, RestFields, headAt, restAt, fieldsWith, macroblockAt}
+use Rattle.slice_syntax.specs.Macroblock.{HeadFields, RestFields, headAt, restAt, macroblockWith, macroblockAt}
 use Rattle.slice_syntax.specs.Slice.{SliceFields, macroblocksAt, startAddress, sliceHeadOf, afterHeadAt, rawSliceOf, recordsOf}
 use Rattle.slice_records.specs.Laying.{LaidAt, restBytes}
 use Rattle.slice_records.specs.declared.laying.Laying.{Laying}
@@ -64,7 +65,7 @@ stuffing-of (suc n) bytes at =
     case (eqb v stuffing) (λ t. rw t (stuffing-of n bytes p)) (λ t. rw t (of k))
 
 escape-of : (n sum : ℕ) (bytes : List ℕ) (at : Position) → Of Legal (afterEscape n sum bytes at)
-unfolding afterEscape only amountOf
+unfolding afterEscape need_else_then_ amountOf
 escape-of zero sum bytes at = none
 escape-of (suc n) sum bytes at =
     of-then (wordAt incrementsAfterEscape bytes at) (later-code bytes at) λ v p k.
@@ -89,7 +90,7 @@ module _ (h : Header) (row scale : ℕ) (bytes : List ℕ) (at : Position) where
     unfolding afterHeadAt
     no-first f = rw (e, f)
 
-    pub first-read : {first : MacroblockFields} {q : Position} → macroblockAt h 1 bytes p ≡ read first q
+    pub first-read : {first : Macroblock} {q : Position} → macroblockAt h 1 bytes p ≡ read first q
         → afterHeadAt h row scale bytes at ≡ readThen (macroblocksAt h bytes q) λ rest end. read (record { scale = scale; start = startAddress h row increment; macroblocks = first ∷ rest }) end
     unfolding afterHeadAt
     first-read f = rw (e, f)
@@ -107,17 +108,17 @@ offset-sum : (a b n : ℕ) → offsetAfter (a + b) n ≡ offsetAfter 0 (a + (b +
 unfolding offsetAfter
 offset-sum a b n = omega arith
 
-module _ (scale start : ℕ) (first : MacroblockFields) where
-  abbrev whole : Read (List MacroblockFields) → Read SliceFields
+module _ (scale start : ℕ) (first : Macroblock) where
+  abbrev whole : Read (List Macroblock) → Read SliceFields
   whole x = readThen x λ rest end. read (record { scale = scale; start = start; macroblocks = first ∷ rest }) end
 
-  slice-length : (rest : List MacroblockFields) → length (sliceRecords scale start (first ∷ rest)) ≡ 6 + (length (macroblockRecord first) + length (joined macroblockRecord rest))
+  slice-length : (rest : List Macroblock) → length (sliceRecords scale start (first ∷ rest)) ≡ 6 + (length (macroblockRecord first) + length (joined macroblockRecord rest))
   unfolding sliceRecords joined
   slice-length rest =
       length-append (sliceRecord scale start) (macroblockRecord first ++ joined macroblockRecord rest)
       ∙ rw (slice-size scale start, length-append (macroblockRecord first) (joined macroblockRecord rest))
 
-  slice-laid : (rest : List MacroblockFields) {n : ℕ} (before : List ℕ) {one two three : List ℕ} → n ≡ length (macroblockRecord first) → one ≡ laid 0 (sliceRecord scale start) before
+  slice-laid : (rest : List Macroblock) {n : ℕ} (before : List ℕ) {one two three : List ℕ} → n ≡ length (macroblockRecord first) → one ≡ laid 0 (sliceRecord scale start) before
       → two ≡ laid 6 (macroblockRecord first) one → three ≡ laid (6 + n) (joined macroblockRecord rest) two → three ≡ laid 0 (sliceRecords scale start (first ∷ rest)) before
   unfolding sliceRecords joined
   slice-laid rest {n} before {one} {two} {three} e f g k = k ∙ rw (g, f, e) (sym appended)
@@ -128,7 +129,7 @@ module _ (scale start : ℕ) (first : MacroblockFields) where
           laid-append 0 (sliceRecord scale start) (macroblockRecord first ++ joined macroblockRecord rest) before
           ∙ rw (slice-size scale start) (laid-append 6 (macroblockRecord first) (joined macroblockRecord rest) (laid 0 (sliceRecord scale start) before))
 
-  pub slice-together : (x : Read (List MacroblockFields)) {r : Laying} {n : ℕ} (before : List ℕ) {one two three : List ℕ} → n ≡ length (macroblockRecord first)
+  pub slice-together : (x : Read (List Macroblock)) {r : Laying} {n : ℕ} (before : List ℕ) {one two three : List ℕ} → n ≡ length (macroblockRecord first)
       → one ≡ laid 0 (sliceRecord scale start) before → two ≡ laid 6 (macroblockRecord first) one
       → (r ≡ endOf (joined macroblockRecord) (6 + n) x) × LaidAt (joined macroblockRecord) (6 + n) two three x
       → (r ≡ endOf recordsOf 0 (whole x)) × LaidAt recordsOf 0 before three (whole x)
@@ -137,21 +138,21 @@ module _ (scale start : ℕ) (first : MacroblockFields) where
   slice-together (refused refusal p) before e f g (a, l) = (a, not-laid recordsOf refl)
 
 -- ---- a macroblock's record is short
-pub record ShortRecord (fields : MacroblockFields) : Type 0 where
-  pub short : length (macroblockRecord fields) ≤ 1186
+pub record ShortRecord (m : Macroblock) : Type 0 where
+  pub short : length (macroblockRecord m) ≤ 1186
 
 pub macroblock-short : (h : Header) (increment : ℕ) (bytes : List ℕ) (at : Position) → Of ShortRecord (macroblockAt h increment bytes at)
 unfolding macroblockAt
 macroblock-short h increment bytes at =
     of-then (headAt (h .«coding_type») bytes at) (of-any (headAt (h .«coding_type») bytes at)) λ head p t.
     of-then (restAt (head .flags) (h .forward .«f_code») (h .backward .«f_code») bytes p) (rest-short (head .flags) (h .forward .«f_code») (h .backward .«f_code») bytes p) λ rest q k.
-    of {a = fieldsWith increment head rest} (record { short = few head rest (k .short) })
+    of {a = macroblockWith increment head rest} (record { short = few head rest (k .short) })
   where
-    few : (head : HeadFields) (rest : RestFields) → length (restBytes (head .flags) rest) ≤ 1179 → length (macroblockRecord (fieldsWith increment head rest)) ≤ 1186
+    few : (head : HeadFields) (rest : RestFields) → length (restBytes (head .flags) rest) ≤ 1179 → length (macroblockRecord (macroblockWith increment head rest)) ≤ 1186
     few head rest k =
         omega (
           arith,
-          record-length macroblock (macroblockBody (fieldsWith increment head rest)),
+          record-length macroblock (macroblockBody (macroblockWith increment head rest)),
           ap length (body-of increment head rest),
           length-append (headBytes (head .flags) increment (head .scale)) (restBytes (head .flags) rest),
           head-short (head .flags) increment (head .scale),

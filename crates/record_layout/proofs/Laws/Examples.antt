@@ -1,29 +1,38 @@
 -- The records of the reel that document 01 prints, from their fields. Assumes nothing.
-use mathlib.Core.List.{List, [], _∷_, _++_}
+use mathlib.Core.List.{[], _∷_, _++_}
 use mathlib.Core.Path.{_≡_, refl}
 use Prim.Native.Nat.{ℕ}
 use lib.IntN.{pos}
 use lib.ListN.{replicate}
 use Rattle.lists.specs.Joined.{joined}
+use Rattle.blocks.specs.Blocks.{Block, uncoded, coded}
 use Rattle.macroblock_symbols.specs.Vectors.{noCodes}
+use Rattle.macroblock_symbols.specs.Macroblock.{Macroblock}
 use Rattle.byte_layout.specs.Bytes.{complement, wordBytes}
-use Rattle.record_layout.specs.Records.{BlockFields, MacroblockFields, recordHead, recordBytes, sliceBody, sliceRecord, levelsBytes, blockBytes, headBytes, codeBytes, codesBytes, patternBytes, macroblockBody, macroblockRecord}
+use Rattle.record_layout.specs.Records.{recordHead, recordBytes, sliceBody, sliceRecord, levelsBytes, blockBytes, headBytes, codeBytes, codesBytes, patternBytes, macroblockBody, macroblockRecord}
 
 -- `0004 03 080000`
 slice-printed : sliceRecord 8 0 ≡ 0 ∷ 4 ∷ 3 ∷ 8 ∷ 0 ∷ 0 ∷ []
 unfolding recordBytes recordHead sliceBody wordBytes
 slice-printed = refl
 
--- a macroblock of this type at the next address, with no scale, codes of 0 and no pattern
-abbrev plain : ℕ → List BlockFields → MacroblockFields
-plain flags blocks = record { flags = flags; increment = 1; scale = 0; forward = noCodes; backward = noCodes; pattern = 0; blocks = blocks }
+-- a macroblock of this type at the next address, with no scale and codes of 0
+abbrev plain : ℕ → ℕ → Block → Macroblock
+plain flags pattern block =
+    record { symbols = record { flags = flags; increment = 1; scale = 0; forward = noCodes; backward = noCodes; pattern = pattern }; blocks = replicate 6 block }
+
+abbrev pub printedIntra : Macroblock
+printedIntra = plain 16 63 (coded (pos 0) [])
+
+abbrev pub printedForward : Macroblock
+printedForward = plain 2 0 uncoded
 
 -- `0016 04 100001` and 18 bytes 00
-intra-printed : macroblockRecord (plain 16 (replicate 6 (record { difference = pos 0; pairs = [] }))) ≡ (0 ∷ 22 ∷ 4 ∷ 16 ∷ 0 ∷ 1 ∷ []) ++ replicate 18 0
+intra-printed : macroblockRecord printedIntra ≡ (0 ∷ 22 ∷ 4 ∷ 16 ∷ 0 ∷ 1 ∷ []) ++ replicate 18 0
 unfolding recordBytes recordHead macroblockBody headBytes patternBytes blockBytes levelsBytes joined wordBytes complement
 intra-printed = refl
 
 -- `0008 04 02000100000000`
-forward-printed : macroblockRecord (plain 2 []) ≡ 0 ∷ 8 ∷ 4 ∷ 2 ∷ 0 ∷ 1 ∷ 0 ∷ 0 ∷ 0 ∷ 0 ∷ []
-unfolding recordBytes recordHead macroblockBody headBytes patternBytes codesBytes codeBytes joined wordBytes complement
+forward-printed : macroblockRecord printedForward ≡ 0 ∷ 8 ∷ 4 ∷ 2 ∷ 0 ∷ 1 ∷ 0 ∷ 0 ∷ 0 ∷ 0 ∷ []
+unfolding recordBytes recordHead macroblockBody headBytes patternBytes blockBytes codesBytes codeBytes joined wordBytes complement
 forward-printed = refl

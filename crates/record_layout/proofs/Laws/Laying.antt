@@ -4,13 +4,14 @@ use mathlib.Core.Path.{_≡_, refl, sym}
 use Prim.Native.Nat.{ℕ, _+_}
 use lib.ListN.{length}
 use Rattle.lists.specs.Joined.{joined}
+use Rattle.pairs.specs.declared.Pair.{Pair}
 use Rattle.byte_layout.specs.Laid.{laid}
 use Rattle.byte_layout.specs.Bytes.{wordBytes}
 use Rattle.byte_layout.proofs.Laws.Laid.{laid-append, laid-before}
-use Rattle.record_layout.specs.Records.{recordHead, recordBytes, PairFields, pairsBytes, levelsBytes}
+use Rattle.record_layout.specs.Records.{recordHead, recordBytes, pairsBytes, levelsBytes}
 
 -- the count, after the pairs
-pub laid-count : (at : ℕ) (pairs : List PairFields) (buffer : List ℕ) → laid at (length pairs ∷ []) (laid (at + 1) (pairsBytes pairs) buffer) ≡ laid at (levelsBytes pairs) buffer
+pub laid-count : (at : ℕ) (pairs : List Pair) (buffer : List ℕ) → laid at (length pairs ∷ []) (laid (at + 1) (pairsBytes pairs) buffer) ≡ laid at (levelsBytes pairs) buffer
 unfolding levelsBytes
 laid-count at pairs buffer = laid-before at (length pairs ∷ []) (pairsBytes pairs) buffer
 

@@ -1,8 +1,6 @@
 -- `lay_head` meets its contract: four bytes where the type gives a scale, else three. Assumes nothing.
 use mathlib.Core.Path.{refl}
-use native.Mathlib.Nat.{div-one}
 use borrow.Author.Needs.{needs}
-use borrow.Author.Tests.{eq-eqb, ne-eqb}
 use Rattle.byte_layout.specs.Bytes.{wordBytes}
 use Rattle.record_layout.specs.Records.{headBytes}
 use Rattle.record_layout.proofs.lay_head.Statement.{statement}
@@ -13,6 +11,9 @@ cast-high c = search needs
 
 cast-low : tie.Need-cast-low
 cast-low c = search needs
+
+gives-part-requires : tie.Need-gives-part-requires
+gives-part-requires c κs = search needs
 
 slice-aggregate-lay-bytes : tie.Need-slice-aggregate-lay-bytes
 slice-aggregate-lay-bytes c = search needs
@@ -25,7 +26,9 @@ same-length c = search needs
 
 returns : tie.Need-returns
 unfolding headBytes wordBytes
-returns c = rw (div-one, eq-eqb _ _ (c .before .before .before .before .before .if1 .taken)) (refl, c .before .before .lay-bytes .ensures)
+returns c =
+    let tested = c .before .before .before .before .before in
+    rw (← tested .before .gives-part .ensures, tested .if1 .taken) (refl, c .before .before .lay-bytes .ensures)
 
 slice-aggregate-lay-bytes-2 : tie.Need-slice-aggregate-lay-bytes-2
 slice-aggregate-lay-bytes-2 c = search needs
@@ -38,7 +41,9 @@ same-length-2 c = search needs
 
 returns-2 : tie.Need-returns-2
 unfolding headBytes wordBytes
-returns-2 c = rw (div-one, ne-eqb _ _ (c .before .before .before .before .before .if1 .left)) (refl, c .before .before .lay-bytes2 .ensures)
+returns-2 c =
+    let tested = c .before .before .before .before .before in
+    rw (← tested .before .gives-part .ensures, tested .if1 .left) (refl, c .before .before .lay-bytes2 .ensures)
 
 pub lay-head-spec : {M : Type 1} → statement M
 lay-head-spec =
@@ -46,6 +51,7 @@ lay-head-spec =
     (tie.spec
     cast-high
     cast-low
+    gives-part-requires
     slice-aggregate-lay-bytes
     lay-bytes-requires
     same-length

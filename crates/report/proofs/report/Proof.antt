@@ -1,15 +1,27 @@
 -- `report` meets its contract: its test is that of `reportOf`, and a reel that is not too long has room for its lines. Assumes nothing.
-use mathlib.Core.List.{List}
-use mathlib.Core.Path.{_≡_, sym, ap, _∙_}
+use mathlib.Core.List.{List, _++_}
+use mathlib.Core.Path.{_≡_, sym, _∙_}
 use Prim.Native.Nat.{ℕ, _≤_}
 use native.Mathlib.Omega.{arith}
-use lib.ListN.{length, length-take}
+use lib.ListN.{length, drop}
 use lib.Seq.{length-take-le}
 use borrow.Author.Tests.{ltb-false}
-use Rattle.report.specs.Report.{reportOf}
+use Rattle.io.specs.Counts.{Counts}
+use Rattle.byte_layout.specs.Laid.{laid}
+use Rattle.byte_layout.proofs.Laws.Laid.{laid-length, laid-whole}
+use Rattle.report.specs.Text.{longText}
+use Rattle.report.specs.Report.{linesOf, reportOf}
 use borrow.Author.Needs.{needs}
 use Rattle.report.proofs.report.Statement.{statement}
 use Rattle.report.proofs.report.Tie as tie
+
+-- a text that fits, put at the buffer's start
+whole : (bytes text : List ℕ) {end : ℕ} {after : List ℕ} → length bytes ≤ length text → end ≡ length bytes → after ≡ laid 0 bytes text
+    → Counts end after × ((end ≡ length bytes) × (after ≡ bytes ++ drop (length bytes) text))
+whole bytes text {end} {after} fits e f =
+    let long : length after ≡ length text = rw f (laid-length 0 bytes text) in
+    let inside : end ≤ length after = omega arith in
+    ((inside, sym (length-take-le end after inside)), (e, f ∙ laid-whole bytes text fits))
 
 is-long-requires : tie.Need-is-long-requires
 is-long-requires c κs = search needs
@@ -23,19 +35,25 @@ put-bytes-requires c κs = search needs
 returns : tie.Need-returns
 unfolding reportOf
 returns c =
-    let put = c .put-bytes in
-    let long = ap (λ (l : List ℕ). length l) (put .ensures .1) in
-    let short = simp length-take at long in
-    ((omega (arith, put .ensures .0), omega (arith, put .ensures .0)), rw (← c .before .before .before .before .is-long .ensures, c .before .before .before .if1 .taken) (put .ensures .1))
+    let at-is-long = c .before .before .before .before in
+    let args = at-is-long .before .before .args in
+    let put = c .put-bytes .ensures in
+    rw (← at-is-long .is-long .ensures, c .before .before .before .if1 .taken) (whole longText (args .text .now) (omega (arith, at-is-long .before .before .good)) (put .0) (put .1))
 
 put-lines-requires : tie.Need-put-lines-requires
-put-lines-requires c κs = omega (arith, ltb-false 16384 (length (c .before .before .before .before .before .before .before .args .reel .now)) (sym (c .before .before .before .before .before .is-long .ensures) ∙ c .before .before .before .before .if1 .left), c .before .before .before .before .before .before .before .good)
+put-lines-requires c κs =
+    let at-is-long = c .before .before in
+    let args = at-is-long .before .before .args in
+    omega (arith, ltb-false 16384 (length (args .reel .now)) (sym (at-is-long .is-long .ensures) ∙ c .before .if1 .left), at-is-long .before .before .good)
 
 returns-2 : tie.Need-returns-2
 unfolding reportOf
 returns-2 c =
+    let at-is-long = c .before .before .before in
+    let args = at-is-long .before .before .args in
     let put = c .put-lines .ensures in
-    ((put .0, sym (length-take-le _ _ (put .0))), rw (← c .before .before .before .before .before .before .is-long .ensures, c .before .before .before .before .before .if1 .left) (put .1))
+    let fits = rw (put .1 .1, laid-length 0 (linesOf (args .reel .now)) (args .text .now), put .0) at (put .1 .0) in
+    rw (← at-is-long .is-long .ensures, c .before .before .if1 .left) (whole (linesOf (args .reel .now)) (args .text .now) fits (put .0) (put .1 .1))
 
 pub report-spec : {M : Type 1} → statement M
 report-spec =

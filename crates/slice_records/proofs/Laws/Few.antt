@@ -1,30 +1,30 @@
 -- A block that is read has at most 64 pairs, so that its bytes are few. Assumes nothing.
 use mathlib.Core.Bool.{Bool, true, false, not}
-use mathlib.Core.List.{List, [], _∷_, _++_, append-nil}
-use mathlib.Core.Path.{_≡_, subst}
-use Prim.Native.Nat.{ℕ, zero, suc, _+_, _*_, _≤_}
+use mathlib.Core.List.{List, [], _∷_}
+use mathlib.Core.Path.{_≡_, refl, ap, subst}
+use Prim.Native.Nat.{ℕ, zero, suc, _+_, _≤_}
 use native.Mathlib.Omega.{arith}
 use lib.Dec.{leb}
 use lib.IntN.{ℤ}
 use lib.ListN.{length, length-append}
 use borrow.Author.Tests.{leb-true}
-use Rattle.lists.specs.Joined.{joined}
 use Rattle.refusals.specs.declared.Refusal.{Refusal}
-use Rattle.format3.specs.Chain.{only}
+use Rattle.parsed.specs.Guard.{need_else_then_}
 use Rattle.bits.specs.Bits.{bitsFrom}
 use Rattle.bits.specs.declared.Position.{Position}
-use Rattle.blocks.specs.Blocks.{isCoded, firstPosition}
-use Rattle.macroblock_symbols.specs.Vectors.{gives}
-use Rattle.layout_reading.specs.Matching.{codedPattern}
-use Rattle.record_layout.specs.Records.{PairFields, BlockFields, blockBytes, patternBytes, blocksBytes}
-use Rattle.record_layout.proofs.Laws.Laying.{joined-append}
-use Rattle.record_layout.proofs.Laws.Lengths.{block-short, pattern-short}
+use Rattle.symbols.specs.MacroblockType.{isIntra}
+use Rattle.pairs.specs.declared.Pair.{Pair}
+use Rattle.pairs.specs.Pairs.{firstPosition}
+use Rattle.blocks.specs.Blocks.{Block, uncoded, coded, isCoded}
+use Rattle.record_layout.specs.Records.{patternBytes, blocksBytes}
+use Rattle.record_layout.proofs.Laws.Lengths.{FewIn, FewPairs, blocks-short, pattern-short}
+use Rattle.record_layout.proofs.Laws.Lengths as Few
 use Rattle.code_tables.proofs.Laws.Prefix.{case}
 use Rattle.coefficient_codes.specs.Coefficient.{wordsOf, coefficientOf}
 use Rattle.coefficient_codes.specs.declared.coefficient.Coefficient.{Coefficient}
-use Rattle.coefficient_codes.specs.declared.coefficient.Coefficient.the-variants.{Pair, EndOfBlock, NoCode, Short}
+use Rattle.coefficient_codes.specs.declared.coefficient.Coefficient.the-variants as Coefficient
 use Rattle.slice_syntax.specs.Read.{Read, read, refused, readThen}
-use Rattle.slice_syntax.specs.Blocks.{nextPairOf, pairThen, pairsFrom, pairsAt, givenDifferenceAt, blockAt, codedBlockAt, blocksFrom}
+use Rattle.slice_syntax.specs.Blocks.{nextPairOf, pairThen, pairsFrom, pairsAt, givenDifferenceAt, blockAt, givenBlockAt, blocksFrom}
 use Rattle.slice_syntax.specs.Macroblock.{ResidueFields, RestFields, vectorsAt, patternAt, residueAt, restAt}
 use Rattle.slice_records.specs.Laying.{bothBytes, patternAndBlocks, restBytes}
 use Rattle.slice_records.proofs.Laws.Lengths.{both-short}
@@ -50,16 +50,16 @@ of-any (read a p) = of (record {})
 of-any (refused r p) = none
 
 -- ---- pairs
-abbrev From : ℕ → List PairFields → Type 0
+abbrev From : ℕ → List Pair → Type 0
 From next pairs = length pairs + next ≤ 64
 
-pair-few : (next : ℕ) → next ≤ 64 → (c : Coefficient) (at : Position) {more : ℕ → ℤ → Position → Read (List PairFields)}
+pair-few : (next : ℕ) → next ≤ 64 → (c : Coefficient) (at : Position) {more : ℕ → ℤ → Position → Read (List Pair)}
     → ((run : ℕ) (level : ℤ) (p : Position) → next + run ≤ 63 → Of (From next) (more run level p)) → Of (From next) (pairThen (nextPairOf next c at) more (λ after. read [] after))
-unfolding nextPairOf only
-pair-few next h (Pair run level n) at f = case (leb (next + run) 63) (λ t. rw t (f run level _ (leb-true (next + run) 63 t))) (λ t. rw t none)
-pair-few next h (EndOfBlock n) at f = of {a = []} (omega arith)
-pair-few next h NoCode at f = none
-pair-few next h Short at f = none
+unfolding nextPairOf need_else_then_
+pair-few next h (Coefficient.Pair run level n) at f = case (leb (next + run) 63) (λ t. rw t (f run level _ (leb-true (next + run) 63 t))) (λ t. rw t none)
+pair-few next h (Coefficient.EndOfBlock n) at f = of {a = []} (omega arith)
+pair-few next h Coefficient.NoCode at f = none
+pair-few next h Coefficient.Short at f = none
 
 pairs-from : (n : ℕ) (first : Bool) (next : ℕ) → next ≤ 64 → (bytes : List ℕ) (at : Position) → Of (From next) (pairsFrom n first next bytes at)
 unfolding pairsFrom
@@ -73,44 +73,39 @@ unfolding firstPosition
 position-near true = omega arith
 position-near false = omega arith
 
-pub record FewIn (block : BlockFields) : Type 0 where
-  pub few : length (block .pairs) ≤ 64
-
 pub pairs-few : (intra : Bool) (bytes : List ℕ) (at : Position) → Of (λ pairs. length pairs ≤ 64) (pairsAt intra bytes at)
 unfolding pairsAt
 pairs-few intra bytes at = weaker (pairsFrom 65 (not intra) (firstPosition intra) bytes at) (pairs-from 65 (not intra) (firstPosition intra) (position-near intra) bytes at)
   where
-    weaker : (x : Read (List PairFields)) → Of (From (firstPosition intra)) x → Of (λ pairs. length pairs ≤ 64) x
+    weaker : (x : Read (List Pair)) → Of (From (firstPosition intra)) x → Of (λ pairs. length pairs ≤ 64) x
     weaker (read a p) (of h) = of {a = a} (omega (arith, h))
     weaker (refused r p) h = none
 
-pub block-few : (intra : Bool) (block : ℕ) (bytes : List ℕ) (at : Position) → Of FewIn (blockAt intra block bytes at)
+block-few : (intra : Bool) (block : ℕ) (bytes : List ℕ) (at : Position) → Of FewIn (blockAt intra block bytes at)
 unfolding blockAt
 block-few intra block bytes at =
     of-then (givenDifferenceAt intra block bytes at) (of-any (givenDifferenceAt intra block bytes at)) λ d p t.
-    of-then (pairsAt intra bytes p) (pairs-few intra bytes p) λ pairs q h. of (record { few = h })
+    of-then (pairsAt intra bytes p) (pairs-few intra bytes p) λ pairs q h. of {a = coded d pairs} h
+
+pub given-few : (given intra : Bool) (block : ℕ) (bytes : List ℕ) (at : Position) → Of FewIn (givenBlockAt given intra block bytes at)
+unfolding givenBlockAt
+given-few true intra block bytes at = block-few intra block bytes at
+given-few false intra block bytes at = of {a = uncoded} tt
+
+-- n blocks, each with few pairs
+pub record FewBlocks (n : ℕ) (blocks : List Block) : Type 0 where
+  pub counted : length blocks ≡ n
+  pub few : FewPairs blocks
+
+pub blocks-few : (intra : Bool) (pattern n block : ℕ) (bytes : List ℕ) (at : Position) → Of (FewBlocks n) (blocksFrom intra pattern n block bytes at)
+unfolding blocksFrom
+blocks-few intra pattern zero block bytes at = of (record { counted = refl; few = Few.none })
+blocks-few intra pattern (suc n) block bytes at =
+    of-then (givenBlockAt (isCoded pattern block) intra block bytes at) (given-few (isCoded pattern block) intra block bytes at) λ b p h.
+    of-then (blocksFrom intra pattern n (block + 1) bytes p) (blocks-few intra pattern n (block + 1) bytes p) λ blocks q k.
+    of (record { counted = ap suc (k .counted); few = Few.more h (k .few) })
 
 -- ---- bytes
-pub record ShortBlocks (intra : Bool) (blocks : List BlockFields) : Type 0 where
-  pub short : length (blocksBytes intra blocks) ≤ 195
-
-pub coded-short : (coded intra : Bool) (block : ℕ) (bytes : List ℕ) (at : Position) → Of (ShortBlocks intra) (codedBlockAt coded intra block bytes at)
-unfolding codedBlockAt joined
-coded-short true intra block bytes at =
-    of-then (blockAt intra block bytes at) (block-few intra block bytes at) λ fields p h. of (record { short = rw (append-nil (blockBytes intra fields)) (block-short intra fields (h .few)) })
-coded-short false intra block bytes at = of {a = []} (record { short = omega arith })
-
-pub record ShortIn (intra : Bool) (n : ℕ) (blocks : List BlockFields) : Type 0 where
-  pub short : length (blocksBytes intra blocks) ≤ 195 * n
-
-pub blocks-short : (intra : Bool) (pattern n block : ℕ) (bytes : List ℕ) (at : Position) → Of (ShortIn intra n) (blocksFrom intra pattern n block bytes at)
-unfolding blocksFrom joined
-blocks-short intra pattern zero block bytes at = of {a = []} (record { short = omega arith })
-blocks-short intra pattern (suc n) block bytes at =
-    of-then (codedBlockAt (isCoded pattern block) intra block bytes at) (coded-short (isCoded pattern block) intra block bytes at) λ first p h.
-    of-then (blocksFrom intra pattern n (block + 1) bytes p) (blocks-short intra pattern n (block + 1) bytes p) λ rest q k.
-    of {a = first ++ rest} (record { short = rw (joined-append (blockBytes intra) first rest, length-append (blocksBytes intra first) (blocksBytes intra rest)) (omega (arith, h .short, k .short)) })
-
 pub record ShortResidue (flags : ℕ) (residue : ResidueFields) : Type 0 where
   pub short : length (patternAndBlocks flags residue) ≤ 1171
 
@@ -118,8 +113,8 @@ pub residue-short : (flags : ℕ) (bytes : List ℕ) (at : Position) → Of (Sho
 unfolding residueAt
 residue-short flags bytes at =
     of-then (patternAt flags bytes at) (of-any (patternAt flags bytes at)) λ pattern p t.
-    of-then (blocksFrom (gives flags 16) (codedPattern flags pattern) 6 0 bytes p) (blocks-short (gives flags 16) (codedPattern flags pattern) 6 0 bytes p) λ blocks q h.
-    of (record { short = rw (length-append (patternBytes flags pattern) (blocksBytes (gives flags 16) blocks)) (omega (arith, h .short, pattern-short flags pattern)) })
+    of-then (blocksFrom (isIntra flags) pattern 6 0 bytes p) (blocks-few (isIntra flags) pattern 6 0 bytes p) λ blocks q h.
+    of (record { short = rw (length-append (patternBytes flags pattern) (blocksBytes (isIntra flags) blocks)) (omega (arith, h .counted, blocks-short (isIntra flags) (h .few), pattern-short flags pattern)) })
 
 pub record ShortRest (flags : ℕ) (rest : RestFields) : Type 0 where
   pub short : length (restBytes flags rest) ≤ 1179

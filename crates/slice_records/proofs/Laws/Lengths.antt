@@ -8,7 +8,7 @@ use lib.IntN.{ℤ}
 use lib.ListN.{length, length-append}
 use Rattle.symbols.specs.declared.vector_codes.VectorCode.{VectorCode}
 use Rattle.macroblock_symbols.specs.declared.vectors.Vectors.{Vectors}
-use Rattle.macroblock_symbols.specs.Vectors.{gives}
+use Rattle.symbols.specs.MacroblockType.{givesScale, givesForward, givesBackward, givesPattern, isIntra}
 use Rattle.byte_layout.specs.Bytes.{wordBytes}
 use Rattle.record_layout.specs.Records.{codeBytes, givenCodesBytes, differenceBytes}
 use Rattle.record_layout.proofs.Laws.Lengths.{given-short}
@@ -30,9 +30,9 @@ pub both-short : (flags : ℕ) (vectors : Vectors) → length (bothBytes flags v
 both-short flags vectors =
     omega (
       arith,
-      length-append (givenCodesBytes (gives flags 2) (vectors .forward)) (givenCodesBytes (gives flags 4) (vectors .backward)),
-      given-short (gives flags 2) (vectors .forward),
-      given-short (gives flags 4) (vectors .backward),
+      length-append (givenCodesBytes (givesForward flags) (vectors .forward)) (givenCodesBytes (givesBackward flags) (vectors .backward)),
+      given-short (givesForward flags) (vectors .forward),
+      given-short (givesBackward flags) (vectors .backward),
     )
 
 pub difference-short : (intra : Bool) (difference : ℤ) → length (differenceBytes intra difference) ≤ 2
@@ -44,13 +44,16 @@ difference-short false difference = omega arith
 pub scale-small : (flags : ℕ) (bytes : List ℕ) (at : Position) {v : ℕ} {p : Position} → scaleAt flags bytes at ≡ read v p → v < 256
 unfolding scaleAt
 scale-small flags bytes at {v} {p} e =
-    case (gives flags 1)
+    case (givesScale flags)
     (λ g. let given : fieldAt 5 bytes at ≡ read v p = rw g at e in omega (arith, field-below bytes at 5 given))
     (λ g. let none : v ≡ 0 = cc (rw g at e) in omega (arith, none))
 
 pub pattern-small : (flags : ℕ) (bytes : List ℕ) (at : Position) {v : ℕ} {p : Position} → patternAt flags bytes at ≡ read v p → v ≤ 63
 unfolding patternAt
 pattern-small flags bytes at {v} {p} e =
-    case (gives flags 8)
-    (λ g. let given : wordAt patterns bytes at ≡ read v p = rw g at e in word-below bytes at patterns (pattern-read (bitsFrom bytes at)) given)
-    (λ g. let none : v ≡ 0 = cc (rw g at e) in omega (arith, none))
+    case (isIntra flags)
+    (λ i. let all : v ≡ 63 = cc (rw i at e) in omega (arith, all))
+    (λ i.
+    case (givesPattern flags)
+    (λ g. let given : wordAt patterns bytes at ≡ read v p = rw (i, g) at e in word-below bytes at patterns (pattern-read (bitsFrom bytes at)) given)
+    (λ g. let none : v ≡ 0 = cc (rw (i, g) at e) in omega (arith, none)))

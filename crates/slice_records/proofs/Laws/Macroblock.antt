@@ -13,7 +13,7 @@ use Rattle.record_layout.specs.Records.{recordHead, recordBytes, headBytes, mac
 use Rattle.record_layout.proofs.Laws.Laying.{laid-record}
 use Rattle.record_layout.proofs.Laws.Lengths.{record-length}
 use Rattle.slice_syntax.specs.Read.{read, refused}
-use Rattle.slice_syntax.specs.Macroblock.{HeadFields, RestFields, headAt, restAt, fieldsWith, macroblockAt}
+use Rattle.slice_syntax.specs.Macroblock.{HeadFields, RestFields, headAt, restAt, macroblockWith, macroblockAt}
 use Rattle.slice_records.specs.Laying.{restBytes}
 
 module _ (place kind : ℕ) (head rest : List ℕ) {n m size : ℕ} (h : n ≡ length head) (k : m ≡ length rest) (s : size ≡ 1 + n + m) where
@@ -32,7 +32,7 @@ module _ (place kind : ℕ) (head rest : List ℕ) {n m size : ℕ} (h : n ≡ l
 
 -- the body of a macroblock, from its head and the rest
 pub body-of : (increment : ℕ) (head : HeadFields) (rest : RestFields)
-    → macroblockBody (fieldsWith increment head rest) ≡ headBytes (head .flags) increment (head .scale) ++ restBytes (head .flags) rest
+    → macroblockBody (macroblockWith increment head rest) ≡ headBytes (head .flags) increment (head .scale) ++ restBytes (head .flags) rest
 unfolding macroblockBody
 body-of increment head rest = refl
 
@@ -48,6 +48,6 @@ module _ (h : Header) (increment : ℕ) (bytes : List ℕ) (at : Position) where
     rest-refused f = rw (e, f)
 
     pub macroblock-read : {rest : RestFields} {q : Position} → restAt (head .flags) (h .forward .«f_code») (h .backward .«f_code») bytes p ≡ read rest q
-        → macroblockAt h increment bytes at ≡ read (fieldsWith increment head rest) q
+        → macroblockAt h increment bytes at ≡ read (macroblockWith increment head rest) q
     unfolding macroblockAt
     macroblock-read f = rw (e, f)

@@ -1,6 +1,6 @@
--- The pairs of a block, one at a time: what is still to be read comes behind those that are laid. Assumes nothing.
+-- The pairs of a block, one at a time: what is still to be read comes after those that are laid. Assumes nothing.
 use mathlib.Core.Bool.{Bool, true, false, not}
-use mathlib.Core.List.{List, [], _∷_, _++_, append-assoc, append-nil}
+use mathlib.Core.List.{List, [], _∷_, _++_, append-nil}
 use mathlib.Core.Path.{_≡_, refl, sym, ap, subst, _∙_}
 use Prim.Native.Nat.{ℕ, zero, suc, _+_, _-_, _*_, _≤_}
 use native.Mathlib.Omega.{arith}
@@ -10,25 +10,23 @@ use Rattle.lists.specs.Joined.{joined}
 use Rattle.refusals.specs.declared.Refusal.{Refusal}
 use Rattle.bits.specs.Bits.{InBytes}
 use Rattle.bits.specs.declared.Position.{Position}
-use Rattle.blocks.specs.Blocks.{firstPosition}
+use Rattle.pairs.specs.declared.Pair.{Pair}
+use Rattle.pairs.specs.Pairs.{firstPosition}
 use Rattle.byte_layout.specs.Laid.{laid}
 use Rattle.byte_layout.proofs.Laws.Laid.{laid-length}
-use Rattle.record_layout.specs.Records.{PairFields, pairBytes, pairsBytes, levelsBytes}
+use Rattle.record_layout.specs.Records.{pairBytes, pairsBytes, levelsBytes}
 use Rattle.record_layout.proofs.Laws.Laying.{laid-count, laid-more}
 use Rattle.record_layout.proofs.Laws.Lengths.{pairs-length, levels-length}
-use Rattle.slice_syntax.specs.Read.{Read, read, refused, readThen}
+use Rattle.slice_syntax.specs.Read.{Read, read, refused}
 use Rattle.slice_syntax.specs.Blocks.{nextPairAt, pairsFrom, pairsAt}
 use Rattle.slice_syntax.specs.declared.coefficient.NextPair.{NextPair}
 use Rattle.slice_syntax.specs.declared.coefficient.NextPair.the-variants as NextPair
+use Rattle.slice_syntax.proofs.Laws.Read.{after, nothing-after, after-after}
 use Rattle.slice_syntax.proofs.Laws.Coefficient.{PairWithin, Within, pair-within}
 
--- pairs behind others
-abbrev pub behind : List PairFields → Read (List PairFields) → Read (List PairFields)
-behind pairs x = readThen x λ more p. read (pairs ++ more) p
-
--- ---- the block so far: the pairs that are laid, and what is still to be read behind them
-pub record Begun (bytes : List ℕ) (whole : Read (List PairFields)) (place : ℕ) (before after : List ℕ) (at : Position) (first : Bool) (next count end : ℕ) : Type 0 where
-  pub pairs : List PairFields
+-- ---- the block so far: the pairs that are laid, and what is still to be read after them
+pub record Begun (bytes : List ℕ) (whole : Read (List Pair)) (place : ℕ) (before now : List ℕ) (at : Position) (first : Bool) (next count end : ℕ) : Type 0 where
+  pub pairs : List Pair
   pub fuel : ℕ
   pub enough : 65 ≤ fuel + next
   pub near : next ≤ 64
@@ -36,18 +34,14 @@ pub record Begun (bytes : List ℕ) (whole : Read (List PairFields)) (place : �
   pub few : count ≤ next
   pub behindThem : end ≡ place + 1 + 3 * count
   pub inside : InBytes bytes at
-  pub there : after ≡ laid (place + 1) (pairsBytes pairs) before
-  pub same : behind pairs (pairsFrom fuel first next bytes at) ≡ whole
+  pub there : now ≡ laid (place + 1) (pairsBytes pairs) before
+  pub same : after pairs (pairsFrom fuel first next bytes at) ≡ whole
 
 module _ (bytes : List ℕ) (intra : Bool) (place : ℕ) (buffer : List ℕ) (at : Position) where
   position-near : (t : Bool) → firstPosition t ≤ 1
   unfolding firstPosition
   position-near true = omega arith
   position-near false = omega arith
-
-  nothing-behind : (x : Read (List PairFields)) → behind [] x ≡ x
-  nothing-behind (read a p) = refl
-  nothing-behind (refused r p) = refl
 
   pub begun-none : InBytes bytes at → Begun bytes (pairsAt intra bytes at) place buffer buffer at (not intra) (firstPosition intra) 0 (place + 1)
   unfolding pairsAt laid joined
@@ -61,7 +55,7 @@ module _ (bytes : List ℕ) (intra : Bool) (place : ℕ) (buffer : List ℕ) (at
     behindThem = omega arith;
     inside = within;
     there = refl;
-    same = nothing-behind (pairsFrom 65 (not intra) (firstPosition intra) bytes at);
+    same = nothing-after (pairsFrom 65 (not intra) (firstPosition intra) bytes at);
   }
 
 module _ (bytes : List ℕ) (at : Position) (first : Bool) (next : ℕ) where
@@ -76,17 +70,13 @@ module _ (bytes : List ℕ) (at : Position) (first : Bool) (next : ℕ) where
   from-end (suc n) h k e = rw e
 
   from-pair : (n : ℕ) {run : ℕ} {level : ℤ} {p : Position} → nextPairAt first next bytes at ≡ NextPair.Pair run level p
-      → pairsFrom (suc n) first next bytes at ≡ behind (record { run = run; level = level } ∷ []) (pairsFrom n false (next + run + 1) bytes p)
+      → pairsFrom (suc n) first next bytes at ≡ after (record { run = run; level = level } ∷ []) (pairsFrom n false (next + run + 1) bytes p)
   unfolding pairsFrom
   from-pair n e = rw e
 
-  behind-behind : (a b : List PairFields) (x : Read (List PairFields)) → behind a (behind b x) ≡ behind (a ++ b) x
-  behind-behind a b (read c p) = ap (λ (l : List PairFields). read l p) (sym (append-assoc a b c))
-  behind-behind a b (refused r p) = refl
-
-  module _ {whole : Read (List PairFields)} {place : ℕ} {before after : List ℕ} {count end : ℕ} (s : Begun bytes whole place before after at first next count end) where
+  module _ {whole : Read (List Pair)} {place : ℕ} {before now : List ℕ} {count end : ℕ} (s : Begun bytes whole place before now at first next count end) where
     -- the buffer's length stays
-    pub begun-same : length after ≡ length before
+    pub begun-same : length now ≡ length before
     begun-same = ap length (s .there) ∙ laid-length (place + 1) (pairsBytes (s .pairs)) before
 
     pub begun-refused : {refusal : Refusal} {p : Position} → nextPairAt first next bytes at ≡ NextPair.Refused refusal p → whole ≡ refused refusal p
@@ -94,12 +84,12 @@ module _ (bytes : List ℕ) (at : Position) (first : Bool) (next : ℕ) where
 
     -- at the end, the count is laid before the pairs
     pub begun-end : {p : Position} → nextPairAt first next bytes at ≡ NextPair.End p → whole ≡ read (s .pairs) p
-    begun-end {p} e = sym (s .same) ∙ rw (from-end (s .fuel) (s .enough) (s .near) e) (ap (λ (l : List PairFields). read l p) (append-nil (s .pairs)))
+    begun-end {p} e = sym (s .same) ∙ rw (from-end (s .fuel) (s .enough) (s .near) e) (ap (λ (l : List Pair). read l p) (append-nil (s .pairs)))
 
     pub begun-length : end ≡ place + length (levelsBytes (s .pairs))
     begun-length = omega (arith, s .behindThem, s .counted, levels-length (s .pairs))
 
-    pub begun-laid : {last : List ℕ} → last ≡ laid place (count ∷ []) after → last ≡ laid place (levelsBytes (s .pairs)) before
+    pub begun-laid : {last : List ℕ} → last ≡ laid place (count ∷ []) now → last ≡ laid place (levelsBytes (s .pairs)) before
     begun-laid e = e ∙ rw (← s .counted, s .there) (laid-count place (s .pairs) before)
 
     pub begun-pair : {run : ℕ} {level : ℤ} {p : Position} → nextPairAt first next bytes at ≡ NextPair.Pair run level p → PairWithin bytes next run at p
@@ -108,7 +98,7 @@ module _ (bytes : List ℕ) (at : Position) (first : Bool) (next : ℕ) where
     more-fuel : (n : ℕ) → 65 ≤ n + next → n ≡ suc (n - 1)
     more-fuel n h = omega (arith, s .near)
 
-    pub begun-more : {run : ℕ} {level : ℤ} {p : Position} {later : List ℕ} → nextPairAt first next bytes at ≡ NextPair.Pair run level p → later ≡ laid end (pairBytes run level) after
+    pub begun-more : {run : ℕ} {level : ℤ} {p : Position} {later : List ℕ} → nextPairAt first next bytes at ≡ NextPair.Pair run level p → later ≡ laid end (pairBytes run level) now
         → Begun bytes whole place before later p false (next + run + 1) (count + 1) (end + 3)
     begun-more {run} {level} {p} {later} e f =
         let n = s .fuel in
@@ -122,13 +112,13 @@ module _ (bytes : List ℕ) (at : Position) (first : Bool) (next : ℕ) where
           behindThem = omega (arith, s .behindThem);
           inside = begun-pair e .ahead .inside;
           there = f ∙ rw (s .there, place-of) (laid-more (λ pair. pairBytes (pair .run) (pair .level)) (place + 1) (s .pairs) (record { run = run; level = level }) before);
-          same = sym (behind-behind (s .pairs) (record { run = run; level = level } ∷ []) (pairsFrom (n - 1) false (next + run + 1) bytes p)) ∙ rw (sym step) (s .same);
+          same = sym (after-after (s .pairs) (record { run = run; level = level } ∷ []) (pairsFrom (n - 1) false (next + run + 1) bytes p)) ∙ rw (sym step) (s .same);
         }
       where
         place-of : end ≡ place + 1 + length (pairsBytes (s .pairs))
         place-of = omega (arith, s .behindThem, s .counted, pairs-length (s .pairs))
 
-        step : pairsFrom (s .fuel) first next bytes at ≡ behind (record { run = run; level = level } ∷ []) (pairsFrom (s .fuel - 1) false (next + run + 1) bytes p)
+        step : pairsFrom (s .fuel) first next bytes at ≡ after (record { run = run; level = level } ∷ []) (pairsFrom (s .fuel - 1) false (next + run + 1) bytes p)
         step =
             ap (λ (k : ℕ). pairsFrom k first next bytes at) (more-fuel (s .fuel) (s .enough))
             ∙ from-pair (s .fuel - 1) e

@@ -8,7 +8,7 @@ use lib.Dec.{leb}
 use lib.IntN.{ℤ}
 use lib.ListN.{length}
 use borrow.Author.Tests.{leb-true}
-use Rattle.format3.specs.Chain.{only}
+use Rattle.parsed.specs.Guard.{need_else_then_}
 use Rattle.bits.specs.Bits.{InBytes, bitsFrom, advanced}
 use Rattle.bits.specs.declared.Position.{Position}
 use Rattle.bits.proofs.Rest.{rest-binary, in-bytes-advanced}
@@ -49,7 +49,7 @@ module _ (bytes : List ℕ) (at : Position) (within : InBytes bytes at) (next : 
   ahead n h = record { inside = in-bytes-advanced n within h; further = omega arith }
 
   coefficient-within : (c : Coefficient) → Sound (length (bitsFrom bytes at)) c → Within bytes next at (nextPairOf next c at)
-  unfolding nextPairOf only
+  unfolding nextPairOf need_else_then_
   coefficient-within (Pair run level n) h =
       case (leb (next + run) 63) (λ t. rw t (record { lands = leb-true (next + run) 63 t; ahead = ahead n (h .inside) })) (λ t. rw t tt)
   coefficient-within (EndOfBlock n) h = ahead n (h .inside)

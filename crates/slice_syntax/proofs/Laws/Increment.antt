@@ -7,7 +7,7 @@ use lib.ListN.{length}
 use borrow.Author.Tests.{eq-eqb, ne-eqb, le-leb, lt-leb}
 use Rattle.refusals.specs.declared.Refusal.{Refusal}
 use Rattle.refusals.specs.declared.Refusal.the-variants.{SliceCode}
-use Rattle.format3.specs.Chain.{only}
+use Rattle.parsed.specs.Guard.{need_else_then_}
 use Rattle.bits.specs.Bits.{InBytes, bitsFrom}
 use Rattle.bits.specs.declared.Position.{Position}
 use Rattle.bits.proofs.Rest.{rest-length}
@@ -93,19 +93,19 @@ module _ (bytes : List ℕ) (at : Position) where
 
     escape-past-from : (n : ℕ) {v : ℕ} {p : Position} → sum + 33 * n ≡ 429 → sum ≤ 396 → afterEscape n sum bytes at ≡ whole
         → wordAt incrementsAfterEscape bytes at ≡ read v p → 396 < sum + amountOf v → whole ≡ refused SliceCode at
-    unfolding afterEscape only
+    unfolding afterEscape need_else_then_
     escape-past-from zero h k f e g = absurd (omega arith)
     escape-past-from (suc n) {v} h k f e g = sym (rw (e, lt-leb (sum + amountOf v) 396 g) at f)
 
     escape-read-from : (n : ℕ) {v : ℕ} {p : Position} → sum + 33 * n ≡ 429 → sum ≤ 396 → afterEscape n sum bytes at ≡ whole
         → wordAt incrementsAfterEscape bytes at ≡ read v p → sum + amountOf v ≤ 396 → (v ≡ incrementEscape → ⊥) → whole ≡ read (sum + amountOf v) p
-    unfolding afterEscape only
+    unfolding afterEscape need_else_then_
     escape-read-from zero h k f e g i = absurd (omega arith)
     escape-read-from (suc n) {v} h k f e g i = rw (plain-amount v i) (sym (rw (e, le-leb (sum + amountOf v) 396 g, ne-eqb v incrementEscape i) at f))
 
     escape-again-from : (n : ℕ) {v : ℕ} {p : Position} → sum + 33 * n ≡ 429 → sum ≤ 396 → afterEscape n sum bytes at ≡ whole
         → wordAt incrementsAfterEscape bytes at ≡ read v p → sum + amountOf v ≤ 396 → v ≡ incrementEscape → InBytes bytes p → Escaped bytes whole (sum + amountOf v) p
-    unfolding afterEscape only
+    unfolding afterEscape need_else_then_
     escape-again-from zero h k f e g i w = absurd (omega arith)
     escape-again-from (suc n) {v} h k f e g i w = record {
       fuel = n;

@@ -6,13 +6,13 @@ use native.Mathlib.Omega.{arith}
 use lib.Dec.{eqb, ltb, leb}
 use lib.IntN.{ℤ}
 use lib.ListN.{length}
-use Rattle.format3.specs.Chain.{only}
+use Rattle.parsed.specs.Guard.{need_else_then_}
 use Rattle.picture_header.specs.declared.header.Header.{Header}
 use Rattle.bits.specs.Bits.{InBytes, bitsFrom}
 use Rattle.bits.specs.declared.Position.{Position}
-use Rattle.blocks.specs.Blocks.{isCoded, firstPosition}
-use Rattle.macroblock_symbols.specs.Vectors.{gives}
-use Rattle.layout_reading.specs.Matching.{codedPattern}
+use Rattle.symbols.specs.MacroblockType.{givesScale, givesForward, givesBackward, givesPattern, isIntra}
+use Rattle.pairs.specs.Pairs.{firstPosition}
+use Rattle.blocks.specs.Blocks.{isCoded}
 use Rattle.code_tables.specs.AnnexB.{increments, incrementsAfterEscape, stuffing, incrementEscape, motionCodes, patterns, typesOf}
 use Rattle.codes.proofs.Laws.Range.{increment-read, increment-after-escape-read, type-read, pattern-read, motion-code-read}
 use Rattle.slice_syntax.specs.declared.coefficient.NextPair.{NextPair}
@@ -20,7 +20,7 @@ use Rattle.slice_syntax.specs.declared.coefficient.NextPair.the-variants
 use Rattle.slice_syntax.specs.Read.{Read, wordAt, fieldAt}
 use Rattle.slice_syntax.specs.Increment.{afterStuffing, amountOf, afterEscape, incrementAt}
 use Rattle.slice_syntax.specs.Vectors.{residualAt, motionAt, vectorAt, givenVectorAt}
-use Rattle.slice_syntax.specs.Blocks.{sizeWords, differenceAt, nextPairAt, pairThen, pairsFrom, pairsAt, givenDifferenceAt, blockAt, codedBlockAt, blocksFrom}
+use Rattle.slice_syntax.specs.Blocks.{sizeWords, differenceAt, nextPairAt, pairThen, pairsFrom, pairsAt, givenDifferenceAt, blockAt, givenBlockAt, blocksFrom}
 use Rattle.slice_syntax.specs.Macroblock.{scaleAt, headAt, vectorsAt, patternAt, residueAt, restAt, macroblockAt}
 use Rattle.slice_syntax.specs.Slice.{afterExtra, nextAt}
 use Rattle.slice_syntax.proofs.Laws.Read.{Onward, onward, stopped, onward-after, then-onward, no-further, word-onward, field-onward}
@@ -28,7 +28,7 @@ use Rattle.slice_syntax.proofs.Laws.Words.{size-read}
 use Rattle.slice_syntax.proofs.Laws.Coefficient.{Within, pair-within}
 
 module _ {A : Type 0} {bytes : List ℕ} {at : Position} where
-  pub any-onward : {bits : ℕ} {x : Read A} → Onward bytes bits at x → Onward bytes 0 at x
+  any-onward : {bits : ℕ} {x : Read A} → Onward bytes bits at x → Onward bytes 0 at x
   any-onward (onward h) = onward (record { inside = h .inside; further = omega (arith, h .further) })
   any-onward stopped = stopped
 
@@ -36,10 +36,10 @@ module _ {A : Type 0} {bytes : List ℕ} {at : Position} where
   cond-onward true h k = h
   cond-onward false h k = k
 
-  only-onward : {bits : ℕ} (t : Bool) {x y : Read A} → Onward bytes bits at x → Onward bytes bits at y → Onward bytes bits at (only t x y)
-  unfolding only
-  only-onward true h k = k
-  only-onward false h k = h
+  need-onward : {bits : ℕ} (t : Bool) {x y : Read A} → Onward bytes bits at x → Onward bytes bits at y → Onward bytes bits at (need t else x then y)
+  unfolding need_else_then_
+  need-onward true h k = k
+  need-onward false h k = h
 
 module _ (bytes : List ℕ) where
   -- ---- the increment
@@ -55,7 +55,7 @@ module _ (bytes : List ℕ) where
   escape-onward zero sum at within = stopped
   escape-onward (suc n) sum at within =
       any-onward (then-onward (wordAt incrementsAfterEscape bytes at) (word-onward bytes at within incrementsAfterEscape (increment-after-escape-read (bitsFrom bytes at))) λ v p e w.
-      only-onward (leb (sum + amountOf v) 396) stopped (cond-onward (eqb v incrementEscape) (escape-onward n (sum + 33) p w) (no-further w)))
+      need-onward (leb (sum + amountOf v) 396) stopped (cond-onward (eqb v incrementEscape) (escape-onward n (sum + 33) p w) (no-further w)))
 
   pub stuffed-onward : (at : Position) → InBytes bytes at → Onward bytes 1 at (afterStuffing (1 + length (bitsFrom bytes at)) bytes at)
   stuffed-onward at within = stuffing-onward (1 + length (bitsFrom bytes at)) at within
@@ -89,7 +89,7 @@ module _ (bytes : List ℕ) where
       any-onward (then-onward (wordAt motionCodes bytes at) (word-onward bytes at within motionCodes (motion-code-read (bitsFrom bytes at))) λ v p e w.
       then-onward (residualAt fCode v bytes p) (residual-onward fCode v p w) λ r q f x. no-further x)
 
-  pub vector-onward : (fCode : ℕ) (at : Position) → InBytes bytes at → Onward bytes 0 at (vectorAt fCode bytes at)
+  vector-onward : (fCode : ℕ) (at : Position) → InBytes bytes at → Onward bytes 0 at (vectorAt fCode bytes at)
   unfolding vectorAt
   vector-onward fCode at within =
       then-onward (motionAt fCode bytes at) (motion-onward fCode at within) λ h p e w.
@@ -100,7 +100,7 @@ module _ (bytes : List ℕ) where
   given-onward given fCode at within = cond-onward given (vector-onward fCode at within) (no-further within)
 
   -- ---- blocks
-  pub difference-onward : (block : ℕ) (at : Position) → InBytes bytes at → Onward bytes 0 at (differenceAt block bytes at)
+  difference-onward : (block : ℕ) (at : Position) → InBytes bytes at → Onward bytes 0 at (differenceAt block bytes at)
   unfolding differenceAt
   difference-onward block at within =
       any-onward (then-onward (wordAt (sizeWords block) bytes at) (word-onward bytes at within (sizeWords block) (size-read block (bitsFrom bytes at))) λ size p e w.
@@ -122,7 +122,7 @@ module _ (bytes : List ℕ) where
       (λ run level p w. then-onward (pairsFrom n false (next + run + 1) bytes p) (pairs-from n false (next + run + 1) p w) λ pairs q e x. no-further x)
       (λ p w. no-further w)
 
-  pub pairs-onward : (intra : Bool) (at : Position) → InBytes bytes at → Onward bytes 0 at (pairsAt intra bytes at)
+  pairs-onward : (intra : Bool) (at : Position) → InBytes bytes at → Onward bytes 0 at (pairsAt intra bytes at)
   unfolding pairsAt
   pairs-onward intra at within = pairs-from 65 (not intra) (firstPosition intra) at within
 
@@ -130,28 +130,27 @@ module _ (bytes : List ℕ) where
   unfolding givenDifferenceAt
   given-difference-onward intra block at within = cond-onward intra (difference-onward block at within) (no-further within)
 
-  pub block-onward : (intra : Bool) (block : ℕ) (at : Position) → InBytes bytes at → Onward bytes 0 at (blockAt intra block bytes at)
+  block-onward : (intra : Bool) (block : ℕ) (at : Position) → InBytes bytes at → Onward bytes 0 at (blockAt intra block bytes at)
   unfolding blockAt
   block-onward intra block at within =
       then-onward (givenDifferenceAt intra block bytes at) (given-difference-onward intra block at within) λ d p e w.
       then-onward (pairsAt intra bytes p) (pairs-onward intra p w) λ pairs q f x. no-further x
 
-  pub coded-onward : (coded intra : Bool) (block : ℕ) (at : Position) → InBytes bytes at → Onward bytes 0 at (codedBlockAt coded intra block bytes at)
-  unfolding codedBlockAt
-  coded-onward coded intra block at within =
-      cond-onward coded (then-onward (blockAt intra block bytes at) (block-onward intra block at within) λ f p e w. no-further w) (no-further within)
+  pub given-block-onward : (given intra : Bool) (block : ℕ) (at : Position) → InBytes bytes at → Onward bytes 0 at (givenBlockAt given intra block bytes at)
+  unfolding givenBlockAt
+  given-block-onward given intra block at within = cond-onward given (block-onward intra block at within) (no-further within)
 
-  pub blocks-onward : (intra : Bool) (pattern n block : ℕ) (at : Position) → InBytes bytes at → Onward bytes 0 at (blocksFrom intra pattern n block bytes at)
+  blocks-onward : (intra : Bool) (pattern n block : ℕ) (at : Position) → InBytes bytes at → Onward bytes 0 at (blocksFrom intra pattern n block bytes at)
   unfolding blocksFrom
   blocks-onward intra pattern zero block at within = no-further within
   blocks-onward intra pattern (suc n) block at within =
-      then-onward (codedBlockAt (isCoded pattern block) intra block bytes at) (coded-onward (isCoded pattern block) intra block at within) λ first p e w.
+      then-onward (givenBlockAt (isCoded pattern block) intra block bytes at) (given-block-onward (isCoded pattern block) intra block at within) λ first p e w.
       then-onward (blocksFrom intra pattern n (block + 1) bytes p) (blocks-onward intra pattern n (block + 1) p w) λ rest q f x. no-further x
 
   -- ---- the macroblock
-  pub scale-onward : (flags : ℕ) (at : Position) → InBytes bytes at → Onward bytes 0 at (scaleAt flags bytes at)
+  scale-onward : (flags : ℕ) (at : Position) → InBytes bytes at → Onward bytes 0 at (scaleAt flags bytes at)
   unfolding scaleAt
-  scale-onward flags at within = cond-onward (gives flags 1) (any-onward (field-onward bytes at within 5)) (no-further within)
+  scale-onward flags at within = cond-onward (givesScale flags) (any-onward (field-onward bytes at within 5)) (no-further within)
 
   pub head-onward : (codingType : ℕ) (at : Position) → InBytes bytes at → Onward bytes 0 at (headAt codingType bytes at)
   unfolding headAt
@@ -162,20 +161,22 @@ module _ (bytes : List ℕ) where
   pub vectors-onward : (flags forwardCode backwardCode : ℕ) (at : Position) → InBytes bytes at → Onward bytes 0 at (vectorsAt flags forwardCode backwardCode bytes at)
   unfolding vectorsAt
   vectors-onward flags forwardCode backwardCode at within =
-      then-onward (givenVectorAt (gives flags 2) forwardCode bytes at) (given-onward (gives flags 2) forwardCode at within) λ f p e w.
-      then-onward (givenVectorAt (gives flags 4) backwardCode bytes p) (given-onward (gives flags 4) backwardCode p w) λ b q g x. no-further x
+      then-onward (givenVectorAt (givesForward flags) forwardCode bytes at) (given-onward (givesForward flags) forwardCode at within) λ f p e w.
+      then-onward (givenVectorAt (givesBackward flags) backwardCode bytes p) (given-onward (givesBackward flags) backwardCode p w) λ b q g x. no-further x
 
   pub pattern-onward : (flags : ℕ) (at : Position) → InBytes bytes at → Onward bytes 0 at (patternAt flags bytes at)
   unfolding patternAt
-  pattern-onward flags at within = cond-onward (gives flags 8) (any-onward (word-onward bytes at within patterns (pattern-read (bitsFrom bytes at)))) (no-further within)
+  pattern-onward flags at within =
+      cond-onward (isIntra flags) (no-further within)
+      (cond-onward (givesPattern flags) (any-onward (word-onward bytes at within patterns (pattern-read (bitsFrom bytes at)))) (no-further within))
 
-  pub residue-onward : (flags : ℕ) (at : Position) → InBytes bytes at → Onward bytes 0 at (residueAt flags bytes at)
+  residue-onward : (flags : ℕ) (at : Position) → InBytes bytes at → Onward bytes 0 at (residueAt flags bytes at)
   unfolding residueAt
   residue-onward flags at within =
       then-onward (patternAt flags bytes at) (pattern-onward flags at within) λ pattern p e w.
-      then-onward (blocksFrom (gives flags 16) (codedPattern flags pattern) 6 0 bytes p) (blocks-onward (gives flags 16) (codedPattern flags pattern) 6 0 p w) λ blocks q f x. no-further x
+      then-onward (blocksFrom (isIntra flags) pattern 6 0 bytes p) (blocks-onward (isIntra flags) pattern 6 0 p w) λ blocks q f x. no-further x
 
-  pub rest-onward : (flags forwardCode backwardCode : ℕ) (at : Position) → InBytes bytes at → Onward bytes 0 at (restAt flags forwardCode backwardCode bytes at)
+  rest-onward : (flags forwardCode backwardCode : ℕ) (at : Position) → InBytes bytes at → Onward bytes 0 at (restAt flags forwardCode backwardCode bytes at)
   unfolding restAt
   rest-onward flags forwardCode backwardCode at within =
       then-onward (vectorsAt flags forwardCode backwardCode bytes at) (vectors-onward flags forwardCode backwardCode at within) λ vectors p e w.

@@ -1,6 +1,6 @@
 -- Laws of codes that are read: a code ends within the bytes, and what is read after it starts further on. Assumes nothing.
-use mathlib.Core.List.{List}
-use mathlib.Core.Path.{_≡_, refl, ap, subst}
+use mathlib.Core.List.{List, [], _++_, append-assoc}
+use mathlib.Core.Path.{_≡_, refl, sym, ap, subst}
 use Prim.Native.Nat.{ℕ, _+_, _^_, _<_, _≤_}
 use native.Mathlib.Omega.{arith}
 use lib.ListN.{length}
@@ -105,3 +105,15 @@ module _ (bytes : List ℕ) (at : Position) where
   pub word-below : {low high long : ℕ} (words : List Word) → ((v n : ℕ) → codeOf words (bitsFrom bytes at) ≡ Value v n → Known.Read low high long (bitsFrom bytes at) v n)
       → {v : ℕ} {p : Position} → wordAt words bytes at ≡ read v p → v ≤ high
   word-below words known {v} e = let t = taken (codeOf words (bitsFrom bytes at)) e in known v (t .size) (t .found) .most
+
+-- ---- a list that is read one at a time: what is still to be read comes behind what was
+abbrev pub after : {A : Type 0} → List A → Read (List A) → Read (List A)
+after some x = readThen x λ more p. read (some ++ more) p
+
+pub nothing-after : {A : Type 0} (x : Read (List A)) → after [] x ≡ x
+nothing-after (read a p) = refl
+nothing-after (refused refusal p) = refl
+
+pub after-after : {A : Type 0} (a b : List A) (x : Read (List A)) → after a (after b x) ≡ after (a ++ b) x
+after-after {A} a b (read c p) = ap (λ (l : List A). read l p) (sym (append-assoc a b c))
+after-after a b (refused refusal p) = refl

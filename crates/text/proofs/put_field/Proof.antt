@@ -1,11 +1,12 @@
 -- `put_field` meets its contract: the digits are as many as the number has. Assumes nothing.
-use mathlib.Core.List.{List, [], _∷_, _++_, append-assoc}
-use mathlib.Core.Path.{ap, _∙_}
+use mathlib.Core.Path.{_≡_, ap, _∙_}
 use Prim.Native.Nat.{ℕ, _+_, _≤_}
 use native.Mathlib.Omega.{arith}
-use lib.ListN.{length, take, length-take}
+use lib.ListN.{take, length-take}
 use Rattle.io.specs.Digits.{digits}
+use Rattle.text.specs.Number.{decimal}
 use Rattle.text.proofs.NumberLaws.{fewest, few}
+use Rattle.text.proofs.PutLaws.{put, put-then}
 use borrow.Author.Needs.{needs}
 use Rattle.text.proofs.put_field.Statement.{statement}
 use Rattle.text.proofs.put_field.Tie as tie
@@ -14,8 +15,11 @@ use Rattle.text.proofs.put_field.Tie as tie
 digits-few : (c : tie.After-decimal) → c .decimal .result ≤ 20
 digits-few c = few (c .before .before .before .args .number) (c .decimal .result) (omega (arith, c .before .before .before .fits)) (c .decimal .ensures .1 .0)
 
-digits-fit : (c : tie.After-decimal) → c .before .before .before .args .at + length (take (c .decimal .result) (c .decimal .last .1 .0)) ≤ length (c .before .before .before .args .text .now)
-digits-fit c = simp length-take (omega (arith, digits-few c, c .before .before .before .pre))
+-- and are those of the number
+digits-are : (c : tie.After-decimal) → take (c .decimal .result) (c .decimal .last .1 .0) ≡ decimal (c .before .before .before .args .number)
+digits-are c =
+    let number = c .before .before .before .args .number in
+    c .decimal .ensures .1 .1 ∙ ap (λ (k : ℕ). digits 10 k number) (fewest number (c .decimal .result) (c .decimal .ensures .1 .0))
 
 -- where they end
 digits-end : (c : tie.After-put-bytes) → c .put-bytes .result ≤ c .before .before .before .before .before .before .args .at + 20
@@ -31,7 +35,7 @@ slice-aggregate-put-bytes : tie.Need-slice-aggregate-put-bytes
 slice-aggregate-put-bytes c = search needs
 
 put-bytes-requires : tie.Need-put-bytes-requires
-put-bytes-requires c κs = digits-fit (c .before .before)
+put-bytes-requires c κs = simp length-take (omega (arith, digits-few (c .before .before), c .before .before .before .before .before .pre))
 
 slice-aggregate-put-bytes-2 : tie.Need-slice-aggregate-put-bytes-2
 slice-aggregate-put-bytes-2 c = search needs
@@ -44,16 +48,12 @@ same-length c = search needs
 
 returns : tie.Need-returns
 returns c =
-    let number = c .before .before .before .before .before .before .before .before .before .before .before .before .before .args .number in
-    let kept = take (c .before .before .before .before .before .before .before .before .before .before .before .before .before .args .at) (c .before .before .before .before .before .before .before .before .before .before .before .before .before .args .text .now) in
-    let after = c .before .before .before .before .before .before .before .before .before .before .before .before .before .args .after ∷ [] in
-    let digits-are = c .before .before .before .before .before .before .before .before .before .before .decimal .ensures .1 .1 ∙ ap (λ (k : ℕ). digits 10 k number) (fewest number (c .before .before .before .before .before .before .before .before .before .before .decimal .result) (c .before .before .before .before .before .before .before .before .before .before .decimal .ensures .1 .0)) in (
-      omega (arith, c .before .before .put-bytes2 .ensures .0, digits-end (c .before .before .before .before .before .before .before)),
-      c .before .before .put-bytes2 .ensures .1
-          ∙ ap (λ (l : List ℕ). l ++ after) (c .before .before .before .before .before .before .before .put-bytes .ensures .1)
-          ∙ append-assoc kept _ after
-          ∙ ap (λ (l : List ℕ). kept ++ (l ++ after)) digits-are,
-    )
+    let at-digits = c .before .before .before .before .before .before .before in
+    let one = at-digits .put-bytes in
+    let two = c .before .before .put-bytes2 in
+    let whole = put-then (put (one .ensures .0) (one .ensures .1)) (put (two .ensures .0) (two .ensures .1)) in
+    let same = digits-are (at-digits .before .before .before) in
+    rw (← same) (whole .ends, (omega (arith, two .ensures .0, digits-end at-digits), whole .lies))
 
 pub put-field-spec : {M : Type 1} → statement M
 put-field-spec =

@@ -1,71 +1,17 @@
--- `transform::in_range` meets its contract: before coefficient k the test of the first k was made. Assumes nothing.
-use Prim.Native.Nat.{ℕ, _+_, _-_, _≤_}
-use mathlib.Core.Path.{_≡_, refl}
-use mathlib.Core.Bool.{Bool, _&&_}
-use native.Mathlib.Numerals.{add-one}
-use native.Mathlib.Omega.{arith}
-use borrow.Author.Needs.{needs}
-use lib.IntN.{pos, negsuc}
+-- `transform::in_range` meets its contract: its tests are those of `inRange`, on the number that the bits stand for. Assumes nothing.
 use mir.Syntax.{w16}
 use mir.ValLaws.{toZ-ofZ}
-use Rattle.integers.specs.Bound.{at}
-use Rattle.integers.specs.Limit.{inRange}
-use Rattle.lists.specs.Test.{allBelow}
-use Rattle.transform.specs.Answer.{coefficientsInRange}
 use Rattle.transform.proofs.in_range.Statement.{statement}
 use Rattle.transform.proofs.in_range.Tie as tie
 
--- the test of one number more
-one-more : (n : ℕ) (test : ℕ → Bool) → test n && allBelow n test ≡ allBelow (n + 1) test
-unfolding allBelow
-one-more n test = rw add-one
+returns : tie.Need-returns
+returns c = let e = toZ-ofZ w16 _ (c .before .fits .c) in simp (simp e at (c .if1 .taken))
 
-abbrev Inv-loop : tie.InvT-loop
-Inv-loop coefficients legal₀ k₀ legal k =
-    (k ≤ 64) × (legal ≡ allBelow k (λ j. inRange (negsuc 2047) (pos 2047) (at coefficients j)))
+returns-2 : tie.Need-returns-2
+returns-2 c = let e = toZ-ofZ w16 _ (c .before .before .fits .c) in simp (simp e at (c .before .if1 .left), simp e at (c .if2 .taken))
 
-abbrev μ-loop : tie.MeasureT-loop
-μ-loop coefficients legal₀ k₀ legal k = 64 - k
-
-loop-holds : tie.Need-loop-holds Inv-loop μ-loop
-unfolding allBelow
-loop-holds c = (omega arith, refl)
-
-mul-is-in-range : tie.Need-mul-is-in-range Inv-loop μ-loop
-mul-is-in-range c = omega arith
-
-element-copy-out-is-in-range : tie.Need-element-copy-out-is-in-range Inv-loop μ-loop
-element-copy-out-is-in-range c = omega arith
-
-is-in-range-requires : tie.Need-is-in-range-requires Inv-loop μ-loop
-is-in-range-requires c κs = search needs
-
-add-k : tie.Need-add-k Inv-loop μ-loop
-add-k c = omega arith
-
-loop-less : tie.Need-loop-less Inv-loop μ-loop
-loop-less c = omega arith
-
-loop-again : tie.Need-loop-again Inv-loop μ-loop
-loop-again c =
-    let s = c .before .before .before in
-    (omega arith, rw (c .is-in-range .ensures, toZ-ofZ w16 _ (record { sfits = c .before .is-in-range-arg .given }), s .loop .inv .1) (one-more (s .loop .k) _))
-
-returns : tie.Need-returns Inv-loop μ-loop
-unfolding coefficientsInRange
-returns c = let all : c .before .loop .k ≡ 64 = omega arith in rw all at (c .before .loop .inv .1)
+returns-3 : tie.Need-returns-3
+returns-3 c = let e = toZ-ofZ w16 _ (c .before .before .fits .c) in simp (simp e at (c .before .if1 .left), simp e at (c .if2 .left))
 
 pub in-range-spec : {M : Type 1} → statement M
-in-range-spec =
-    tie.close
-    (tie.spec
-    Inv-loop
-    μ-loop
-    loop-holds
-    mul-is-in-range
-    element-copy-out-is-in-range
-    is-in-range-requires
-    add-k
-    loop-less
-    loop-again
-    returns)
+in-range-spec = tie.close (tie.spec returns returns-2 returns-3)

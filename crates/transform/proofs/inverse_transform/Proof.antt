@@ -1,4 +1,5 @@
--- `transform::idct` meets its contract: the two passes are the double sum. Assumes nothing.
+-- `transform::inverse_transform` meets its contract: the two passes are the double sum. Assumes nothing.
+use Prim.Native.Nat.{_^_}
 use mathlib.Core.List.{List}
 use mathlib.Core.Path.{sym, ap, _∙_, subst}
 use borrow.Author.Needs.{needs}
@@ -14,7 +15,7 @@ row-pass-requires : tie.Need-row-pass-requires
 row-pass-requires c κs = search needs
 
 column-pass-requires : tie.Need-column-pass-requires
-column-pass-requires c κs = subst (AllWithin 17179869184) (sym (c .row-pass .ensures)) (pass-within _ (c .before .pre))
+column-pass-requires c κs = subst (AllWithin (2 ^ 34)) (sym (c .row-pass .ensures)) (pass-within _ (c .before .pre))
 
 returns : tie.Need-returns
 returns c = c .column-pass .ensures ∙ ap (λ (t : List ℤ). tab 64 (λ k. residueOf (passed t k))) (c .before .row-pass .ensures) ∙ passes _

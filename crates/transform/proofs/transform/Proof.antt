@@ -6,17 +6,17 @@ use Rattle.transform.proofs.Passes.{in-range-within}
 use Rattle.transform.proofs.transform.Statement.{statement}
 use Rattle.transform.proofs.transform.Tie as tie
 
-in-range-requires : tie.Need-in-range-requires
-in-range-requires c κs = search needs
+all-in-range-requires : tie.Need-all-in-range-requires
+all-in-range-requires c κs = search needs
 
 inverse-transform-requires : tie.Need-inverse-transform-requires
 inverse-transform-requires c κs =
     let s = c .before .before .before in
-    in-range-within (s .args .t1) (omega arith) (sym (c .before .in-range .ensures) ∙ c .if1 .taken)
+    in-range-within (s .args .t1) (omega arith) (sym (c .before .all-in-range .ensures) ∙ c .if1 .taken)
 
 returns : tie.Need-returns
 returns c =
-    let e = sym (c .before .before .in-range .ensures) ∙ c .before .if1 .taken in
+    let e = sym (c .before .before .all-in-range .ensures) ∙ c .before .if1 .taken in
     (rw e, rw e (c .inverse-transform .ensures))
 
 number-requires : tie.Need-number-requires
@@ -24,10 +24,10 @@ number-requires c κs = search needs
 
 returns-2 : tie.Need-returns-2
 returns-2 c =
-    let e = sym (c .before .before .in-range .ensures) ∙ c .before .if1 .left in
+    let e = sym (c .before .before .all-in-range .ensures) ∙ c .before .if1 .left in
     (rw e (c .number .ensures), rw e)
 
 pub transform-spec : {M : Type 1} → statement M
 transform-spec =
     tie.close
-    (tie.spec in-range-requires inverse-transform-requires returns number-requires returns-2)
+    (tie.spec all-in-range-requires inverse-transform-requires returns number-requires returns-2)

@@ -1,9 +1,9 @@
 -- `read_i8` meets its contract: the byte, if there is one, stands for a signed number. Assumes nothing.
-use mathlib.Core.Path.{refl}
 use mir.Syntax.{w16}
 use borrow.Author.Needs.{needs}
 use Rattle.integers.proofs.Machine.{returned}
-use Rattle.format3.specs.Field.{signedByteOf}
+use Rattle.parsed.proofs.Parsed.{first-stops, last-finds}
+use Rattle.format3.specs.Field.{twosComplement, byte, signedByte}
 use Rattle.format3.proofs.field.read_i8.Statement.{statement}
 use Rattle.format3.proofs.field.read_i8.Tie as tie
 
@@ -17,15 +17,17 @@ enum-told : tie.Need-enum-told
 enum-told c = search needs
 
 returns : tie.Need-returns
-unfolding signedByteOf
-returns c = rw (← c .before .before .read-u8 .ensures, c .enum-told .given .1)
+unfolding signedByte
+returns c = first-stops byte _ _ (rw (c .enum-told .given .1) at (c .before .before .read-u8 .ensures))
 
 signed-byte-requires : tie.Need-signed-byte-requires
 signed-byte-requires c κs = search needs
 
 returns-2 : tie.Need-returns-2
-unfolding signedByteOf
-returns-2 c = rw (← c .before .before .before .before .read-u8 .ensures, c .before .before .value .given .1, ← c .signed-byte .ensures, returned w16 (c .signed-byte .ok) refl)
+unfolding signedByte
+returns-2 c =
+    let read = rw (c .before .before .value .given .1) at (c .before .before .before .before .read-u8 .ensures) in
+    rw (returned w16 (c .signed-byte .ok) (c .signed-byte .ensures)) (last-finds byte (twosComplement 128) _ read)
 
 pub read-i8-spec : {M : Type 1} → statement M
 read-i8-spec =

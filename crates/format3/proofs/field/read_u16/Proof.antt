@@ -1,4 +1,4 @@
--- `read_u16` meets its contract: the length is what `wordOf` asks, and two bytes fit a `u16`. Assumes nothing.
+-- `read_u16` meets its contract: the length is what `word` asks, and two bytes fit a `u16`. Assumes nothing.
 use native.Mathlib.Omega.{arith}
 use borrow.Author.Needs.{needs}
 use Rattle.format3.proofs.Laws.Field.{word-short, word-read}

@@ -1,4 +1,4 @@
--- `read_u8` meets its contract: the length is what `byteOf` asks. Assumes nothing.
+-- `read_u8` meets its contract: the length is what `byte` asks. Assumes nothing.
 use borrow.Author.Needs.{needs}
 use Rattle.format3.proofs.Laws.Field.{byte-short, byte-read}
 use Rattle.format3.proofs.field.read_u8.Statement.{statement}

@@ -8,7 +8,7 @@ use lib.Dec.{leb}
 use lib.ListN.{length}
 use borrow.Author.Tests.{le-leb, lt-leb}
 use borrow.Author.Needs.{needs}
-use Rattle.format3.specs.Chain.{only}
+use Rattle.parsed.specs.Guard.{need_else_then_}
 use Rattle.format3.specs.Record.{recordOf, lengthAt, kindAt}
 use Rattle.format3.proofs.Laws.Record.{none-left, few-left, head-left, past-end, before-end}
 use Rattle.format3.proofs.record.record_at.Statement.{statement}
@@ -33,14 +33,14 @@ unfolding lengthAt
 whole c = before-end _ _ (c .before .before .before .before .if2 .left) _ (c .if4 .left)
 
 returns : tie.Need-returns
-unfolding recordOf lengthAt kindAt only
+unfolding recordOf lengthAt kindAt need_else_then_
 returns c = rw (none-left _ _ (c .if1 .taken))
 
 sub-left : tie.Need-sub-left
 sub-left c = search needs
 
 returns-2 : tie.Need-returns-2
-unfolding recordOf lengthAt kindAt only
+unfolding recordOf lengthAt kindAt need_else_then_
 returns-2 c = rw (few-left _ _ (c .if2 .taken))
 
 shared-slice-read-high : tie.Need-shared-slice-read-high
@@ -65,14 +65,14 @@ add-length : tie.Need-add-length
 add-length c = omega (arith, c .before .shared-slice-known .given (c .before .before .before .before .args .offset), c .shared-slice-known2 .given (c .before .before .before .before .args .offset + 1))
 
 returns-3 : tie.Need-returns-3
-unfolding recordOf lengthAt kindAt only
+unfolding recordOf lengthAt kindAt need_else_then_
 returns-3 c = rw (head-left _ _ (c .before .before .before .if2 .left), lt-leb _ _ (c .if3 .taken))
 
 sub-if4 : tie.Need-sub-if4
 sub-if4 c = search needs
 
 returns-4 : tie.Need-returns-4
-unfolding recordOf lengthAt kindAt only
+unfolding recordOf lengthAt kindAt need_else_then_
 returns-4 c = rw (head-left _ _ (c .before .before .before .before .if2 .left), le-leb _ _ (c .before .if3 .left), past-end _ _ (c .before .before .before .before .if2 .left) _ (c .if4 .taken))
 
 add-kind : tie.Need-add-kind
@@ -82,18 +82,18 @@ shared-slice-read-kind : tie.Need-shared-slice-read-kind
 shared-slice-read-kind c = search needs
 
 returns-5 : tie.Need-returns-5
-unfolding recordOf lengthAt kindAt only
+unfolding recordOf lengthAt kindAt need_else_then_
 returns-5 c = rw (headed (c .before .before), some (c .before .before), whole (c .before .before), lt-leb _ _ (c .if5 .taken))
 
 returns-6 : tie.Need-returns-6
-unfolding recordOf lengthAt kindAt only
+unfolding recordOf lengthAt kindAt need_else_then_
 returns-6 c = rw (headed (c .before .before .before), some (c .before .before .before), whole (c .before .before .before), le-leb _ _ (c .before .if5 .left), lt-leb _ _ (c .if6 .taken))
 
 add-t8 : tie.Need-add-t8
 add-t8 c = search needs
 
 returns-7 : tie.Need-returns-7
-unfolding recordOf lengthAt kindAt only
+unfolding recordOf lengthAt kindAt need_else_then_
 returns-7 c = rw (headed (c .before .before .before), some (c .before .before .before), whole (c .before .before .before), le-leb _ _ (c .before .if5 .left), le-leb _ _ (c .if6 .left))
 
 pub record-at-spec : {M : Type 1} → statement M

@@ -1,90 +1,60 @@
--- `write::write_macroblock` meets its contract: before block b the first b blocks are written, of which the first were copied. Assumes nothing.
-use mathlib.Core.Path.{_≡_, refl, ap, _∙_}
-use mathlib.Core.List.{List}
-use Prim.Native.Nat.{ℕ, _-_, _≤_}
-use native.Mathlib.Omega.{arith}
-use lib.ListN.{length}
+-- `write::write_macroblock` meets its contract: intra where neither direction is used, and six blocks at the address's position in both cases. Assumes nothing.
+use mathlib.Core.Path.{_∙_}
+use borrow.Author.Tests.{not-true}
 use Rattle.transform.specs.Transform.{inverseTransform}
-use Rattle.macroblock.specs.Place.{placeOf, putAt}
-use Rattle.macroblock.specs.Block.{blockOf}
-use Rattle.macroblock.specs.Macroblock.{withBlocks}
-use Rattle.macroblock.proofs.RunLaws.{blocks-again}
-use Rattle.macroblock.proofs.BlocksLaws.{blocks-more}
+use Rattle.blocks.specs.Stored.{sixBlocks}
+use Rattle.macroblock.specs.Place.{positionOf}
+use Rattle.macroblock.specs.Compensation.{references}
+use Rattle.macroblock.proofs.PlaceLaws.{position-inside}
+use Rattle.macroblock.proofs.RunLaws.{blocks-drawable}
+use Rattle.macroblock.proofs.ResidueLaws.{intra-blocks}
 use Rattle.macroblock.proofs.write.write_macroblock.Statement.{statement}
 use Rattle.macroblock.proofs.write.write_macroblock.Tie as tie
 
-abbrev Inv-loop : tie.InvT-loop
-Inv-loop output₀ forward backward address motion pattern coefficients position copied block₀ output block =
-    let blocks = blockOf inverseTransform forward backward position motion pattern coefficients in
-    (block ≤ 6) × ((l : List ℕ) → output₀ ≡ withBlocks position blocks block₀ l → output ≡ withBlocks position blocks block l) × (length output ≡ length output₀)
-
-abbrev μ-loop : tie.MeasureT-loop
-μ-loop output₀ forward backward address motion pattern coefficients position copied block₀ output block = 6 - block
-
-position-of-requires : tie.Need-position-of-requires Inv-loop μ-loop
+position-of-requires : tie.Need-position-of-requires
 position-of-requires c κs = c .before .before .before .pre .0 .size
 
-copy-blocks-requires : tie.Need-copy-blocks-requires Inv-loop μ-loop
-copy-blocks-requires c κs =
-    let called = c .before in
-    rw (called .position-of .ensures) (blocks-again (called .before .before .before .before .pre .0) refl)
+write-intra-requires : tie.Need-write-intra-requires
+write-intra-requires c κs =
+    let at-position = c .before .before .before .before .before in
+    let s = at-position .before .before .before .before in
+    rw (at-position .position-of .ensures) (position-inside (s .args .address) (s .pre .0 .size) (s .pre .0 .inside), s .pre .0 .lent .output-whole, s .pre .1)
 
-loop-holds : tie.Need-loop-holds Inv-loop μ-loop
-loop-holds c = (omega (arith, c .before .before .copy-blocks .ensures .0), (λ l e. e), refl)
+same-length : tie.Need-same-length
+same-length c = c .before .before .write-intra .kept .0
 
-write-block-requires : tie.Need-write-block-requires Inv-loop μ-loop
-write-block-requires c κs =
-    let head = c .before .before in
-    let copy = head .before .before .before in
-    let called = copy .before .before in
-    let s = called .before .before .before .before in
-    (rw (called .position-of .ensures) (blocks-again (s .pre .0) (head .loop .inv .2 ∙ copy .copy-blocks .kept .0)), s .pre .1, c .before .loop-test .taken)
-
-add-block : tie.Need-add-block Inv-loop μ-loop
-add-block c = omega arith
-
-loop-less : tie.Need-loop-less Inv-loop μ-loop
-loop-less c = omega arith
-
-loop-again : tie.Need-loop-again Inv-loop μ-loop
-loop-again c =
-    let call = c .before .before in
-    let head = call .before .before .before in
-    let called = head .before .before .before .before .before in
-    let a = called .before .before .before .before .args in
-    let p = called .position-of .result in (
-      omega arith,
-      (λ l e. call .write-block .ensures
-          ∙ ap (putAt (placeOf p (head .loop .block)) (blockOf inverseTransform (a .forward .now) (a .backward .now) p (a .motion) (a .pattern) (a .coefficients .now) (head .loop .block))) (head .loop .inv .1 l e)
-          ∙ blocks-more p _ (head .loop .block) l),
-      call .write-block .kept .0 ∙ head .loop .inv .2,
-    )
-
-same-length : tie.Need-same-length Inv-loop μ-loop
-same-length c = let head = c .before in head .loop .inv .2 ∙ head .before .before .before .copy-blocks .kept .0
-
-returns : tie.Need-returns Inv-loop μ-loop
+returns : tie.Need-returns
 returns c =
-    let head = c .before in
-    let copy = head .before .before .before in
-    let called = copy .before .before in
-    let a = called .before .before .before .before .args in
-    let all : head .loop .block ≡ 6 = omega arith in
-    head .loop .inv .1 (a .output .now) (copy .copy-blocks .ensures .1)
-    ∙ (λ i. withBlocks (called .position-of .ensures i) (blockOf inverseTransform (a .forward .now) (a .backward .now) (called .position-of .ensures i) (a .motion) (a .pattern) (a .coefficients .now)) (all i) (a .output .now))
+    let neither = c .before .before .before .before in
+    let forward = neither .before .before in
+    let at-position = forward .before .before in
+    let a = at-position .before .before .before .before .args in
+    c .before .before .write-intra .ensures ∙ rw (at-position .position-of .ensures)
+    (intra-blocks inverseTransform (references (a .forward .now) (a .backward .now)) (positionOf (a .size) (a .address)) (a .motion) (a .pattern) (sixBlocks (a .coefficients .now)) (a .output .now)
+    (not-true _ (forward .if1 .taken)) (not-true _ (neither .if2 .taken)))
+
+write-inter-requires : tie.Need-write-inter-requires
+write-inter-requires c κs =
+    let at-position = c .before .before .before in
+    let s = at-position .before .before .before .before in
+    (rw (at-position .position-of .ensures) (blocks-drawable (s .pre .0)), s .pre .1)
+
+same-length-2 : tie.Need-same-length-2
+same-length-2 c = c .before .before .write-inter .kept .0
+
+returns-2 : tie.Need-returns-2
+returns-2 c =
+    let inter = c .before .before in
+    inter .write-inter .ensures ∙ rw (inter .before .before .before .before .position-of .ensures)
 
 pub write-macroblock-spec : {M : Type 1} → statement M
 write-macroblock-spec =
     tie.close
     (tie.spec
-    Inv-loop
-    μ-loop
     position-of-requires
-    copy-blocks-requires
-    loop-holds
-    write-block-requires
-    add-block
-    loop-less
-    loop-again
+    write-intra-requires
     same-length
-    returns)
+    returns
+    write-inter-requires
+    same-length-2
+    returns-2)

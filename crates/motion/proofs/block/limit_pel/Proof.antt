@@ -1,7 +1,6 @@
 -- `block::limit_pel` meets its contract: each way rewrites with the tests that led there. Assumes nothing.
 use mir.Syntax.{w16}
 use mir.ValLaws.{toZ-ofZ}
-use Rattle.integers.specs.Bound.{at}
 use Rattle.motion.proofs.block.limit_pel.Statement.{statement}
 use Rattle.motion.proofs.block.limit_pel.Tie as tie
 

@@ -9,7 +9,7 @@ use Rattle.motion.proofs.MeanLaws.{predicted-whole, predicted-half, pre
 use Rattle.motion.proofs.prediction.predict_pel.Statement.{statement}
 use Rattle.motion.proofs.prediction.predict_pel.Tie as tie
 
--- so many columns to the right of a place, so many lines below it, and both
+-- the place of a pel to the right of another, below it, and both
 across : (stride x y right : ℕ) → y * stride + x + right ≡ y * stride + (x + right)
 across stride x y right = omega arith
 
@@ -100,7 +100,7 @@ returns-3 c =
     let x = a .px / 2 + a .k % 8 in
     let y = a .py / 2 + a .k / 8 in
     rw (c .mean-of-four .ensures, farther (a .stride) x y (a .px % 2) (a .py % 2), below (a .stride) x y (a .py % 2), across (a .stride) x y (a .px % 2))
-    (simp add-zero at (predicted-mean (a .plane .now) (a .stride) (a .px) (a .py) (a .k)))
+    (simp add-zero at (predicted-mean (a .plane .now) (a .stride) (a .px) (a .py) (a .k) (omega arith)))
 
 pub predict-pel-spec : {M : Type 1} → statement M
 predict-pel-spec =

@@ -1,137 +1,157 @@
--- `picture::macroblock_record::act_macroblock` meets its contract: the symbols are read, what they come to is drawn, or the refusal is handed on; the
--- coefficients that stood in the store before do not matter. Assumes nothing.
-use mathlib.Core.Path.{_≡_, refl, sym, ap, _∙_, subst}
-use borrow.Author.Needs.{needs}
-use lib.IntN.{pos}
-use lib.ListN.{replicate}
-use Rattle.macroblock_symbols.proofs.Laws.Macroblock.{SymbolsLegal, legal-symbols, coefficients-within, coefficients-length}
-use Rattle.macroblock_symbols.proofs.Laws.Fresh.{coefficients-fresh}
-use Rattle.macroblock_symbols.specs.MacroblockSymbols.{symbolsOf, coefficientsOf, LegalContext}
-use Rattle.macroblock_symbols.specs.declared.MacroblockContext.{MacroblockContext}
-use Rattle.macroblock_symbols.specs.declared.SymbolsAnswer.{SymbolsAnswer}
-use Rattle.picture_state.specs.Plan.{planOf}
-use Rattle.picture_state.specs.declared.state.PictureState.{PictureState}
-use Rattle.picture_state.specs.declared.plan.Plan.{Plan}
-use Rattle.picture.proofs.SoundLaws.{plannable, planned}
-use Rattle.picture.proofs.FreshLaws.{drawn-same}
-use Rattle.picture.specs.MacroblockRecord.{Acted, contextOf, outcomeOf, drawn, macroblockActed}
-use Rattle.picture.specs.Sound.{StateWithin, Planned, Store}
+-- `macroblock_record::act_macroblock` meets its contract: the symbols are read and planned, and the way that their pattern says is taken, or the refusal is
+-- handed on. Assumes nothing.
+use mathlib.Core.List.{List}
+use mathlib.Core.Path.{_≡_, sym, ap, _∙_, subst}
+use Prim.Native.Nat.{ℕ, _-_}
+use native.Mathlib.Omega.{arith}
+use lib.ListN.{length, drop, length-drop}
 use Rattle.transform.specs.Transform.{inverseTransform}
+use Rattle.parsed.specs.Parsed.{Finds}
+use Rattle.format3.proofs.Laws.Field.{rest-from}
+use Rattle.matrices.specs.Matrix.{matricesOf}
+use Rattle.macroblock_symbols.specs.Macroblock.{symbolsOf, symbolsFound, macroblockWith}
+use Rattle.blocks.specs.declared.dc.DcPasts.{DcPasts}
+use Rattle.macroblock_symbols.specs.declared.SymbolsAnswer.{SymbolsAnswer}
+use Rattle.macroblock_symbols.specs.declared.SymbolsAnswer.the-variants.{Legal}
+use Rattle.macroblock_symbols.proofs.Laws.Macroblock.{noneCoded}
+use Rattle.macroblock.specs.Compensation.{references}
+use Rattle.macroblock.proofs.BlocksLaws.{macroblocks-none}
+use Rattle.picture_state.specs.Plan.{planOf}
+use Rattle.picture_state.specs.declared.plan.Plan.{Plan}
+use Rattle.picture.specs.MacroblockRecord.{contextOf, recordFit, fitVerdict, planned, reconstructedFrom, macroblockActed}
+use Rattle.picture.specs.Sound.{Planned, Makeable, Given, startingPlan}
+use Rattle.picture.proofs.ReadLaws.{symbols-refused, symbols-read, decoding, bytes-behind, predicted}
+use Rattle.picture.proofs.SoundLaws.{given-legal, plannable, makeable}
+use Rattle.picture.proofs.WriteLaws.{same-outcome, any-coefficients}
+use borrow.Author.Needs.{needs}
 use Rattle.picture.proofs.macroblock_record.act_macroblock.Statement.{statement}
 use Rattle.picture.proofs.macroblock_record.act_macroblock.Tie as tie
-
--- the context's own tests, and what was read, of the state itself
-legal-context : (s : PictureState) → StateWithin s → LegalContext (contextOf s)
-legal-context s w = record { legal-pasts = w .dc; legal-scale = w .scale }
-
-abbrev start : (c : tie.After-read-macroblock) → tie.Start
-start c = c .before .before .before .before .before .before .before .before
-
-read : (c : tie.After-read-macroblock) {a : SymbolsAnswer} → c .read-macroblock .result ≡ a
-    → let a0 = start c .args in let s = a0 .picture in symbolsOf (contextOf s) (s .matrices .intra) (s .matrices .«non_intra») (a0 .body .now) ≡ a
-read c e =
-    let a = start c .args in
-    let s = a .picture in
-    ap (λ (x : MacroblockContext). symbolsOf x (s .matrices .intra) (s .matrices .«non_intra») (a .body .now)) (sym (c .before .before .before .context-of .ensures))
-    ∙ sym (c .read-macroblock .ensures .0) ∙ e
-
-legal : (c : tie.After-symbols) → SymbolsLegal (contextOf (start (c .before .before) .args .picture)) (c .symbols .given .0 .0)
-legal c =
-    let b = start (c .before .before) in
-    let s = b .args .picture in
-    legal-symbols (contextOf s) (s .matrices .intra) (s .matrices .«non_intra») (legal-context s (b .pre .0 .state)) (b .args .body .now) (read (c .before .before) (c .symbols .given .1))
-
--- the coefficients that were read
-coefficients-read : (c : tie.After-read-macroblock)
-    → let a = start c .args in let s = a .picture in
-    c .read-macroblock .last .1 .1 .1 .0 ≡ coefficientsOf (contextOf s) (s .matrices .intra) (s .matrices .«non_intra») (a .body .now) (a .coefficients .now)
-coefficients-read c =
-    let a = start c .args in
-    let s = a .picture in
-    c .read-macroblock .ensures .1
-    ∙ ap (λ (x : MacroblockContext). coefficientsOf x (s .matrices .intra) (s .matrices .«non_intra») (a .body .now) (a .coefficients .now)) (c .before .before .before .context-of .ensures)
-
--- they are a store again
-stored : (c : tie.After-read-macroblock) → Store (c .read-macroblock .last .1 .1 .1 .0)
-stored c =
-    let b = start c in
-    let a = b .args in
-    let s = a .picture in
-    let legal = legal-context s (b .pre .0 .state) in
-    subst Store (sym (coefficients-read c)) (record {
-      long = coefficients-length (contextOf s) (s .matrices .intra) (s .matrices .«non_intra») legal (a .body .now) (a .coefficients .now) ∙ b .pre .1 .long;
-      small = coefficients-within (contextOf s) (s .matrices .intra) (s .matrices .«non_intra») legal (a .body .now) (a .coefficients .now) (b .pre .1 .small);
-    })
-
--- what is drawn is what the definition draws, which reads into zeros
-drawn-once : (c : tie.After-make-plan)
-    → let at-symbols = c .before .before in
-    let at-read = at-symbols .before .before in
-    let a = start at-read .args in
-    let s = a .picture in
-    let m = at-symbols .symbols .given .0 .0 in
-    drawn inverseTransform (a .forward .now) (a .backward .now) s (c .make-plan .result) (m .pattern) (at-read .read-macroblock .last .1 .1 .1 .0) (a .output .now)
-    ≡ drawn inverseTransform (a .forward .now) (a .backward .now) s (planOf s m) (m .pattern)
-    (coefficientsOf (contextOf s) (s .matrices .intra) (s .matrices .«non_intra») (a .body .now) (replicate 384 (pos 0))) (a .output .now)
-drawn-once c =
-    let at-symbols = c .before .before in
-    let at-read = at-symbols .before .before in
-    let b = start at-read in
-    let a = b .args in
-    let s = a .picture in
-    let m = at-symbols .symbols .given .0 .0 in
-    (λ i. drawn inverseTransform (a .forward .now) (a .backward .now) s (c .make-plan .ensures i) (m .pattern) (coefficients-read at-read i) (a .output .now))
-    ∙ drawn-same inverseTransform (a .forward .now) (a .backward .now) s (planOf s m) (m .pattern) (coefficientsOf (contextOf s) (s .matrices .intra) (s .matrices .«non_intra») (a .body .now))
-    (a .coefficients .now) (replicate 384 (pos 0)) (a .output .now)
-    (coefficients-fresh (contextOf s) (s .matrices .intra) (s .matrices .«non_intra») (legal-context s (b .pre .0 .state)) (a .body .now) (read at-read (at-symbols .symbols .given .1)))
-    (b .pre .1 .long) refl
 
 context-of-requires : tie.Need-context-of-requires
 context-of-requires c κs = search needs
 
-read-macroblock-requires : tie.Need-read-macroblock-requires
-read-macroblock-requires c κs =
-    let b = c .before .before .before .before .before .before .before in
-    subst LegalContext (sym (c .before .before .context-of .ensures)) (legal-context (b .args .picture) (b .pre .0 .state))
+read-symbols-requires : tie.Need-read-symbols-requires
+read-symbols-requires c κs = search needs
 
-enum-known-refusal : tie.Need-enum-known-refusal
-enum-known-refusal c = search needs
+-- what an answer of the symbols' reader finds, by the definition's context
+abbrev found-by : tie.After-read-symbols → SymbolsAnswer → Type 0
+found-by c answer = Finds (symbolsOf (contextOf (c .before .before .before .before .before .before .args .picture))) (c .before .before .before .before .before .before .args .body .now) (symbolsFound answer)
 
-enum-known-symbols : tie.Need-enum-known-symbols
-enum-known-symbols c = search needs
+found : (c : tie.After-read-symbols) → found-by c (c .read-symbols .result)
+found c = rw (c .before .context-of .ensures) at (c .read-symbols .ensures)
 
-make-plan-requires : tie.Need-make-plan-requires
-make-plan-requires c κs = let at-symbols = c .before in plannable _ _ (start (at-symbols .before .before) .pre .0 .state) (legal at-symbols)
+enum-known-answer : tie.Need-enum-known-answer
+enum-known-answer c = search needs
 
-draw-requires : tie.Need-draw-requires
-draw-requires c κs =
-    let at-symbols = c .before .before .before .before in
-    let b = start (at-symbols .before .before) in
-    let a = b .args in (
-      subst (λ (p : Plan). Planned (a .picture) p (a .forward .now) (a .backward .now) (a .output .now)) (sym (c .before .before .make-plan .ensures))
-          (planned (a .picture) (at-symbols .symbols .given .0 .0) (a .forward .now) (a .backward .now) (a .output .now) (b .pre .0) (legal at-symbols)),
-      stored (at-symbols .before .before) .small,
-    )
+enum-told : tie.Need-enum-told
+enum-told c = search needs
+
+symbols-refusal-requires : tie.Need-symbols-refusal-requires
+symbols-refusal-requires c κs = search needs
+
+refused-record-requires : tie.Need-refused-record-requires
+refused-record-requires c κs = search needs
 
 returns : tie.Need-returns
-unfolding macroblockActed
 returns c =
-    let at-refusal = c .before .before .before .before .before in
-    let e = read (at-refusal .before .before) (at-refusal .refusal .given .1) in (rw e, (rw e, stored (at-refusal .before .before)))
+    let a = c .before .before .before .before .before .before .before .before .before .before .args in
+    let e = symbols-refused (matricesOf (a .intra .now) (a .«non-intra» .now)) (a .picture) (a .body .now) (subst (λ (x : SymbolsAnswer). found-by (c .before .before .before .before) x) (c .before .before .enum-told .given .1) (found (c .before .before .before .before))) in
+    (rw e (c .refused-record .ensures ∙ rw (c .before .symbols-refusal .ensures, c .before .before .enum-told .given .1)), rw e (macroblocks-none _ _ _ _))
+
+reset-pasts-requires : tie.Need-reset-pasts-requires
+reset-pasts-requires c κs = search needs
+
+-- the symbols that were read
+legal : (c : tie.After-answer) → found-by (c .before .before) (Legal (c .answer .given .0 .0) (c .answer .given .0 .1 .0))
+legal c = subst (λ (x : SymbolsAnswer). found-by (c .before .before) x) (c .answer .given .1) (found (c .before .before))
+
+given : (c : tie.After-answer) → Given (c .before .before .before .before .before .before .before .before .args .picture) (c .answer .given .0 .0)
+given c = record { body = c .before .before .before .before .before .before .before .before .args .body .now; rest = _; read = legal c .0 }
+
+make-plan-requires : tie.Need-make-plan-requires
+make-plan-requires c κs = (plannable (c .before .before .before .before .before .before .before .before .before .before .before .before .args .picture) _ (c .before .before .before .before .before .before .before .before .before .before .before .before .pre .state) (given-legal (given (c .before .before .before .before))))
+
+-- their plan
+plan-is : (c : tie.After-make-plan) → c .make-plan .result ≡ startingPlan (c .before .before .before .before .before .before .before .before .before .before .before .before .before .args .picture) (c .before .before .before .before .before .answer .given .0 .0)
+plan-is c =
+    let a = c .before .before .before .before .before .before .before .before .before .before .before .before .before .args in
+    c .make-plan .ensures ∙ ap (λ (dc : DcPasts). planOf (a .picture) (record { symbols = c .before .before .before .before .before .answer .given .0 .0; dc = dc })) (c .before .reset-pasts .ensures)
+
+same-pattern : (c : tie.After-make-plan) → c .make-plan .result .pattern ≡ c .before .before .before .before .before .answer .given .0 .0 .pattern
+unfolding planOf
+same-pattern c = ap (λ (p : Plan). p .pattern) (plan-is c)
+
+record-fit-requires : tie.Need-record-fit-requires
+record-fit-requires c κs =
+    let a = c .before .before .before .before .before .before .before .before .before .before .before .before .before .args in
+    subst (Planned (a .picture .header .size)) (sym (plan-is c)) (makeable (a .picture) _ (c .before .before .before .before .before .before .before .before .before .before .before .before .before .pre .state) (given-legal (given (c .before .before .before .before .before))) (c .before .before .before .before .before .before .before .before .before .before .before .before .before .pre .lent) .planned)
+
+fit-verdict-requires : tie.Need-fit-verdict-requires
+fit-verdict-requires c κs = search needs
+
+sub-rest : tie.Need-sub-rest
+sub-rest c = legal (c .before .before .before .before .before .before .before) .1
+
+part-rest-start : tie.Need-part-rest-start
+part-rest-start c = legal (c .before .before .before .before .before .before .before) .1
+
+part-rest-end : tie.Need-part-rest-end
+part-rest-end c = search needs
+
+verdict-is : (c : tie.After-fit-verdict) → c .fit-verdict .result ≡ fitVerdict (recordFit (c .before .before .before .before .before .before .before .before .before .before .before .before .before .before .before .args .picture .header .size) (c .before .before .make-plan .result))
+verdict-is c = c .fit-verdict .ensures ∙ ap fitVerdict (c .before .record-fit .ensures)
+
+-- what is left after the symbols
+abbrev behind : tie.After-answer → List ℕ
+behind c = drop (c .answer .given .0 .1 .0 .at) (c .before .before .before .before .before .before .before .before .args .body .now)
+
+acted : (c : tie.After-answer) → let a = c .before .before .before .before .before .before .before .before .args in macroblockActed (matricesOf (a .intra .now) (a .«non-intra» .now)) (a .picture) (a .body .now) ≡ reconstructedFrom (matricesOf (a .intra .now) (a .«non-intra» .now)) (a .picture) (macroblockWith (a .picture .slice .dc) (c .answer .given .0 .0) (behind c))
+acted c = let a = c .before .before .before .before .before .before .before .before .args in symbols-read (matricesOf (a .intra .now) (a .«non-intra» .now)) (a .picture) (a .body .now) (legal c)
+
+long : (c : tie.After-answer) → length (behind c) ≡ length (c .before .before .before .before .before .before .before .before .args .body .now) - c .answer .given .0 .1 .0 .at
+long c = length-drop (c .answer .given .0 .1 .0 .at) (c .before .before .before .before .before .before .before .before .args .body .now)
+
+act-coded-requires : tie.Need-act-coded-requires
+act-coded-requires c κs = (c .before .before .before .before .before .before .before .before .before .before .before .before .before .before .before .before .before .before .before .pre, given (c .before .before .before .before .before .before .before .before .before .before .before), plan-is (c .before .before .before .before .before .before), verdict-is (c .before .before .before .before))
 
 same-length : tie.Need-same-length
 same-length c = search needs
 
 returns-2 : tie.Need-returns-2
-unfolding macroblockActed
 returns-2 c =
-    let at-draw = c .before .before in
-    let at-plan = at-draw .before .before .before in
-    let at-symbols = at-plan .before .before in
-    let e = read (at-symbols .before .before) (at-symbols .symbols .given .1) in
-    let same = drawn-once at-plan in (
-      rw e (at-draw .draw .ensures .0 ∙ ap outcomeOf same),
-      (rw e (at-draw .draw .ensures .1 ∙ ap (λ (x : Acted). x .output) same), stored (at-symbols .before .before)),
+    let e = acted (c .before .before .before .before .before .before .before .before .before .before .before .before .before .before) in
+    (rw e (rw rest-from at (c .before .before .act-coded .ensures .0)), rw e (rw rest-from at (c .before .before .act-coded .ensures .1)))
+
+refused-record-requires-2 : tie.Need-refused-record-requires-2
+refused-record-requires-2 c κs = search needs
+
+returns-3 : tie.Need-returns-3
+returns-3 c =
+    let a = c .before .before .before .before .before .before .before .before .before .before .before .before .before .before .before .before .before .before .before .before .args in
+    let e = acted (c .before .before .before .before .before .before .before .before .before .before .before .before) ∙ bytes-behind (matricesOf (a .intra .now) (a .«non-intra» .now)) (a .picture) (c .before .before .before .before .before .before .before .before .before .before .before .before .answer .given .0 .0) (behind (c .before .before .before .before .before .before .before .before .before .before .before .before)) (c .before .before .if1 .left) (omega (arith, long (c .before .before .before .before .before .before .before .before .before .before .before .before), c .before .if2 .taken)) in
+    (rw e (c .refused-record2 .ensures), rw e (macroblocks-none _ _ _ _))
+
+write-predicted-requires : tie.Need-write-predicted-requires
+write-predicted-requires c κs =
+    let a = c .before .before .before .before .before .before .before .before .before .before .before .before .before .before .before .before .before .before .before .before .args in (
+      subst (λ (x : Plan). Makeable (a .picture) x (a .forward .now) (a .backward .now) (a .output .now)) (sym (plan-is (c .before .before .before .before .before .before .before)))
+          (makeable (a .picture) _ (c .before .before .before .before .before .before .before .before .before .before .before .before .before .before .before .before .before .before .before .before .pre .state) (given-legal (given (c .before .before .before .before .before .before .before .before .before .before .before .before))) (c .before .before .before .before .before .before .before .before .before .before .before .before .before .before .before .before .before .before .before .before .pre .lent)),
+      verdict-is (c .before .before .before .before .before),
+      same-pattern (c .before .before .before .before .before .before .before) ∙ c .before .before .if1 .left,
+    )
+
+same-length-2 : tie.Need-same-length-2
+same-length-2 c = search needs
+
+returns-4 : tie.Need-returns-4
+returns-4 c =
+    let a = c .before .before .before .before .before .before .before .before .before .before .before .before .before .before .before .before .before .before .before .before .before .before .before .args in
+    let m = c .before .before .before .before .before .before .before .before .before .before .before .before .before .before .before .answer .given .0 .0 in
+    let plan = c .before .before .before .before .before .before .before .before .before .before .make-plan .result in
+    let coefficients = decoding (matricesOf (a .intra .now) (a .«non-intra» .now)) (a .picture) m (behind (c .before .before .before .before .before .before .before .before .before .before .before .before .before .before .before)) noneCoded .coefficients in
+    let e = acted (c .before .before .before .before .before .before .before .before .before .before .before .before .before .before .before) ∙ predicted (matricesOf (a .intra .now) (a .«non-intra» .now)) (a .picture) m (behind (c .before .before .before .before .before .before .before .before .before .before .before .before .before .before .before)) (c .before .before .before .before .before .if1 .left) (given-legal (given (c .before .before .before .before .before .before .before .before .before .before .before .before .before .before .before)) .none-coded (c .before .before .before .before .before .if1 .left)) (omega (arith, long (c .before .before .before .before .before .before .before .before .before .before .before .before .before .before .before), c .before .before .before .before .if2 .left)) ∙ ap (λ (p : Plan). planned (a .picture) p coefficients) (sym (plan-is (c .before .before .before .before .before .before .before .before .before .before))) in (
+      rw e (c .before .before .write-predicted .ensures .0 ∙ sym (same-outcome (a .picture) plan coefficients)),
+      rw e (c .before .before .write-predicted .ensures .1 ∙ sym (any-coefficients (a .picture) plan inverseTransform (references (a .forward .now) (a .backward .now)) (same-pattern (c .before .before .before .before .before .before .before .before .before .before) ∙ c .before .before .before .before .before .if1 .left) coefficients (a .output .now))),
     )
 
 pub act-macroblock-spec : {M : Type 1} → statement M
@@ -139,11 +159,24 @@ act-macroblock-spec =
     tie.close
     (tie.spec
     context-of-requires
-    read-macroblock-requires
-    enum-known-refusal
-    enum-known-symbols
-    make-plan-requires
-    draw-requires
+    read-symbols-requires
+    enum-known-answer
+    enum-told
+    symbols-refusal-requires
+    refused-record-requires
     returns
+    reset-pasts-requires
+    make-plan-requires
+    record-fit-requires
+    fit-verdict-requires
+    sub-rest
+    part-rest-start
+    part-rest-end
+    act-coded-requires
     same-length
-    returns-2)
+    returns-2
+    refused-record-requires-2
+    returns-3
+    write-predicted-requires
+    same-length-2
+    returns-4)

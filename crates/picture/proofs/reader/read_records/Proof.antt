@@ -1,90 +1,174 @@
--- `picture::reader::read_records` meets its contract: what is left of the file gives the whole, at every turn of the loop; what is left falls. Assumes nothing.
-use Prim.Native.Nat.{_-_}
-use mathlib.Core.Path.{_≡_, refl, sym, ap, _∙_}
+-- `reader::read_records` meets its contract: the macroblocks made so far, and what is left of the file, give the whole, at every turn of the loop; what is left
+-- falls. Assumes nothing.
+use Prim.Native.Nat.{ℕ, _+_, _-_, _≤_}
+use mathlib.Core.Logic.{⊎-elim}
+use mathlib.Core.Path.{_≡_, sym, ap, _∙_, subst}
+use native.Mathlib.Nat.{add-sub-cancel-left}
 use native.Mathlib.Omega.{arith}
-use borrow.Author.Needs.{needs}
-use lib.IntN.{pos}
-use lib.ListN.{length, replicate}
-use Rattle.integers.proofs.Bound.{table-within}
+use borrow.Author.Tests.{eq-eqb, ne-eqb}
+use lib.ListN.{length, take, drop}
+use Rattle.format3.specs.Record.{matrix, recordOf}
+use Rattle.format3.specs.declared.record.Record.the-variants as Record
 use Rattle.format3.specs.declared.verdict.Verdict.{Verdict}
-use Rattle.picture.specs.declared.records.Step.{Step}
-use Rattle.picture.specs.Sound.{Store}
-use Rattle.picture.proofs.ReaderLaws.{taken, Whole, whole-start, whole-done, whole-refused, whole-next}
-use Rattle.picture.proofs.SoundLaws.{taken-ends}
+use Rattle.format3.specs.declared.verdict.Verdict.the-variants.{Passed}
+use Rattle.format3.proofs.Laws.Record.{Inside, inside}
+use Rattle.matrices.specs.Matrix.{loadedWith}
 use Rattle.transform.specs.Transform.{inverseTransform}
+use Rattle.macroblock.specs.Compensation.{references}
+use Rattle.macroblock.proofs.BlocksLaws.{macroblocks-none}
+use Rattle.picture.specs.MacroblockRecord.{outcomeOf, written}
+use Rattle.picture.specs.Step.{acted, Taken, takenAt}
+use Rattle.picture.specs.declared.macroblock_record.Outcome.{Outcome}
+use Rattle.picture.proofs.ReaderLaws.{Whole, whole-start, whole-done, whole-refused, whole-next}
+use Rattle.picture.proofs.RecordLaws.{refused-makes-none, taken-found, taken-unfound, matrix-long}
+use Rattle.picture.proofs.SoundLaws.{taken-ends}
+use borrow.Author.Needs.{needs}
 use Rattle.picture.proofs.reader.read_records.Statement.{statement}
 use Rattle.picture.proofs.reader.read_records.Tie as tie
 
 abbrev Inv-loop : tie.InvT-loop
-Inv-loop file start forward backward output₀ coefficients₀ at₀ picture₀ output coefficients at picture =
-    Whole file forward backward start picture₀ output₀ output at picture × Store coefficients
+Inv-loop file start forward backward output₀ at₀ picture₀ matrices₀ output at picture matrices = Whole inverseTransform (references forward backward) file start picture₀ output₀ output at picture matrices
 
 abbrev μ-loop : tie.MeasureT-loop
-μ-loop file start forward backward output₀ coefficients₀ at₀ picture₀ output coefficients at picture = length file - at
+μ-loop file start forward backward output₀ at₀ picture₀ matrices₀ output at picture matrices = length file - at
 
--- the loop's head, and the call's own arguments, of a record that was taken
-abbrev head : (c : tie.After-take-record Inv-loop μ-loop) → tie.At-loop Inv-loop μ-loop
-head c = c .before .before .before .before
-
-abbrev start : (c : tie.After-take-record Inv-loop μ-loop) → tie.Start Inv-loop μ-loop
-start c = head c .before .before .before .before .before
-
--- the verdict of the record that was taken, by the definition
-verdict-of : (c : tie.After-take-record Inv-loop μ-loop) {v : Verdict} → c .take-record .result .verdict ≡ v
-    → let a = start c .args in taken (a .file .now) (a .forward .now) (a .backward .now) (head c .loop .at) (head c .loop .picture) (head c .loop .output) .acts .verdict ≡ v
-verdict-of c e = sym (ap (λ (t : Step). t .verdict) (c .take-record .ensures .0)) ∙ e
+default-matrices-requires : tie.Need-default-matrices-requires Inv-loop μ-loop
+default-matrices-requires c κs = search needs
 
 loop-holds : tie.Need-loop-holds Inv-loop μ-loop
-loop-holds c =
-    let p = c .before .before .before .before .pre in
-    (whole-start _ _ _ _ _ _ (p .0) (p .1), record { long = refl; small = table-within 2048 (replicate 384 (pos 0)) tt })
+loop-holds c = rw (c .default-matrices .ensures) (whole-start _ _ _ _ _ _ (c .before .before .before .before .before .pre .0) (c .before .before .before .before .before .pre .1))
 
-take-record-requires : tie.Need-take-record-requires Inv-loop μ-loop
-take-record-requires c κs = let inv = c .before .before .before .loop .inv in (inv .0 .sound, inv .1)
+record-at-requires : tie.Need-record-at-requires Inv-loop μ-loop
+record-at-requires c κs = search needs
 
-enum-known-verdict : tie.Need-enum-known-verdict Inv-loop μ-loop
-enum-known-verdict c = search needs
+-- ---- the record at the offset, by the definition
+abbrev taken : tie.In-loop Inv-loop μ-loop → Taken
+taken c = takenAt (c .before .before .before .before .before .before .before .args .file .now) (c .before .loop .at) (c .before .loop .picture) (c .before .loop .matrices)
 
-number-requires : tie.Need-number-requires Inv-loop μ-loop
-number-requires c κs = tt
-
-same-length : tie.Need-same-length Inv-loop μ-loop
-same-length c = let t = c .before .before .before .before .before .before in t .take-record .kept .1 .1 .1 .1 .1 .1 .0 ∙ head t .loop .inv .0 .long
-
-returns : tie.Need-returns Inv-loop μ-loop
-returns c =
-    let t = c .before .before .before .before .before .before in
-    let e = whole-refused _ _ _ (head t .loop .inv .0) (t .before .before .before .loop-test .taken) (verdict-of t (c .before .before .verdict .given .1)) in
-    (rw (e, c .number .ensures), rw e (t .take-record .ensures .1 .0))
+enum-known-found : tie.Need-enum-known-found Inv-loop μ-loop
+enum-known-found c = search needs
 
 enum-told : tie.Need-enum-told Inv-loop μ-loop
 enum-told c = search needs
 
+record-refusal-requires : tie.Need-record-refusal-requires Inv-loop μ-loop
+record-refusal-requires c κs = search needs
+
+refused-at-requires : tie.Need-refused-at-requires Inv-loop μ-loop
+refused-at-requires c κs = search needs
+
+same-length : tie.Need-same-length Inv-loop μ-loop
+same-length c = c .before .before .before .before .before .before .loop .inv .long
+
+returns : tie.Need-returns Inv-loop μ-loop
+returns c =
+    let e = sym (c .before .before .before .before .record-at .ensures) ∙ c .before .before .enum-told .given .1 in
+    let v = ap (λ (t : Taken). t .acts .verdict) (taken-unfound _ _ _ _ e) in
+    let whole = whole-refused _ _ _ (c .before .before .before .before .before .before .loop .inv) (c .before .before .before .before .before .loop-test .taken) v in
+    (c .refused-at .ensures ∙ rw (c .before .record-refusal .ensures, c .before .before .enum-told .given .1) (sym (whole .0)), whole .1)
+
+-- one that is found lies within the file
+shown : (c : tie.After-found Inv-loop μ-loop) → recordOf (c .before .before .before .before .before .before .before .before .before .before .args .file .now) (c .before .before .before .before .loop .at) ≡ Record.Found (c .found .given .0 .0) (c .found .given .0 .1 .0) (c .found .given .0 .1 .1 .0)
+shown c = sym (c .before .before .record-at .ensures) ∙ c .found .given .1
+
+within : (c : tie.After-found Inv-loop μ-loop) → c .found .given .0 .1 .0 + c .found .given .0 .1 .1 .0 ≤ length (c .before .before .before .before .before .before .before .before .before .before .args .file .now)
+within c = subst (Inside (c .before .before .before .before .before .before .before .before .before .before .args .file .now)) (shown c) (inside (c .before .before .before .before .before .before .before .before .before .before .args .file .now) (c .before .before .before .before .loop .at)) .fits
+
+add-end : tie.Need-add-end Inv-loop μ-loop
+add-end c = let w = within (c .before) in omega arith
+
+sub-body : tie.Need-sub-body Inv-loop μ-loop
+sub-body c = search needs
+
+part-body-start : tie.Need-part-body-start Inv-loop μ-loop
+part-body-start c = search needs
+
+part-body-end : tie.Need-part-body-end Inv-loop μ-loop
+part-body-end c = within (c .before)
+
+act-requires : tie.Need-act-requires Inv-loop μ-loop
+act-requires c κs = c .before .before .before .before .before .before .before .before .before .before .loop .inv .sound
+
+-- ---- what it comes to
+outcome-is : (c : tie.After-act Inv-loop μ-loop) → c .act .result ≡ outcomeOf (taken (c .before .before .before .before .before .before .before .before .before .before) .acts)
+outcome-is c = rw add-sub-cancel-left at (c .act .ensures .0) ∙ ap (λ (t : Taken). outcomeOf (t .acts)) (sym (taken-found _ _ _ _ (shown (c .before .before .before .before .before .before .before))))
+
+output-is : (c : tie.After-act Inv-loop μ-loop) → c .act .last .1 .1 .1 .1 .1 .1 .1 .0 ≡ written inverseTransform (references (c .before .before .before .before .before .before .before .before .before .before .before .before .before .before .before .before .before .args .forward .now) (c .before .before .before .before .before .before .before .before .before .before .before .before .before .before .before .before .before .args .backward .now)) (c .before .before .before .before .before .before .before .before .before .before .before .loop .picture) (taken (c .before .before .before .before .before .before .before .before .before .before) .acts) (c .before .before .before .before .before .before .before .before .before .before .before .loop .output)
+output-is c =
+    rw add-sub-cancel-left at (c .act .ensures .1)
+    ∙ ap (λ (t : Taken). written inverseTransform (references (c .before .before .before .before .before .before .before .before .before .before .before .before .before .before .before .before .before .args .forward .now) (c .before .before .before .before .before .before .before .before .before .before .before .before .before .before .before .before .before .args .backward .now)) (c .before .before .before .before .before .before .before .before .before .before .before .loop .picture) (t .acts) (c .before .before .before .before .before .before .before .before .before .before .before .loop .output)) (sym (taken-found _ _ _ _ (shown (c .before .before .before .before .before .before .before))))
+
+verdict-is : (c : tie.After-act Inv-loop μ-loop) {v : Verdict} → c .act .result .verdict ≡ v → taken (c .before .before .before .before .before .before .before .before .before .before) .acts .verdict ≡ v
+verdict-is c e = sym (ap (λ (o : Outcome). o .verdict) (outcome-is c)) ∙ e
+
+enum-told-2 : tie.Need-enum-told-2 Inv-loop μ-loop
+enum-told-2 c = search needs
+
+enum-told-3 : tie.Need-enum-told-3 Inv-loop μ-loop
+enum-told-3 c = search needs
+
+verdict-refusal-requires : tie.Need-verdict-refusal-requires Inv-loop μ-loop
+verdict-refusal-requires c κs = search needs
+
+refused-at-requires-2 : tie.Need-refused-at-requires-2 Inv-loop μ-loop
+refused-at-requires-2 c κs = search needs
+
+same-length-2 : tie.Need-same-length-2 Inv-loop μ-loop
+same-length-2 c = c .before .before .before .before .before .before .act .kept .1 .1 .1 .1 .1 .1 .1 .0 ∙ c .before .before .before .before .before .before .before .before .before .before .before .before .before .before .before .before .before .loop .inv .long
+
+returns-2 : tie.Need-returns-2 Inv-loop μ-loop
+returns-2 c =
+    let v = verdict-is (c .before .before .before .before .before .before) (c .before .before .enum-told3 .given .1) in
+    let whole = whole-refused _ _ _ (c .before .before .before .before .before .before .before .before .before .before .before .before .before .before .before .before .before .loop .inv) (c .before .before .before .before .before .before .before .before .before .before .before .before .before .before .before .before .loop-test .taken) v in
+    let none = refused-makes-none (c .before .before .before .before .before .before .before .before .before .before .before .before .before .before .before .before .before .loop .matrices) (c .before .before .before .before .before .before .before .before .before .before .before .before .before .before .before .before .before .loop .picture) (c .before .before .before .before .before .before .before .before .before .before .before .before .before .before .before .before .before .before .before .before .before .before .before .args .file .now) (c .before .before .before .before .before .before .before .before .before .before .before .before .before .before .before .before .before .loop .at) _ v in
+    let kept = rw none at (output-is (c .before .before .before .before .before .before)) ∙ sym (macroblocks-none inverseTransform _ _ (c .before .before .before .before .before .before .before .before .before .before .before .before .before .before .before .before .before .loop .output)) in
+    (c .refused-at2 .ensures ∙ rw (c .before .verdict-refusal .ensures, c .before .before .enum-told3 .given .1) (sym (whole .0)), kept ∙ whole .1)
+
+-- ---- and the matrices after it
+load-matrix-requires : tie.Need-load-matrix-requires Inv-loop μ-loop
+load-matrix-requires c κs =
+    let s = c .before .before .before .before .before .before .before .before .before .before .before .before .before .before .before .before .loop .picture in
+    let q = c .before .before .before .before .before .before .before .before .before .before .before .before .before .before .before .before .loop .matrices in
+    let body = take (c .before .before .before .before .before .before .before .before .before .before .before .before .found .given .0 .1 .1 .0) (drop (c .before .before .before .before .before .before .before .before .before .before .before .before .found .given .0 .1 .0) (c .before .before .before .before .before .before .before .before .before .before .before .before .before .before .before .before .before .before .before .before .before .before .args .file .now)) in
+    let v = sym (ap (λ (t : Taken). t .acts .verdict) (taken-found _ _ s q (shown (c .before .before .before .before .before .before .before .before .before .before .before .before)))) ∙ verdict-is (c .before .before .before .before .before) (c .before .enum-told2 .given .1) in
+    rw add-sub-cancel-left (matrix-long q s body (subst (λ (kind : ℕ). acted q s kind body .verdict ≡ Passed) (c .if1 .taken) v))
+
+loaded : (c : tie.After-found Inv-loop μ-loop) → c .found .given .0 .0 ≡ matrix
+    → taken (c .before .before .before) .matrices ≡ loadedWith (take (c .found .given .0 .1 .1 .0) (drop (c .found .given .0 .1 .0) (c .before .before .before .before .before .before .before .before .before .before .args .file .now))) (c .before .before .before .before .loop .matrices)
+loaded c e = ap (λ (t : Taken). t .matrices) (taken-found _ _ (c .before .before .before .before .loop .picture) (c .before .before .before .before .loop .matrices) (shown c)) ∙ rw (eq-eqb _ _ e)
+
+held : (c : tie.After-found Inv-loop μ-loop) → (c .found .given .0 .0 ≡ matrix → ⊥) → taken (c .before .before .before) .matrices ≡ c .before .before .before .before .loop .matrices
+held c e = ap (λ (t : Taken). t .matrices) (taken-found _ _ (c .before .before .before .before .loop .picture) (c .before .before .before .before .loop .matrices) (shown c)) ∙ rw (ne-eqb _ _ e)
+
+matrices-are : (c : tie.Joined1 Inv-loop μ-loop) → c .if1 .matrices ≡ taken (c .before .before .before .before .before .before .before .before .before .before .before .before .before .before .before) .matrices
+matrices-are c =
+    ⊎-elim
+    (λ w. let loads = rw add-sub-cancel-left at (w .1 .ensures) in w .2 ∙ loads ∙ sym (loaded (c .before .before .before .before .before .before .before .before .before .before .before .before) (w .0 .taken)))
+    (λ w. w .1 ∙ sym (held (c .before .before .before .before .before .before .before .before .before .before .before .before) (w .0 .left)))
+    (c .if1 .came)
+
 loop-less : tie.Need-loop-less Inv-loop μ-loop
 loop-less c =
-    let t = c .before .before .before .before .before in
-    let a = start t .args in
-    let l = head t .loop in
-    let e = ap (λ (s : Step). s .end) (t .take-record .ensures .0) in
-    let ends = taken-ends inverseTransform (a .file .now) (a .forward .now) (a .backward .now) (l .at) (l .picture) (l .output) (verdict-of t (c .before .enum-told .given .1)) in
-    rw e (omega (arith, ends .beyond, ends .in-file))
+    let ends = taken-ends (c .before .before .before .before .before .before .before .before .before .before .before .before .before .before .before .before .before .before .before .before .before .before .before .args .file .now) (c .before .before .before .before .before .before .before .before .before .before .before .before .before .before .before .before .before .loop .at) (c .before .before .before .before .before .before .before .before .before .before .before .before .before .before .before .before .before .loop .picture) (c .before .before .before .before .before .before .before .before .before .before .before .before .before .before .before .before .before .loop .matrices) (verdict-is (c .before .before .before .before .before .before) (c .before .before .enum-told2 .given .1)) in
+    let e = ap (λ (t : Taken). t .end) (taken-found _ _ (c .before .before .before .before .before .before .before .before .before .before .before .before .before .before .before .before .before .loop .picture) (c .before .before .before .before .before .before .before .before .before .before .before .before .before .before .before .before .before .loop .matrices) (shown (c .before .before .before .before .before .before .before .before .before .before .before .before .before))) in
+    omega (arith, ends .beyond, ends .in-file, e)
 
 loop-again : tie.Need-loop-again Inv-loop μ-loop
 loop-again c =
-    let t = c .before .before .before .before .before in (
-      rw (t .take-record .ensures .0, t .take-record .ensures .1 .0)
-          (whole-next _ _ _ (head t .loop .inv .0) (t .before .before .before .loop-test .taken) (verdict-of t (c .before .enum-told .given .1)) (sym (ap length (t .take-record .ensures .1 .0)) ∙ t .take-record .kept .1 .1 .1 .1 .1 .1 .0)),
-      t .take-record .ensures .1 .1,
-    )
+    let e = ap (λ (t : Taken). t .end) (taken-found _ _ (c .before .before .before .before .before .before .before .before .before .before .before .before .before .before .before .before .before .loop .picture) (c .before .before .before .before .before .before .before .before .before .before .before .before .before .before .before .before .before .loop .matrices) (shown (c .before .before .before .before .before .before .before .before .before .before .before .before .before))) in
+    rw (matrices-are (c .before), outcome-is (c .before .before .before .before .before .before), ← e)
+    (whole-next _ _ _ (c .before .before .before .before .before .before .before .before .before .before .before .before .before .before .before .before .before .loop .inv) (c .before .before .before .before .before .before .before .before .before .before .before .before .before .before .before .before .loop-test .taken) (verdict-is (c .before .before .before .before .before .before) (c .before .before .enum-told2 .given .1)) _ (output-is (c .before .before .before .before .before .before)) (c .before .before .before .before .before .before .act .kept .1 .1 .1 .1 .1 .1 .1 .0))
 
 answer-at-end-requires : tie.Need-answer-at-end-requires Inv-loop μ-loop
-answer-at-end-requires c κs = tt
+answer-at-end-requires c κs = search needs
 
-same-length-2 : tie.Need-same-length-2 Inv-loop μ-loop
-same-length-2 c = c .before .before .loop .inv .0 .long
+same-length-3 : tie.Need-same-length-3 Inv-loop μ-loop
+same-length-3 c = c .before .before .loop .inv .long
 
-returns-2 : tie.Need-returns-2 Inv-loop μ-loop
-returns-2 c = let e = whole-done _ _ _ (c .before .before .loop .inv .0) (c .before .loop-test .left) in (rw e (c .answer-at-end .ensures), rw e)
+returns-3 : tie.Need-returns-3 Inv-loop μ-loop
+returns-3 c =
+    let whole = whole-done _ _ _ (c .before .before .loop .inv) (c .before .loop-test .left) in
+    (c .answer-at-end .ensures ∙ sym (whole .0), whole .1)
 
 pub read-records-spec : {M : Type 1} → statement M
 read-records-spec =
@@ -92,15 +176,29 @@ read-records-spec =
     (tie.spec
     Inv-loop
     μ-loop
+    default-matrices-requires
     loop-holds
-    take-record-requires
-    enum-known-verdict
-    number-requires
+    record-at-requires
+    enum-known-found
+    enum-told
+    record-refusal-requires
+    refused-at-requires
     same-length
     returns
-    enum-told
+    add-end
+    sub-body
+    part-body-start
+    part-body-end
+    act-requires
+    enum-told-2
+    enum-told-3
+    verdict-refusal-requires
+    refused-at-requires-2
+    same-length-2
+    returns-2
+    load-matrix-requires
     loop-less
     loop-again
     answer-at-end-requires
-    same-length-2
-    returns-2)
+    same-length-3
+    returns-3)

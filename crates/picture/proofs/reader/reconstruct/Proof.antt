@@ -1,27 +1,26 @@
--- `picture::reader::reconstruct` meets its contract: a header that was opened starts the records, and a refusal leaves the output as it was. Assumes nothing.
+-- `reader::reconstruct` meets its contract: a header that was opened starts the records, and a refusal leaves the output as it was. Assumes nothing.
 use mathlib.Core.Path.{sym, _∙_, subst}
-use borrow.Author.Needs.{needs}
-use Rattle.integers.specs.Bound.{at}
 use Rattle.picture_state.specs.declared.state.PictureState.{PictureState}
 use Rattle.picture.proofs.SoundLaws.{start-within}
 use Rattle.picture.proofs.StartLaws.{Started, opened}
 use Rattle.picture.specs.Picture.{pictureOf}
 use Rattle.picture.specs.Sound.{Sound}
+use borrow.Author.Needs.{needs}
 use Rattle.picture.proofs.reader.reconstruct.Statement.{statement}
 use Rattle.picture.proofs.reader.reconstruct.Tie as tie
+
+open-requires : tie.Need-open-requires
+open-requires c κs = search needs
 
 -- what was opened, by the definition
 started : (c : tie.After-header) → let a = c .before .before .before .before .before .before .before .args in Started (a .file .now) (a .forward .now) (a .backward .now) (a .output .now) (c .header .given .0 .0) (c .header .given .0 .1 .0)
 started c = let a = c .before .before .before .before .before .before .before .args in opened (a .file .now) (a .forward .now) (a .backward .now) (a .output .now) (sym (c .before .before .«open» .ensures) ∙ c .header .given .1)
 
-open-requires : tie.Need-open-requires
-open-requires c κs = search needs
-
 enum-known-refusal : tie.Need-enum-known-refusal
 enum-known-refusal c = search needs
 
-number-requires : tie.Need-number-requires
-number-requires c κs = search needs
+refused-at-requires : tie.Need-refused-at-requires
+refused-at-requires c κs = search needs
 
 enum-known-header : tie.Need-enum-known-header
 enum-known-header c = search needs
@@ -39,7 +38,9 @@ read-records-requires c κs =
 
 returns : tie.Need-returns
 unfolding pictureOf
-returns c = let e = sym (c .before .before .before .before .«open» .ensures) ∙ c .before .before .refusal .given .1 in (rw (e, c .number .ensures), rw e)
+returns c =
+    let e = sym (c .before .before .before .before .«open» .ensures) ∙ c .before .before .refusal .given .1 in
+    (rw e (c .refused-at .ensures), rw e)
 
 same-length : tie.Need-same-length
 same-length c = search needs
@@ -48,7 +49,8 @@ returns-2 : tie.Need-returns-2
 unfolding pictureOf
 returns-2 c =
     let e = sym (c .before .before .before .before .before .before .before .before .«open» .ensures) ∙ c .before .before .before .before .before .before .header .given .1 in
-    (rw e (rw (c .before .before .before .before .start-state .ensures) at (c .before .before .read-records .ensures .0)), rw e (rw (c .before .before .before .before .start-state .ensures) at (c .before .before .read-records .ensures .1)))
+    let first = c .before .before .before .before .start-state .ensures in
+    (rw e (rw first at (c .before .before .read-records .ensures .0)), rw e (rw first at (c .before .before .read-records .ensures .1)))
 
 pub reconstruct-spec : {M : Type 1} → statement M
 reconstruct-spec =
@@ -56,7 +58,7 @@ reconstruct-spec =
     (tie.spec
     open-requires
     enum-known-refusal
-    number-requires
+    refused-at-requires
     enum-known-header
     start-state-requires
     read-records-requires

@@ -1,65 +1,72 @@
--- `picture::records::act` meets its contract: each way rewrites with the tests that led there. Assumes nothing.
+-- `records::act` meets its contract: each way rewrites with the tests that led there. Assumes nothing.
 use mathlib.Core.Path.{sym, _∙_}
-use borrow.Author.Needs.{needs}
-use borrow.Author.Tests.{eq-eqb, ne-eqb}
-use Rattle.format3.specs.Chain.{only}
+use borrow.Author.Tests.{eq-eqb, ne-eqb, not-true, not-false}
+use Rattle.parsed.specs.Guard.{need_else_then_}
+use Rattle.macroblock.proofs.BlocksLaws.{macroblocks-none}
 use Rattle.picture.specs.Step.{acted}
+use Rattle.picture.proofs.RecordLaws.{matrix-makes-none, slice-makes-none}
+use borrow.Author.Needs.{needs}
 use Rattle.picture.proofs.records.act.Statement.{statement}
 use Rattle.picture.proofs.records.act.Tie as tie
 
 in-turn-requires : tie.Need-in-turn-requires
 in-turn-requires c κs = tt
 
+refused-record-requires : tie.Need-refused-record-requires
+refused-record-requires c κs = search needs
+
+returns : tie.Need-returns
+unfolding acted need_else_then_
+returns c =
+    let e = sym (c .before .before .in-turn .ensures) ∙ not-true _ (c .before .if1 .taken) in
+    (rw e (c .refused-record .ensures), rw e (macroblocks-none _ _ _ _))
+
 act-matrix-requires : tie.Need-act-matrix-requires
 act-matrix-requires c κs = tt
 
-returns : tie.Need-returns
-unfolding acted only
-returns c =
-    let e = sym (c .before .before .before .in-turn .ensures) ∙ c .before .before .if1 .taken in
-    (rw (e, eq-eqb _ _ (c .before .if2 .taken)) (c .act-matrix .ensures), (rw (e, eq-eqb _ _ (c .before .if2 .taken)), c .before .before .before .before .before .before .before .before .pre .1))
+returns-2 : tie.Need-returns-2
+unfolding acted need_else_then_
+returns-2 c =
+    let e = sym (c .before .before .before .in-turn .ensures) ∙ not-false _ (c .before .before .if1 .left) in
+    let is-matrix = eq-eqb _ _ (c .before .if2 .taken) in
+    (rw (e, is-matrix) (c .act-matrix .ensures), rw (e, is-matrix, matrix-makes-none) (macroblocks-none _ _ _ _))
 
 act-slice-requires : tie.Need-act-slice-requires
 act-slice-requires c κs = tt
 
-returns-2 : tie.Need-returns-2
-unfolding acted only
-returns-2 c =
-    let e = sym (c .before .before .before .before .in-turn .ensures) ∙ c .before .before .before .if1 .taken in
-    (rw (e, ne-eqb _ _ (c .before .before .if2 .left), eq-eqb _ _ (c .before .if3 .taken)) (c .act-slice .ensures), (rw (e, ne-eqb _ _ (c .before .before .if2 .left), eq-eqb _ _ (c .before .if3 .taken)), c .before .before .before .before .before .before .before .before .before .pre .1))
+returns-3 : tie.Need-returns-3
+unfolding acted need_else_then_
+returns-3 c =
+    let e = sym (c .before .before .before .before .in-turn .ensures) ∙ not-false _ (c .before .before .before .if1 .left) in
+    let no-matrix = ne-eqb _ _ (c .before .before .if2 .left) in
+    let is-slice = eq-eqb _ _ (c .before .if3 .taken) in
+    (rw (e, no-matrix, is-slice) (c .act-slice .ensures), rw (e, no-matrix, is-slice, slice-makes-none) (macroblocks-none _ _ _ _))
 
 act-macroblock-requires : tie.Need-act-macroblock-requires
-act-macroblock-requires c κs = c .before .before .before .before .before .before .before .before .before .before .pre
+act-macroblock-requires c κs = c .before .before .before .before .before .before .before .before .before .pre
 
 same-length : tie.Need-same-length
 same-length c = search needs
 
-returns-3 : tie.Need-returns-3
-unfolding acted only
-returns-3 c =
-    let call = c .before .before in
-    let at-if3 = call .before .before .before in
-    let at-if2 = at-if3 .before in
-    let at-if1 = at-if2 .before in
-    let e = sym (at-if1 .before .in-turn .ensures) ∙ at-if1 .if1 .taken in (
-      rw (e, ne-eqb _ _ (at-if2 .if2 .left), ne-eqb _ _ (at-if3 .if3 .left)) (call .act-macroblock .ensures .0),
-      (rw (e, ne-eqb _ _ (at-if2 .if2 .left), ne-eqb _ _ (at-if3 .if3 .left)) (call .act-macroblock .ensures .1 .0), call .act-macroblock .ensures .1 .1),
-    )
-
 returns-4 : tie.Need-returns-4
-unfolding acted only
-returns-4 c = let e = sym (c .before .in-turn .ensures) ∙ c .if1 .left in (rw e, (rw e, c .before .before .before .before .before .before .pre .1))
+unfolding acted need_else_then_
+returns-4 c =
+    let e = sym (c .before .before .before .before .before .before .before .in-turn .ensures) ∙ not-false _ (c .before .before .before .before .before .before .if1 .left) in
+    let no-matrix = ne-eqb _ _ (c .before .before .before .before .before .if2 .left) in
+    let no-slice = ne-eqb _ _ (c .before .before .before .before .if3 .left) in
+    (rw (e, no-matrix, no-slice) (c .before .before .act-macroblock .ensures .0), rw (e, no-matrix, no-slice) (c .before .before .act-macroblock .ensures .1))
 
 pub act-spec : {M : Type 1} → statement M
 act-spec =
     tie.close
     (tie.spec
     in-turn-requires
-    act-matrix-requires
+    refused-record-requires
     returns
-    act-slice-requires
+    act-matrix-requires
     returns-2
+    act-slice-requires
+    returns-3
     act-macroblock-requires
     same-length
-    returns-3
     returns-4)

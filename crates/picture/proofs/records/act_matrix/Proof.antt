@@ -1,36 +1,49 @@
--- `picture::records::act_matrix` meets its contract: the matrices are those that the record was read into, or the refusal is handed on. Assumes nothing.
-use mathlib.Core.Path.{_≡_, sym, ap, _∙_}
-use borrow.Author.Needs.{needs}
-use Rattle.matrices.specs.Matrix.{matrixOf}
-use Rattle.picture.specs.Step.{matrixOutcome}
+-- `records::act_matrix` meets its contract: the matrix is marked as loaded, or the refusal is handed on. Assumes nothing.
+use mathlib.Core.Path.{_≡_, sym, _∙_}
+use native.Mathlib.Omega.{arith}
 use Rattle.format3.specs.declared.verdict.Verdict.{Verdict}
-use Rattle.matrices.specs.declared.MatrixAnswer.{MatrixAnswer}
+use Rattle.matrices.specs.Matrix.{verdictOf}
+use Rattle.matrices.proofs.Laws.Matrix.{passed-long}
+use Rattle.picture.specs.Step.{matrixActed}
+use borrow.Author.Needs.{needs}
 use Rattle.picture.proofs.records.act_matrix.Statement.{statement}
 use Rattle.picture.proofs.records.act_matrix.Tie as tie
 
--- the verdict that was read
-read : (c : tie.After-read-matrix) {v : Verdict} → c .read-matrix .result .verdict ≡ v → let s = c .before .before .before .before .args .picture in matrixOf (c .before .before .before .before .args .body .now) (s .matrices) (s .loaded) .verdict ≡ v
-read c e = sym (ap (λ (a : MatrixAnswer). a .verdict) (c .read-matrix .ensures)) ∙ e
+matrix-verdict-requires : tie.Need-matrix-verdict-requires
+matrix-verdict-requires c κs = search needs
 
-read-matrix-requires : tie.Need-read-matrix-requires
-read-matrix-requires c κs = search needs
-
-enum-known-verdict : tie.Need-enum-known-verdict
-enum-known-verdict c = search needs
+-- the verdict that was given
+given : (c : tie.After-matrix-verdict) {v : Verdict} → c .matrix-verdict .result ≡ v → verdictOf (c .before .before .before .args .body .now) (c .before .before .before .args .picture .loaded) ≡ v
+given c e = sym (c .matrix-verdict .ensures) ∙ e
 
 enum-told : tie.Need-enum-told
 enum-told c = search needs
 
+enum-told-2 : tie.Need-enum-told-2
+enum-told-2 c = search needs
+
+returns : tie.Need-returns
+unfolding matrixActed
+returns c = rw (given (c .before .before .before .before .before) (c .before .before .before .enum-told2 .given .1), c .before .before .before .enum-told2 .given .1)
+
+mark-loaded-requires : tie.Need-mark-loaded-requires
+mark-loaded-requires c κs = omega (arith, passed-long (c .before .before .before .before .before .before .before .args .body .now) (c .before .before .before .before .before .before .before .args .picture .loaded) (given (c .before .before .before .before) (c .before .before .enum-told .given .1)))
+
 turn-after-requires : tie.Need-turn-after-requires
 turn-after-requires c κs = search needs
 
-returns : tie.Need-returns
-unfolding matrixOutcome
-returns c = rw (read (c .before .before .before) (c .before .verdict .given .1))
-
 returns-2 : tie.Need-returns-2
-unfolding matrixOutcome
-returns-2 c = rw (read (c .before .before .before .before .before .before .before) (c .before .before .before .before .before .enum-told .given .1)) (rw (c .turn-after .ensures, c .before .before .before .before .before .before .before .read-matrix .ensures))
+unfolding matrixActed
+returns-2 c = rw (given (c .before .before .before .before .before .before) (c .before .before .before .before .enum-told .given .1), c .before .before .before .before .enum-told .given .1, c .turn-after .ensures, c .before .mark-loaded .ensures)
 
 pub act-matrix-spec : {M : Type 1} → statement M
-act-matrix-spec = tie.close (tie.spec read-matrix-requires enum-known-verdict enum-told turn-after-requires returns returns-2)
+act-matrix-spec =
+    tie.close
+    (tie.spec
+    matrix-verdict-requires
+    enum-told
+    enum-told-2
+    returns
+    mark-loaded-requires
+    turn-after-requires
+    returns-2)

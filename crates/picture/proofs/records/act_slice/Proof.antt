@@ -1,34 +1,50 @@
--- `picture::records::act_slice` meets its contract: the slice's state is reset, or the refusal is handed on. Assumes nothing.
+-- `records::act_slice` meets its contract: a slice that was read starts, or the refusal is handed on. Assumes nothing.
+use mathlib.Core.Path.{_≡_, sym, _∙_}
+use Prim.Native.Nat.{ℕ}
+use native.Mathlib.Omega.{arith}
+use Rattle.refusals.specs.declared.Refusal.{Refusal}
+use Rattle.parsed.specs.Parsed.{Parsed, parsed, refused}
+use Rattle.symbols.specs.Slice.{sliceOf, sliceAnswer}
+use Rattle.symbols.specs.declared.slice.Slice.{Slice}
+use Rattle.symbols.specs.declared.slice.SliceAnswer.the-variants.{Legal, Refused}
+use Rattle.picture_state.specs.declared.state.PictureState.{PictureState}
+use Rattle.picture.specs.MacroblockRecord.{refusedRecord}
+use Rattle.picture.specs.Step.{sliceStarted, sliceStartedFrom}
 use borrow.Author.Needs.{needs}
-use Rattle.picture.specs.Step.{sliceOutcome}
 use Rattle.picture.proofs.records.act_slice.Statement.{statement}
 use Rattle.picture.proofs.records.act_slice.Tie as tie
 
 read-slice-requires : tie.Need-read-slice-requires
 read-slice-requires c κs = search needs
 
+-- what an answer tells of the slice that was parsed
+legal : (s : PictureState) (x : Parsed Slice) {l : Slice} → sliceAnswer x ≡ Legal l → sliceStartedFrom s x ≡ sliceStarted s l
+legal s (parsed other rest) {l} e = let same : other ≡ l = cc in rw same
+legal s (refused refusal) e = absurd (let z : _≡_ {A = ℕ} 0 1 = cc in omega arith)
+
+not-legal : (s : PictureState) (x : Parsed Slice) {refusal : Refusal} → sliceAnswer x ≡ Refused refusal → sliceStartedFrom s x ≡ refusedRecord refusal s
+not-legal s (parsed l rest) e = absurd (let z : _≡_ {A = ℕ} 0 1 = cc in omega arith)
+not-legal s (refused other) {refusal} e = let same : other ≡ refusal = cc in rw same
+
 enum-known-refusal : tie.Need-enum-known-refusal
 enum-known-refusal c = search needs
+
+refused-record-requires : tie.Need-refused-record-requires
+refused-record-requires c κs = search needs
 
 enum-known-start : tie.Need-enum-known-start
 enum-known-start c = search needs
 
-after-reset-requires : tie.Need-after-reset-requires
-after-reset-requires c κs = search needs
-
-turn-after-requires : tie.Need-turn-after-requires
-turn-after-requires c κs = search needs
+start-slice-requires : tie.Need-start-slice-requires
+start-slice-requires c κs = search needs
 
 returns : tie.Need-returns
-unfolding sliceOutcome
-returns c = rw (← c .before .before .before .read-slice .ensures, c .before .refusal .given .1)
+returns c =
+    rw (not-legal (c .before .before .before .before .before .before .args .picture) (sliceOf (c .before .before .before .before .before .before .args .body .now)) (sym (c .before .before .before .before .read-slice .ensures) ∙ c .before .before .refusal .given .1)) (c .refused-record .ensures)
 
 returns-2 : tie.Need-returns-2
-unfolding sliceOutcome
 returns-2 c =
-    let reset = c .before in
-    let arm = reset .before .before .before .before .before .before in
-    rw (← arm .before .before .read-slice .ensures, arm .start .given .1, c .turn-after .ensures, reset .after-reset .ensures)
+    rw (legal (c .before .before .before .before .before .before .args .picture) (sliceOf (c .before .before .before .before .before .before .args .body .now)) (sym (c .before .before .before .before .read-slice .ensures) ∙ c .before .before .start .given .1)) (c .start-slice .ensures)
 
 pub act-slice-spec : {M : Type 1} → statement M
 act-slice-spec =
@@ -36,8 +52,8 @@ act-slice-spec =
     (tie.spec
     read-slice-requires
     enum-known-refusal
+    refused-record-requires
     enum-known-start
-    after-reset-requires
-    turn-after-requires
+    start-slice-requires
     returns
     returns-2)

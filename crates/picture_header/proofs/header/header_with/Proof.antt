@@ -2,7 +2,7 @@
 use mathlib.Core.Path.{_≡_, sym, _∙_}
 use borrow.Author.Tests.{not-true, not-false}
 use borrow.Author.Needs.{needs}
-use Rattle.format3.specs.Chain.{only}
+use Rattle.parsed.specs.Guard.{need_else_then_}
 use Rattle.picture_header.specs.declared.size.NewSize.the-variants.{Fits}
 use Rattle.picture_header.specs.Size.{sizeOf}
 use Rattle.picture_header.specs.Header.{headerWith, legalHeader}
@@ -30,18 +30,18 @@ enum-told : tie.Need-enum-told
 enum-told c = search needs
 
 returns : tie.Need-returns
-unfolding headerWith legalHeader only
+unfolding headerWith legalHeader need_else_then_
 returns c = rw (not-made _ _ (sym (c .before .before .new .ensures) ∙ c .enum-told .given .1))
 
 legal-codings-requires : tie.Need-legal-codings-requires
 legal-codings-requires c κs = search needs
 
 returns-2 : tie.Need-returns-2
-unfolding headerWith legalHeader only
+unfolding headerWith legalHeader need_else_then_
 returns-2 c = rw (made _ _ _ (sized (c .before .before .before)) .0, ← c .before .legal-codings .ensures, not-true (c .before .legal-codings .result) (c .if1 .taken))
 
 returns-3 : tie.Need-returns-3
-unfolding headerWith legalHeader only
+unfolding headerWith legalHeader need_else_then_
 returns-3 c =
     let m = made _ _ _ (sized (c .before .before .before .before .before)) in
     rw (m .0, ← c .before .before .before .legal-codings .ensures, not-false (c .before .before .before .legal-codings .result) (c .before .before .if1 .left), m .1)

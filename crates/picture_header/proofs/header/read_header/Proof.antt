@@ -1,13 +1,13 @@
 -- `read_header` meets its contract: the seven bytes are the fields in their order. Assumes nothing.
 use borrow.Author.Tests.{eq-eqb, ne-eqb}
 use borrow.Author.Needs.{needs}
-use Rattle.format3.specs.Chain.{only}
+use Rattle.parsed.specs.Guard.{need_else_then_}
 use Rattle.picture_header.specs.Header.{headerOf}
 use Rattle.picture_header.proofs.header.read_header.Statement.{statement}
 use Rattle.picture_header.proofs.header.read_header.Tie as tie
 
 returns : tie.Need-returns
-unfolding headerOf only
+unfolding headerOf need_else_then_
 returns c = rw (ne-eqb _ _ (c .if1 .taken))
 
 shared-slice-read-t6 : tie.Need-shared-slice-read-t6
@@ -35,7 +35,7 @@ header-with-requires : tie.Need-header-with-requires
 header-with-requires c κs = search needs
 
 returns-2 : tie.Need-returns-2
-unfolding headerOf only
+unfolding headerOf need_else_then_
 returns-2 c = rw (eq-eqb _ _ (c .before .before .before .before .before .before .before .before .if1 .left)) (c .header-with .ensures)
 
 pub read-header-spec : {M : Type 1} → statement M

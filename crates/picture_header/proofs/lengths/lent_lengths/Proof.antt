@@ -4,7 +4,7 @@ use mathlib.Core.Path.{_≡_}
 use lib.Dec.{eqb}
 use borrow.Author.Tests.{eq-eqb, ne-eqb}
 use borrow.Author.Needs.{needs}
-use Rattle.format3.specs.Chain.{only}
+use Rattle.parsed.specs.Guard.{need_else_then_}
 use Rattle.picture_header.specs.Size.{bytes}
 use Rattle.picture_header.specs.Header.{usesForward}
 use Rattle.picture_header.specs.Lengths.{referenceLength, lengthsOf}
@@ -22,7 +22,7 @@ bytes-requires : tie.Need-bytes-requires
 bytes-requires c κs = search needs
 
 returns : tie.Need-returns
-unfolding lengthsOf only
+unfolding lengthsOf need_else_then_
 returns c = rw (← c .before .bytes .ensures, ne-eqb _ _ (c .if1 .taken))
 
 uses-forward-requires : tie.Need-uses-forward-requires
@@ -32,7 +32,7 @@ reference-length-requires : tie.Need-reference-length-requires
 reference-length-requires c κs = search needs
 
 returns-2 : tie.Need-returns-2
-unfolding lengthsOf only
+unfolding lengthsOf need_else_then_
 returns-2 c = rw (output (c .before .before .before), ← c .before .before .uses-forward .ensures, ← c .before .reference-length .ensures, ne-eqb _ _ (c .if2 .taken))
 
 uses-backward-requires : tie.Need-uses-backward-requires
@@ -42,11 +42,11 @@ reference-length-requires-2 : tie.Need-reference-length-requires-2
 reference-length-requires-2 c κs = search needs
 
 returns-3 : tie.Need-returns-3
-unfolding lengthsOf only
+unfolding lengthsOf need_else_then_
 returns-3 c = rw (output (c .before .before .before .before .before .before), forward (c .before .before .before), ← c .before .before .uses-backward .ensures, ← c .before .reference-length2 .ensures, ne-eqb _ _ (c .if3 .taken))
 
 returns-4 : tie.Need-returns-4
-unfolding lengthsOf only
+unfolding lengthsOf need_else_then_
 returns-4 c = rw (output (c .before .before .before .before .before .before), forward (c .before .before .before), ← c .before .before .uses-backward .ensures, ← c .before .reference-length2 .ensures, eq-eqb _ _ (c .if3 .left))
 
 pub lent-lengths-spec : {M : Type 1} → statement M

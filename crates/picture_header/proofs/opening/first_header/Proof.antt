@@ -12,7 +12,7 @@ use lib.ListN.{length, getD}
 use Rattle.format3.proofs.Laws.Record.{inside}
 use Rattle.format3.specs.declared.record.Record.the-variants.{Found}
 use Rattle.format3.specs.declared.turn.Turn.the-variants.{Start}
-use Rattle.format3.specs.Chain.{only}
+use Rattle.parsed.specs.Guard.{need_else_then_}
 use Rattle.format3.specs.Record.{recordOf}
 use Rattle.format3.specs.Turn.{inTurn}
 use Rattle.picture_header.specs.Opening.{version, firstHeader}
@@ -44,18 +44,18 @@ within : (c : tie.After-kind) → c .kind .given .0 .1 .0 + c .kind .given .0 .1
 within c = rw (found c) at (inside (file (c .before .before .before)) 1 .fits)
 
 returns : tie.Need-returns
-unfolding firstHeader only
+unfolding firstHeader need_else_then_
 returns c = rw (lt-leb _ _ (c .if1 .taken))
 
 shared-slice-read-if2 : tie.Need-shared-slice-read-if2
 shared-slice-read-if2 c = search needs
 
 returns-2 : tie.Need-returns-2
-unfolding firstHeader only
+unfolding firstHeader need_else_then_
 returns-2 c = rw (le-leb _ _ (c .before .before .if1 .left), ne-eqb _ _ (c .if2 .taken))
 
 returns-3 : tie.Need-returns-3
-unfolding firstHeader only
+unfolding firstHeader need_else_then_
 returns-3 c = rw (le-leb _ _ (c .before .before .before .if1 .left), eq-eqb _ _ (c .before .if2 .left), lt-leb _ _ (c .if3 .taken))
 
 record-at-requires : tie.Need-record-at-requires
@@ -71,7 +71,7 @@ in-turn-requires : tie.Need-in-turn-requires
 in-turn-requires c κs = search needs
 
 returns-4 : tie.Need-returns-4
-unfolding firstHeader only
+unfolding firstHeader need_else_then_
 returns-4 c =
     let t = c .before .before .before .before .before .before in
     rw (some t, versioned t, more t, found (c .before .before .before), ← c .before .in-turn .ensures, not-true (c .before .in-turn .result) (c .if4 .taken))
@@ -98,19 +98,19 @@ enum-known-header : tie.Need-enum-known-header
 enum-known-header c = search needs
 
 returns-5 : tie.Need-returns-5
-unfolding firstHeader only
+unfolding firstHeader need_else_then_
 returns-5 c =
     let t = c .before .before .before .before in
     rw (some t, versioned t, more t, ← c .before .before .before .record-at .ensures, c .before .refusal .given .1)
 
 returns-6 : tie.Need-returns-6
-unfolding firstHeader only
+unfolding firstHeader need_else_then_
 returns-6 c =
     let t = c .before .before .before .before .before .before .before .before .before .before .before in
     rw (some t, versioned t, more t, found (c .before .before .before .before .before .before .before .before), turned (c .before .before .before .before .before), ← rw add-sub-cancel-left at (c .before .before .before .read-header .ensures), c .before .refusal2 .given .1)
 
 returns-7 : tie.Need-returns-7
-unfolding firstHeader only
+unfolding firstHeader need_else_then_
 returns-7 c =
     let t = c .before .before .before .before .before .before .before .before .before .before .before in
     rw (some t, versioned t, more t, found (c .before .before .before .before .before .before .before .before), turned (c .before .before .before .before .before), ← rw add-sub-cancel-left at (c .before .before .before .read-header .ensures), c .before .header .given .1)

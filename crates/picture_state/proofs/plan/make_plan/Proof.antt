@@ -21,9 +21,7 @@ after-update-requires c κs = search needs
 
 returns : tie.Need-returns
 unfolding planOf
-returns c =
-    let update = c .before in
-    rw (update .after-update .ensures, update .before .before .before .skip-motion .ensures)
+returns c = rw (c .before .after-update .ensures, c .before .before .before .before .skip-motion .ensures)
 
 pub make-plan-spec : {M : Type 1} → statement M
 make-plan-spec =

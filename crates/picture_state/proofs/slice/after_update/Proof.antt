@@ -38,9 +38,9 @@ use denote.Triple.Spec.{Meets, tripleOf}
 use denote.Triple.Table.{entered, cited}
 use denote.Triple.Walked.{says, needs, Stays, stay-none, walkOf, AllGo, goes-none, Walks, ends-at, walked, walk-meets}
 use denote.Exit.{yes}
-use Rattle.macroblock_symbols.specs.declared.MacroblockSymbols.{MacroblockSymbols}
-use Rattle.macroblock_symbols.proofs.MacroblockSymbols as symbols
-use Rattle.macroblock_symbols.proofs.MacroblockSymbols.Laws as symbols′
+use Rattle.macroblock_symbols.specs.declared.DecodedMacroblock.{DecodedMacroblock}
+use Rattle.macroblock_symbols.proofs.DecodedMacroblock as symbols
+use Rattle.macroblock_symbols.proofs.DecodedMacroblock.Laws as symbols′
 use Rattle.picture_header.specs.declared.header.Header.{Header}
 use Rattle.picture_header.proofs.header.Header as header
 use Rattle.picture_header.proofs.header.Header.Laws as header′
@@ -59,7 +59,7 @@ use Rattle.picture_state.proofs.slice.after_update.Statement as stated
 use Rattle.picture_state.proofs.slice.after_update.Code as code
 
 abbrev Arg : Type 0
-Arg = SliceState × (Header × (MacroblockSymbols × Unit {0}))
+Arg = SliceState × (Header × (DecodedMacroblock × Unit {0}))
 
 abbrev stayed : Stays (f.ended .signature .params) (f.ended .kept)
 stayed = (stay-none (λ _. state.the-row) yes, (stay-none (λ _. header.the-row) yes, (stay-none (λ _. symbols.the-row) yes, tt)))
@@ -68,7 +68,7 @@ stayed = (stay-none (λ _. state.the-row) yes, (stay-none (λ _. header.the-row)
 abbrev Callee : {M : Type 1} (𝓤 : URA M) (H : Heap 𝓤) (A : Atoms 𝓤) (at-mem : Memory → SProp 𝓤) (run : Routine → Fun 𝓤) → Contract 𝓤
 Callee 𝓤 H A at-mem run = tripleOf 𝓤 H A g.signature (g.spec 𝓤 H A at-mem run)
 
-module _ {M : Type 1} (𝓤 : URA M) (H : Heap 𝓤) (A : Atoms 𝓤) (W : Given 𝓤 H A) (at-mem : Memory → SProp 𝓤) (run : Routine → Fun 𝓤) (s : SliceState) (h : Header) (m : MacroblockSymbols)
+module _ {M : Type 1} (𝓤 : URA M) (H : Heap 𝓤) (A : Atoms 𝓤) (W : Given 𝓤 H A) (at-mem : Memory → SProp 𝓤) (run : Routine → Fun 𝓤) (s : SliceState) (h : Header) (m : DecodedMacroblock)
     (is-state : Is state.the-row s (state-val s ∷ [])) (is-header : Is header.the-row h (header-val h ∷ [])) (is-symbols : Is symbols.the-row m (symbols-val m ∷ [])) (fit : Updatable h m s) where
   abbrev x : Arg
   x = (s, (h, (m, tt)))

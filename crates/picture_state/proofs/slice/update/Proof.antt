@@ -36,9 +36,9 @@ use denote.Triple.Spec.{Meets, tripleOf}
 use denote.Triple.Table.{entered, cited}
 use denote.Triple.Walked.{says, needs, Stays, stay-ref, stay-none, walkOf, AllGo, goes-none, goes-ref, Walks, ends-at, walked, walk-meets}
 use denote.Exit.{yes}
-use Rattle.macroblock_symbols.specs.declared.MacroblockSymbols.{MacroblockSymbols}
-use Rattle.macroblock_symbols.proofs.MacroblockSymbols as symbols
-use Rattle.macroblock_symbols.proofs.MacroblockSymbols.Laws as symbols′
+use Rattle.macroblock_symbols.specs.declared.DecodedMacroblock.{DecodedMacroblock}
+use Rattle.macroblock_symbols.proofs.DecodedMacroblock as symbols
+use Rattle.macroblock_symbols.proofs.DecodedMacroblock.Laws as symbols′
 use Rattle.picture_header.specs.declared.header.Header.{Header}
 use Rattle.picture_header.proofs.header.Header as header
 use Rattle.picture_header.proofs.header.Header.Laws as header′
@@ -57,7 +57,7 @@ use Rattle.picture_state.proofs.slice.update.Statement as stated
 use Rattle.picture_state.proofs.slice.update.Code as code
 
 abbrev Arg : Type 0
-Arg = RefT SliceState × (Header × (MacroblockSymbols × Unit {0}))
+Arg = RefT SliceState × (Header × (DecodedMacroblock × Unit {0}))
 
 abbrev stayed : Stays (f.ended .signature .params) (f.ended .kept)
 stayed = (stay-ref (0 ∷ []) tt (plain (λ _. state.the-row)), (stay-none (λ _. header.the-row) yes, (stay-none (λ _. symbols.the-row) yes, tt)))
@@ -67,11 +67,11 @@ module _ {M : Type 1} (𝓤 : URA M) (H : Heap 𝓤) (A : Atoms 𝓤) (at-mem : 
   abbrev Callee : Contract 𝓤
   Callee = tripleOf 𝓤 H A g.signature (g.spec 𝓤 H A at-mem run)
 
-  told : (s : SliceState) (h : Header) (m : MacroblockSymbols) (r : SliceState)
+  told : (s : SliceState) (h : Header) (m : DecodedMacroblock) (r : SliceState)
       → ent 𝓤 (ensured 𝓤 H A g.ended (g.clauses 𝓤 H A at-mem run) tt (s, (h, (m, tt))) tt r) (fact 𝓤 (r ≡ sliceAfter h m s))
   told s h m r = exE 𝓤 _ (λ ws. snd∗ 𝓤 (sem 𝓤 H A (lasts g.ended tt (s, (h, (m, tt))) ws)) (fact 𝓤 (r ≡ sliceAfter h m s)))
 
-module _ {M : Type 1} (𝓤 : URA M) (H : Heap 𝓤) (A : Atoms 𝓤) (W : Given 𝓤 H A) (at-mem : Memory → SProp 𝓤) (run : Routine → Fun 𝓤) (κ : Lft) (q : Share) (b o : ℕ) (γ : GName) (s : SliceState) (h : Header) (m : MacroblockSymbols)
+module _ {M : Type 1} (𝓤 : URA M) (H : Heap 𝓤) (A : Atoms 𝓤) (W : Given 𝓤 H A) (at-mem : Memory → SProp 𝓤) (run : Routine → Fun 𝓤) (κ : Lft) (q : Share) (b o : ℕ) (γ : GName) (s : SliceState) (h : Header) (m : DecodedMacroblock)
     (is-header : Is header.the-row h (header-val h ∷ [])) (is-symbols : Is symbols.the-row m (symbols-val m ∷ [])) (fit : Updatable h m s) where
   abbrev x : Arg
   x = (record { ptr = (b, o); name = γ; now = s }, (h, (m, tt)))

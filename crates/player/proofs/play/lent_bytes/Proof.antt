@@ -1,17 +1,42 @@
--- `lent_bytes` meets its contract: its test is that of `lentBytes`. Assumes nothing.
+-- `lent_bytes` meets its contract: its cases and its test are those of `lentBytes`. Assumes nothing.
 use borrow.Author.Tests.{le-leb, lt-leb}
 use borrow.Author.Needs.{needs}
 use Rattle.player.proofs.play.lent_bytes.Statement.{statement}
 use Rattle.player.proofs.play.lent_bytes.Tie as tie
 
-mul-result : tie.Need-mul-result
-mul-result c = search needs
+enum-known-start : tie.Need-enum-known-start
+enum-known-start c = search needs
+
+enum-told : tie.Need-enum-told
+enum-told c = search needs
 
 returns : tie.Need-returns
-returns c = rw (le-leb (c .before .args .macroblocks) 40 (c .if1 .taken))
+returns c = search needs
+
+macroblocks-requires : tie.Need-macroblocks-requires
+macroblocks-requires c κs = c .before .before .before .before .pre .size _ _ (c .before .before .start .given .1)
+
+bytes-requires : tie.Need-bytes-requires
+bytes-requires c κs = c .before .before .before .before .before .before .pre .size _ _ (c .before .before .before .before .start .given .1)
 
 returns-2 : tie.Need-returns-2
-returns-2 c = rw (lt-leb (c .before .args .macroblocks) 40 (c .if1 .left))
+returns-2 c =
+    let few = rw (c .before .before .macroblocks .ensures) at (c .before .if1 .taken) in
+    rw (c .before .before .before .before .before .start .given .1, le-leb _ 40 few) (c .bytes .ensures)
+
+returns-3 : tie.Need-returns-3
+returns-3 c =
+    let many = rw (c .before .macroblocks .ensures) at (c .if1 .left) in
+    rw (c .before .before .before .before .start .given .1, lt-leb _ 40 many)
 
 pub lent-bytes-spec : {M : Type 1} → statement M
-lent-bytes-spec = tie.close (tie.spec mul-result returns returns-2)
+lent-bytes-spec =
+    tie.close
+    (tie.spec
+    enum-known-start
+    enum-told
+    returns
+    macroblocks-requires
+    bytes-requires
+    returns-2
+    returns-3)

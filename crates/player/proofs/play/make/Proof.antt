@@ -1,5 +1,5 @@
 -- `make` meets its contract: the references are those of the definition. Assumes nothing.
-use Rattle.player.specs.Play.{madeFrom}
+use Rattle.player.specs.Items.{madeInto}
 use borrow.Author.Needs.{needs}
 use Rattle.player.proofs.play.make.Statement.{statement}
 use Rattle.player.proofs.play.make.Tie as tie
@@ -17,7 +17,7 @@ same-length : tie.Need-same-length
 same-length c = search needs
 
 returns : tie.Need-returns
-unfolding madeFrom
+unfolding madeInto
 returns c = rw (← c .before .before .before .before .before .forward-for .ensures, ← c .before .before .before .before .backward-for .ensures) (c .before .before .reconstruct .ensures)
 
 pub make-spec : {M : Type 1} → statement M

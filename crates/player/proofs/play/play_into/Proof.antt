@@ -1,15 +1,48 @@
--- `play_into` meets its contract: the picture that is finished is the one that was made. Assumes nothing.
-use mathlib.Core.Path.{refl}
-use Rattle.player.specs.Play.{playedInto}
+-- `play_into` meets its contract: the picture that is kept is the one that was made. Assumes nothing.
+use mathlib.Core.List.{List}
+use mathlib.Core.Path.{_≡_, sym, ap}
+use Prim.Native.Nat.{ℕ}
+use lib.ListN.{length}
+use borrow.Author.Tests.{eq-eqb, ne-eqb}
+use Rattle.refusals.specs.Refusal.{accepted}
+use Rattle.byte_layout.specs.Laid.{laid}
+use Rattle.picture_header.specs.declared.opening.Opened.{Opened}
+use Rattle.picture.specs.Picture.{Picture, answerOf}
+use Rattle.picture.specs.declared.reader.Answer.{Answer}
+use Rattle.reel.specs.declared.references.Kept.{Kept}
+use Rattle.player.specs.Items.{madeInto, carriedFrom}
+use Rattle.player.specs.Next.{AfterPicture, KeptWithin, heldIn, keptOf, playedAs}
+use Rattle.player.specs.declared.play.PlayedFile.{PlayedFile}
+use Rattle.player.proofs.PlayLaws.{nothing-kept}
 use borrow.Author.Needs.{needs}
 use Rattle.player.proofs.play.play_into.Statement.{statement}
 use Rattle.player.proofs.play.play_into.Tie as tie
 
+-- what the definition has, of an answer and an output that are those of the picture made
+module _ (number : ℕ) (start : Opened) (made : Picture) (kept : Kept) (older newer : List ℕ) (answer : Answer) (same : answer ≡ answerOf made) where
+  abbrev after : AfterPicture
+  after = playedAs number start made kept older newer
+
+  abbrev file : ℕ → Kept → PlayedFile
+  file n k = record { played = record { number = number; start = start; answer = answer }; length = n; kept = k }
+
+  test : made .number ≡ answer .number
+  test = sym (ap (λ (a : Answer). a .number) same)
+
+  refused : KeptWithin kept older newer → (answer .number ≡ accepted → ⊥) → (file 0 kept ≡ after .shows) × ((older ≡ after .older) × (newer ≡ after .newer))
+  unfolding playedAs
+  refused within h =
+      let given = nothing-kept kept older newer within in
+      rw (← same, test, ne-eqb (answer .number) accepted h) (ap (λ (k : Kept). file 0 k) (given .0), given .1)
+
+  kept-on : {output older′ newer′ : List ℕ} {kept′ : Kept} → output ≡ made .output → answer .number ≡ accepted
+      → (kept′ ≡ keptOf (carriedFrom start output (heldIn kept older newer))) × ((older′ ≡ laid 0 (carriedFrom start output (heldIn kept older newer) .older) older) × (newer′ ≡ laid 0 (carriedFrom start output (heldIn kept older newer) .newer) newer))
+      → (file (length output) kept′ ≡ after .shows) × ((older′ ≡ after .older) × (newer′ ≡ after .newer))
+  unfolding playedAs
+  kept-on {output} e h given = rw (← same, ← e, test, eq-eqb (answer .number) accepted h) (ap (λ (k : Kept). file (length output) k) (given .0), given .1)
+
 make-requires : tie.Need-make-requires
 make-requires c κs = search needs
-
-finish-requires : tie.Need-finish-requires
-finish-requires c κs = search needs
 
 same-length : tie.Need-same-length
 same-length c = search needs
@@ -21,13 +54,42 @@ same-length-3 : tie.Need-same-length-3
 same-length-3 c = search needs
 
 returns : tie.Need-returns
-unfolding playedInto
 returns c =
-    let made = c .before .before .before .before .before .before .before .before .before .before .make .ensures in
-    let finished = c .before .before .before .before .finish .ensures in
-    rw (← made .0, ← made .1) (finished .0, (finished .1 .0, (finished .1 .1, refl)))
+    let args = c .before .before .before .before .before .before .before .before .before .before .before .before .args in
+    let made = c .before .before .before .before .make in
+    let given = refused (args .number) (args .start) (madeInto (args .start) (args .file .now) (heldIn (args .kept) (args .older .now) (args .newer .now)) (args .output .now)) (args .kept) (args .older .now) (args .newer .now) (made .result) (made .ensures .0) (c .before .before .before .before .before .before .before .before .before .before .before .before .pre) (c .if1 .taken) in
+    (given .0, (given .1 .0, (given .1 .1, made .ensures .1)))
+
+carry-requires : tie.Need-carry-requires
+carry-requires c κs = search needs
+
+same-length-4 : tie.Need-same-length-4
+same-length-4 c = search needs
+
+same-length-5 : tie.Need-same-length-5
+same-length-5 c = search needs
+
+same-length-6 : tie.Need-same-length-6
+same-length-6 c = search needs
+
+returns-2 : tie.Need-returns-2
+returns-2 c =
+    let args = c .before .before .before .before .before .before .before .before .before .before .before .before .before .before .before .before .before .before .before .before .args in
+    let made = c .before .before .before .before .before .before .before .before .before .before .before .before .make in
+    let given = kept-on (args .number) (args .start) (madeInto (args .start) (args .file .now) (heldIn (args .kept) (args .older .now) (args .newer .now)) (args .output .now)) (args .kept) (args .older .now) (args .newer .now) (made .result) (made .ensures .0) (made .ensures .1) (c .before .before .before .before .before .before .before .before .if1 .left) (c .before .before .before .before .carry .ensures) in
+    (given .0, (given .1 .0, (given .1 .1, made .ensures .1)))
 
 pub play-into-spec : {M : Type 1} → statement M
 play-into-spec =
     tie.close
-    (tie.spec make-requires finish-requires same-length same-length-2 same-length-3 returns)
+    (tie.spec
+    make-requires
+    same-length
+    same-length-2
+    same-length-3
+    returns
+    carry-requires
+    same-length-4
+    same-length-5
+    same-length-6
+    returns-2)

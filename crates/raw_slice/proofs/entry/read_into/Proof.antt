@@ -5,7 +5,6 @@ use Prim.Native.Nat.{ℕ, _<_, _≤_}
 use native.Mathlib.Omega.{arith}
 use borrow.Author.Needs.{needs}
 use lib.ListN.{length}
-use Rattle.bits.specs.declared.Position.{Position}
 use Rattle.byte_layout.specs.Laid.{farthest}
 use Rattle.slice_syntax.specs.Read.{Read}
 use Rattle.slice_syntax.specs.Slice.{SliceFields, rawSliceOf, recordsOf}

@@ -6,7 +6,7 @@ use native.Mathlib.Omega.{arith}
 use borrow.Author.Tests.{le-leb, lt-leb}
 use lib.Dec.{leb}
 use lib.ListN.{length}
-use Rattle.format3.specs.Chain.{only}
+use Rattle.parsed.specs.Guard.{need_else_then_}
 use Rattle.reel.specs.Part.{partAt}
 use borrow.Author.Needs.{needs}
 use Rattle.reel.proofs.part.part_at.Statement.{statement}
@@ -17,14 +17,14 @@ whole : (c : tie.Else2) → leb (c .before .before .before .args .at + 4) (lengt
 whole c = le-leb (c .before .before .before .args .at + 4) (length (c .before .before .before .args .reel .now)) (omega (arith, c .before .if1 .left, c .if2 .left))
 
 returns : tie.Need-returns
-unfolding partAt only
+unfolding partAt need_else_then_
 returns c = rw (lt-leb (c .before .before .args .at + 4) (length (c .before .before .args .reel .now)) (omega (arith, c .if1 .taken)))
 
 sub-if2 : tie.Need-sub-if2
 sub-if2 c = search needs
 
 returns-2 : tie.Need-returns-2
-unfolding partAt only
+unfolding partAt need_else_then_
 returns-2 c = rw (lt-leb (c .before .before .before .args .at + 4) (length (c .before .before .before .args .reel .now)) (omega (arith, c .before .if1 .left, c .if2 .taken)))
 
 add-start : tie.Need-add-start
@@ -37,11 +37,11 @@ sub-if3 : tie.Need-sub-if3
 sub-if3 c = search needs
 
 returns-3 : tie.Need-returns-3
-unfolding partAt only
+unfolding partAt need_else_then_
 returns-3 c = rw (whole (c .before .before), ← c .before .length-at .ensures, lt-leb (c .before .before .before .before .before .args .at + 4 + c .before .length-at .result) (length (c .before .before .before .before .before .args .reel .now)) (omega (arith, c .if3 .taken, c .before .before .if2 .left, c .before .before .before .if1 .left)))
 
 returns-4 : tie.Need-returns-4
-unfolding partAt only
+unfolding partAt need_else_then_
 returns-4 c = rw (whole (c .before .before), ← c .before .length-at .ensures, le-leb (c .before .before .before .before .before .args .at + 4 + c .before .length-at .result) (length (c .before .before .before .before .before .args .reel .now)) (omega (arith, c .if3 .left, c .before .before .if2 .left, c .before .before .before .if1 .left)))
 
 pub part-at-spec : {M : Type 1} → statement M

@@ -1,8 +1,9 @@
 -- `overwrite` meets its contract: what is copied is as many bytes as fit. Assumes nothing.
+use mathlib.Core.Path.{sym, _∙_}
 use native.Mathlib.Omega.{arith}
 use lib.ListN.{length, length-take}
 use lib.Seq.{take-all}
-use Rattle.reel.specs.References.{overwritten}
+use Rattle.byte_layout.proofs.Laws.Laid.{laid-clipped, laid-whole}
 use borrow.Author.Needs.{needs}
 use Rattle.reel.proofs.references.overwrite.Statement.{statement}
 use Rattle.reel.proofs.references.overwrite.Tie as tie
@@ -17,11 +18,13 @@ same-length : tie.Need-same-length
 same-length c = search needs
 
 returns : tie.Need-returns
-unfolding overwritten
 returns c =
+    let at-first = c .before .before .before .before in
+    let args = at-first .before .before .before .args in
     let copied = c .before .before .copy .ensures .1 in
-    let fitting = c .before .before .before .before .first .result .now in
-    rw (← c .before .before .before .before .first .ensures) (rw (take-all (length fitting) fitting (omega arith)) at copied)
+    let fitting = at-first .first .result .now in
+    rw (take-all (length fitting) fitting (omega arith)) at copied
+    ∙ sym (laid-clipped (args .bytes .now) (args .buffer .now) ∙ rw (← at-first .first .ensures) (laid-whole fitting (args .buffer .now) (rw (at-first .first .ensures) (simp length-take (omega arith)))))
 
 pub overwrite-spec : {M : Type 1} → statement M
 overwrite-spec = tie.close (tie.spec first-requires copy-requires same-length returns)

@@ -1,10 +1,6 @@
 -- `put_answer` meets its contract: three fields, one after another. Assumes nothing.
 use native.Mathlib.Omega.{arith}
-use mathlib.Core.List.{_++_}
-use lib.ListN.{take}
-use Rattle.report.specs.Text.{space}
-use Rattle.text.specs.Number.{field}
-use Rattle.text.proofs.PutLaws.{appended}
+use Rattle.text.proofs.PutLaws.{put, put-then}
 use borrow.Author.Needs.{needs}
 use Rattle.report.proofs.line.put_answer.Statement.{statement}
 use Rattle.report.proofs.line.put_answer.Tie as tie
@@ -26,14 +22,11 @@ same-length c = search needs
 
 returns : tie.Need-returns
 returns c =
-    let args = c .before .before .before .before .before .before .before .before .before .before .before .before .before .before .args in
-    let first = c .before .before .before .before .before .before .before .before .before .before .put-field in
-    let second = c .before .before .before .before .before .before .put-field2 in
-    let third = c .before .before .put-field3 in (
-      omega (arith, first .ensures .0, second .ensures .0, third .ensures .0),
-      appended (take (args .at) (args .buffer .now)) (field (args .answer .number) space) (field (args .answer .place) space ++ field (args .answer .made) space) (first .ensures .1)
-          (appended (take (first .result) (first .last .0)) (field (args .answer .place) space) (field (args .answer .made) space) (second .ensures .1) (third .ensures .1)),
-    )
+    let one = c .before .before .before .before .before .before .before .before .before .before .put-field .ensures in
+    let two = c .before .before .before .before .before .before .put-field2 .ensures in
+    let three = c .before .before .put-field3 .ensures in
+    let whole = put-then (put (one .0) (one .1 .1)) (put-then (put (two .0) (two .1 .1)) (put (three .0) (three .1 .1))) in
+    (whole .ends, (omega (arith, one .1 .0, two .1 .0, three .1 .0), whole .lies))
 
 pub put-answer-spec : {M : Type 1} → statement M
 put-answer-spec =

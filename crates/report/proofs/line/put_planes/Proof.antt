@@ -1,38 +1,45 @@
--- `put_planes` meets its contract: three fields, one after another. Assumes nothing.
+-- `put_planes` meets its contract: its test is that of `planesText`. Assumes nothing.
 use native.Mathlib.Omega.{arith}
-use mathlib.Core.List.{_++_}
-use lib.ListN.{take}
-use Rattle.report.specs.Text.{space, lineEnd}
-use Rattle.text.specs.Number.{field}
-use Rattle.text.proofs.PutLaws.{appended}
+use borrow.Author.Tests.{eq-eqb, ne-eqb}
 use borrow.Author.Needs.{needs}
 use Rattle.report.proofs.line.put_planes.Statement.{statement}
 use Rattle.report.proofs.line.put_planes.Tie as tie
 
-put-field-requires : tie.Need-put-field-requires
-put-field-requires c κs = search needs
+slice-aggregate-put-bytes : tie.Need-slice-aggregate-put-bytes
+slice-aggregate-put-bytes c = search needs
 
-put-field-requires-2 : tie.Need-put-field-requires-2
-put-field-requires-2 c κs = search needs
-
-put-field-requires-3 : tie.Need-put-field-requires-3
-put-field-requires-3 c κs = search needs
+put-bytes-requires : tie.Need-put-bytes-requires
+put-bytes-requires c κs = search needs
 
 same-length : tie.Need-same-length
 same-length c = search needs
 
 returns : tie.Need-returns
 returns c =
-    let args = c .before .before .before .before .before .before .before .before .before .before .before .before .before .args in
-    let first = c .before .before .before .before .before .before .before .before .before .before .put-field in
-    let second = c .before .before .before .before .before .before .put-field2 in
-    let third = c .before .before .put-field3 in (
-      omega (arith, first .ensures .0, second .ensures .0, third .ensures .0),
-      appended (take (args .at) (args .buffer .now)) (field (args .y) space) (field (args .cb) space ++ field (args .cr) lineEnd) (first .ensures .1)
-          (appended (take (first .result) (first .last .0)) (field (args .cb) space) (field (args .cr) lineEnd) (second .ensures .1) (third .ensures .1)),
-    )
+    let put = c .before .before .put-bytes .ensures in
+    rw (ne-eqb _ _ (c .before .before .before .before .before .if1 .taken)) (put .0, (omega (arith, put .0), put .1))
+
+sums-of-requires : tie.Need-sums-of-requires
+sums-of-requires c κs = search needs
+
+put-sums-requires : tie.Need-put-sums-requires
+put-sums-requires c κs = search needs
+
+same-length-2 : tie.Need-same-length-2
+same-length-2 c = search needs
+
+returns-2 : tie.Need-returns-2
+returns-2 c = rw (eq-eqb _ _ (c .before .before .before .before .before .if1 .left), ← c .before .before .before .sums-of .ensures) (c .before .before .put-sums .ensures)
 
 pub put-planes-spec : {M : Type 1} → statement M
 put-planes-spec =
     tie.close
-    (tie.spec put-field-requires put-field-requires-2 put-field-requires-3 same-length returns)
+    (tie.spec
+    slice-aggregate-put-bytes
+    put-bytes-requires
+    same-length
+    returns
+    sums-of-requires
+    put-sums-requires
+    same-length-2
+    returns-2)

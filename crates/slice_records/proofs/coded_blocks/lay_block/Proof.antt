@@ -7,7 +7,9 @@ use borrow.Author.Needs.{needs}
 use lib.IntN.{ℤ}
 use Rattle.bits.specs.Bits.{InBytes}
 use Rattle.bits.specs.declared.Position.{Position}
-use Rattle.record_layout.specs.Records.{PairFields, BlockFields, levelsBytes, differenceBytes, blockBytes}
+use Rattle.pairs.specs.declared.Pair.{Pair}
+use Rattle.blocks.specs.Blocks.{Block, coded}
+use Rattle.record_layout.specs.Records.{levelsBytes, differenceBytes, blockBytes}
 use Rattle.record_layout.proofs.Laws.Lengths.{levels-length}
 use Rattle.slice_syntax.specs.Read.{Read}
 use Rattle.slice_syntax.specs.Blocks.{givenDifferenceAt, pairsAt, blockAt}
@@ -23,17 +25,17 @@ module _ (s : tie.Start) where
   abbrev dc : ℤ → List ℕ
   dc = differenceBytes (s .args .intra)
 
-  abbrev both : BlockFields → List ℕ
+  abbrev both : Block → List ℕ
   both = blockBytes (s .args .intra)
 
   abbrev difference : Read ℤ
   difference = givenDifferenceAt (s .args .intra) (s .args .block) (s .args .bytes .now) (s .args .at)
 
-  abbrev pairs : ℤ → Position → Read (List PairFields)
+  abbrev pairs : ℤ → Position → Read (List Pair)
   pairs d p = pairsAt (s .args .intra) (s .args .bytes .now) p
 
-abbrev join : ℤ → List PairFields → BlockFields
-join d pairs = record { difference = d; pairs = pairs }
+abbrev join : ℤ → List Pair → Block
+join = coded
 
 lay-difference-requires : tie.Need-lay-difference-requires
 lay-difference-requires c κs = search needs

@@ -1,16 +1,17 @@
--- `lay_blocks` meets its contract: each coded block is laid behind those before it. Assumes nothing.
+-- `lay_blocks` meets its contract: each block is laid behind those before it. Assumes nothing.
 use mathlib.Core.Path.{refl}
 use Prim.Native.Nat.{_-_, _≤_}
 use native.Mathlib.Omega.{arith}
 use borrow.Author.Needs.{needs}
 use Rattle.bits.specs.Bits.{InBytes}
 use Rattle.blocks.specs.Blocks.{isCoded}
-use Rattle.record_layout.specs.Records.{blocksBytes}
-use Rattle.slice_syntax.specs.Blocks.{codedBlockAt, blocksFrom}
+use Rattle.record_layout.specs.Records.{blockBytes}
+use Rattle.record_layout.proofs.Laws.Lengths.{block-short}
+use Rattle.slice_syntax.specs.Blocks.{givenBlockAt, blocksFrom}
 use Rattle.slice_syntax.proofs.Laws.Read.{reached}
-use Rattle.slice_syntax.proofs.Laws.Onward.{coded-onward}
+use Rattle.slice_syntax.proofs.Laws.Onward.{given-block-onward}
 use Rattle.slice_records.proofs.Laws.Laying.{Part, part-done, part-refused, laid-as, not-laid}
-use Rattle.slice_records.proofs.Laws.Few.{of-read, coded-short}
+use Rattle.slice_records.proofs.Laws.Few.{of-read, given-few}
 use Rattle.slice_records.proofs.Laws.Blocks.{Passed, passed-none, passed-refused, passed-end, passed-more}
 use Rattle.slice_records.proofs.coded_blocks.lay_blocks.Statement.{statement}
 use Rattle.slice_records.proofs.coded_blocks.lay_blocks.Tie as tie
@@ -25,11 +26,11 @@ abbrev μ-loop : tie.MeasureT-loop
 loop-holds : tie.Need-loop-holds Inv-loop μ-loop
 loop-holds c = passed-none _ _ _ _ _ _ (c .before .before .pre .1)
 
-add-lay-coded-block : tie.Need-add-lay-coded-block Inv-loop μ-loop
-add-lay-coded-block c = let l = c .before .before in omega (arith, l .loop .inv .few, c .before .loop-test .taken, l .before .before .before .pre .2)
+add-lay-given-block : tie.Need-add-lay-given-block Inv-loop μ-loop
+add-lay-given-block c = let l = c .before .before in omega (arith, l .loop .inv .few, c .before .loop-test .taken, l .before .before .before .pre .2)
 
-lay-coded-block-requires : tie.Need-lay-coded-block-requires Inv-loop μ-loop
-lay-coded-block-requires c κs =
+lay-given-block-requires : tie.Need-lay-given-block-requires Inv-loop μ-loop
+lay-given-block-requires c κs =
     let l = c .before .before in
     let s = l .before .before .before in
     (s .pre .0, l .loop .inv .inside, omega (arith, l .loop .inv .few, c .before .loop-test .taken, s .pre .2), c .before .loop-test .taken)
@@ -45,15 +46,15 @@ returns c =
     let k = c .before .before .before .before .before in
     let l = k .before .before .before in
     let s = l .before .before .before in
-    let block = codedBlockAt (isCoded (s .args .pattern) (l .loop .block)) (s .args .intra) (l .loop .block) (s .args .bytes .now) (l .loop .at) in
-    let e = passed-refused _ _ _ _ _ (l .loop .inv) (k .before .before .loop-test .taken) (part-refused (blocksBytes (s .args .intra)) block (k .lay-coded-block .ensures .0) (c .before .refusal .given .1)) in
+    let block = givenBlockAt (isCoded (s .args .pattern) (l .loop .block)) (s .args .intra) (l .loop .block) (s .args .bytes .now) (l .loop .at) in
+    let e = passed-refused _ _ _ _ _ (l .loop .inv) (k .before .before .loop-test .taken) (part-refused (blockBytes (s .args .intra)) block (k .lay-given-block .ensures .0) (c .before .refusal .given .1)) in
     (rw e refl, not-laid _ e)
 
 enum-known-next : tie.Need-enum-known-next Inv-loop μ-loop
 enum-known-next c = search needs
 
 module _ (c : tie.After-known-told2 Inv-loop μ-loop) where
-  abbrev called : tie.After-lay-coded-block Inv-loop μ-loop
+  abbrev called : tie.After-lay-given-block Inv-loop μ-loop
   called = c .before .before .before .before .before
 
   abbrev looped : tie.At-loop Inv-loop μ-loop
@@ -62,15 +63,15 @@ module _ (c : tie.After-known-told2 Inv-loop μ-loop) where
   abbrev start : tie.Start Inv-loop μ-loop
   start = looped .before .before .before
 
-  some : Part (blocksBytes (start .args .intra)) (codedBlockAt (isCoded (start .args .pattern) (looped .loop .block)) (start .args .intra) (looped .loop .block) (start .args .bytes .now) (looped .loop .at))
+  some : Part (blockBytes (start .args .intra)) (givenBlockAt (isCoded (start .args .pattern) (looped .loop .block)) (start .args .intra) (looped .loop .block) (start .args .bytes .now) (looped .loop .at))
       (c .before .next .given .0 .0) (c .before .next .given .0 .1 .0)
-  some = part-done (blocksBytes (start .args .intra)) _ (called .lay-coded-block .ensures .0) (c .before .next .given .1)
+  some = part-done (blockBytes (start .args .intra)) _ (called .lay-given-block .ensures .0) (c .before .next .given .1)
 
   few : c .before .next .given .0 .1 .0 ≤ 195
-  few = omega (arith, some .size, of-read (coded-short (isCoded (start .args .pattern) (looped .loop .block)) (start .args .intra) (looped .loop .block) (start .args .bytes .now) (looped .loop .at)) (some .is) .short)
+  few = omega (arith, some .size, block-short (start .args .intra) (some .value) (of-read (given-few (isCoded (start .args .pattern) (looped .loop .block)) (start .args .intra) (looped .loop .block) (start .args .bytes .now) (looped .loop .at)) (some .is)))
 
   inside : InBytes (start .args .bytes .now) (c .before .next .given .0 .0)
-  inside = reached (coded-onward (start .args .bytes .now) (isCoded (start .args .pattern) (looped .loop .block)) (start .args .intra) (looped .loop .block) (looped .loop .at) (looped .loop .inv .inside)) (some .is) .inside
+  inside = reached (given-block-onward (start .args .bytes .now) (isCoded (start .args .pattern) (looped .loop .block)) (start .args .intra) (looped .loop .block) (looped .loop .at) (looped .loop .inv .inside)) (some .is) .inside
 
 add-laid : tie.Need-add-laid Inv-loop μ-loop
 add-laid c = omega (arith, few c, looped c .loop .inv .few, called c .before .before .loop-test .taken)
@@ -82,7 +83,7 @@ loop-less : tie.Need-loop-less Inv-loop μ-loop
 loop-less c = omega (arith, called c .before .before .loop-test .taken)
 
 loop-again : tie.Need-loop-again Inv-loop μ-loop
-loop-again c = passed-more _ _ _ _ _ (looped c .loop .inv) (called c .before .before .loop-test .taken) (some c) (called c .lay-coded-block .ensures .1) (inside c)
+loop-again c = passed-more _ _ _ _ _ (looped c .loop .inv) (called c .before .before .loop-test .taken) (some c) (called c .lay-given-block .ensures .1) (inside c)
 
 same-length-2 : tie.Need-same-length-2 Inv-loop μ-loop
 same-length-2 c = c .before .loop .inv .long
@@ -100,8 +101,8 @@ lay-blocks-spec =
     Inv-loop
     μ-loop
     loop-holds
-    add-lay-coded-block
-    lay-coded-block-requires
+    add-lay-given-block
+    lay-given-block-requires
     enum-known-refusal
     same-length
     returns

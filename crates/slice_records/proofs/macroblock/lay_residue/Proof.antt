@@ -4,12 +4,12 @@ use mathlib.Core.Path.{_≡_, refl}
 use Prim.Native.Nat.{ℕ, _+_, _≤_}
 use native.Mathlib.Omega.{arith}
 use borrow.Author.Needs.{needs}
-use Rattle.macroblock_symbols.specs.Vectors.{gives}
-use Rattle.layout_reading.specs.Matching.{codedPattern}
+use Rattle.symbols.specs.MacroblockType.{isIntra}
+use Rattle.blocks.specs.Blocks.{Block}
 use Rattle.bits.specs.Bits.{InBytes}
 use Rattle.bits.specs.declared.Position.{Position}
-use Rattle.record_layout.specs.Records.{BlockFields, patternBytes, blocksBytes}
-use Rattle.record_layout.proofs.Laws.Lengths.{pattern-short}
+use Rattle.record_layout.specs.Records.{patternBytes, blocksBytes}
+use Rattle.record_layout.proofs.Laws.Lengths.{blocks-short, pattern-short}
 use Rattle.slice_syntax.specs.Read.{Read, read}
 use Rattle.slice_syntax.specs.Blocks.{blocksFrom}
 use Rattle.slice_syntax.specs.Macroblock.{ResidueFields, patternAt, residueAt}
@@ -18,7 +18,7 @@ use Rattle.slice_syntax.proofs.Laws.Onward.{pattern-onward}
 use Rattle.slice_records.specs.Laying.{layingOf, LaidAt, patternAndBlocks}
 use Rattle.slice_records.proofs.Laws.Laying.{Part, part-done, part-refused, laid-as, not-laid, first-refused, second-refused, both-laid}
 use Rattle.slice_records.proofs.Laws.Lengths.{pattern-small}
-use Rattle.slice_records.proofs.Laws.Few.{of-read, blocks-short}
+use Rattle.slice_records.proofs.Laws.Few.{of-read, blocks-few}
 use Rattle.slice_records.proofs.Laws.Blocks.{blocks-as}
 use Rattle.slice_records.proofs.macroblock.lay_residue.Statement.{statement}
 use Rattle.slice_records.proofs.macroblock.lay_residue.Tie as tie
@@ -27,8 +27,8 @@ module _ (s : tie.Start) where
   abbrev patterned : ℕ → List ℕ
   patterned = patternBytes (s .args .flags)
 
-  abbrev coded : List BlockFields → List ℕ
-  coded = blocksBytes (gives (s .args .flags) 16)
+  abbrev coded : List Block → List ℕ
+  coded = blocksBytes (isIntra (s .args .flags))
 
   abbrev both : ResidueFields → List ℕ
   both = patternAndBlocks (s .args .flags)
@@ -36,10 +36,10 @@ module _ (s : tie.Start) where
   abbrev pattern : Read ℕ
   pattern = patternAt (s .args .flags) (s .args .bytes .now) (s .args .at)
 
-  abbrev blocks : ℕ → Position → Read (List BlockFields)
-  blocks value p = blocksFrom (gives (s .args .flags) 16) (codedPattern (s .args .flags) value) 6 0 (s .args .bytes .now) p
+  abbrev blocks : ℕ → Position → Read (List Block)
+  blocks value p = blocksFrom (isIntra (s .args .flags)) value 6 0 (s .args .bytes .now) p
 
-abbrev join : ℕ → List BlockFields → ResidueFields
+abbrev join : ℕ → List Block → ResidueFields
 join value some = record { pattern = value; blocks = some }
 
 read-pattern-requires : tie.Need-read-pattern-requires
@@ -67,15 +67,12 @@ cast-pattern c = omega (arith, pattern-small _ _ _ (value c))
 gives-part-requires : tie.Need-gives-part-requires
 gives-part-requires c κs = search needs
 
-coded-pattern-requires : tie.Need-coded-pattern-requires
-coded-pattern-requires c κs = search needs
-
 lay-pattern-requires : tie.Need-lay-pattern-requires
 lay-pattern-requires c κs = search needs
 
 module _ (c : tie.After-lay-pattern) where
   abbrev told : tie.After-known-told2
-  told = c .before .before .before .before
+  told = c .before .before .before
 
   abbrev front : Part (patterned (start told)) (pattern (start told)) (told .before .value .given .0 .1 .0) (c .lay-pattern .result)
   front = record { value = told .before .value .given .0 .0; is = value told; size = c .lay-pattern .ensures .0 }
@@ -95,7 +92,7 @@ enum-known-refusal-2 c = search needs
 enum-known-end : tie.Need-enum-known-end
 enum-known-end c = search needs
 
--- the blocks, by what the two tests gave
+-- the blocks, by what the test gave
 module _ (c : tie.After-lay-blocks) where
   abbrev first : tie.After-lay-pattern
   first = c .before .before .before .before
@@ -105,7 +102,7 @@ module _ (c : tie.After-lay-blocks) where
 
   known-blocks : (c .lay-blocks .result ≡ layingOf (coded (start known)) (blocks (start known) (front first .value) (known .before .value .given .0 .1 .0)))
       × LaidAt (coded (start known)) (start known .args .place + first .lay-pattern .result) (first .lay-pattern .last .0) (c .lay-blocks .last .1 .1 .1 .1 .1 .0) (blocks (start known) (front first .value) (known .before .value .given .0 .1 .0))
-  known-blocks = blocks-as _ _ _ _ _ _ (first .before .before .before .gives-part .ensures) (first .before .before .coded-pattern .ensures) (c .lay-blocks .ensures)
+  known-blocks = blocks-as _ _ _ _ _ (first .before .before .gives-part .ensures) (c .lay-blocks .ensures)
 
 module _ (c : tie.After-known-told4) where
   abbrev second : tie.After-lay-blocks
@@ -119,7 +116,8 @@ add-both c =
     let k = known (second c) in
     let s = start k in
     let value = front (first (second c)) .value in
-    omega (arith, few (first (second c)), back c .size, of-read (blocks-short (gives (s .args .flags) 16) (codedPattern (s .args .flags) value) 6 0 (s .args .bytes .now) (k .before .value .given .0 .1 .0)) (back c .is) .short)
+    let six = of-read (blocks-few (isIntra (s .args .flags)) value 6 0 (s .args .bytes .now) (k .before .value .given .0 .1 .0)) (back c .is) in
+    omega (arith, few (first (second c)), back c .size, blocks-short (isIntra (s .args .flags)) (six .few), six .counted)
 
 returns : tie.Need-returns
 unfolding residueAt
@@ -162,7 +160,6 @@ lay-residue-spec =
     enum-known-value
     cast-pattern
     gives-part-requires
-    coded-pattern-requires
     lay-pattern-requires
     add-lay-blocks
     lay-blocks-requires

@@ -6,7 +6,7 @@ use native.Mathlib.Omega.{arith}
 use borrow.Author.Needs.{needs}
 use Rattle.symbols.specs.declared.vector_codes.VectorCodes.{VectorCodes}
 use Rattle.macroblock_symbols.specs.declared.vectors.Vectors.{Vectors}
-use Rattle.macroblock_symbols.specs.Vectors.{gives}
+use Rattle.symbols.specs.MacroblockType.{givesForward, givesBackward}
 use Rattle.bits.specs.Bits.{InBytes}
 use Rattle.bits.specs.declared.Position.{Position}
 use Rattle.record_layout.specs.Records.{givenCodesBytes}
@@ -23,16 +23,16 @@ use Rattle.slice_records.proofs.vectors.lay_vectors.Tie as tie
 
 module _ (s : tie.Start) where
   abbrev ahead : VectorCodes → List ℕ
-  ahead = givenCodesBytes (gives (s .args .flags) 2)
+  ahead = givenCodesBytes (givesForward (s .args .flags))
 
   abbrev behind : VectorCodes → List ℕ
-  behind = givenCodesBytes (gives (s .args .flags) 4)
+  behind = givenCodesBytes (givesBackward (s .args .flags))
 
   abbrev forward : Read VectorCodes
-  forward = givenVectorAt (gives (s .args .flags) 2) (s .args .forward) (s .args .bytes .now) (s .args .at)
+  forward = givenVectorAt (givesForward (s .args .flags)) (s .args .forward) (s .args .bytes .now) (s .args .at)
 
   abbrev backward : VectorCodes → Position → Read VectorCodes
-  backward codes p = givenVectorAt (gives (s .args .flags) 4) (s .args .backward) (s .args .bytes .now) p
+  backward codes p = givenVectorAt (givesBackward (s .args .flags)) (s .args .backward) (s .args .bytes .now) p
 
 abbrev join : VectorCodes → VectorCodes → Vectors
 join first second = record { forward = first; backward = second }
@@ -57,10 +57,10 @@ module _ (c : tie.After-known-told2) where
   front = part-done (ahead start) (forward start) (called .lay-given-vector .ensures .0) (c .before .next .given .1)
 
   few : c .before .next .given .0 .1 .0 ≤ 4
-  few = omega (arith, front .size, given-short (gives (start .args .flags) 2) (front .value))
+  few = omega (arith, front .size, given-short (givesForward (start .args .flags)) (front .value))
 
   inside : InBytes (start .args .bytes .now) (c .before .next .given .0 .0)
-  inside = reached (given-onward (start .args .bytes .now) (gives (start .args .flags) 2) (start .args .forward) (start .args .at) (start .pre .1)) (front .is) .inside
+  inside = reached (given-onward (start .args .bytes .now) (givesForward (start .args .flags)) (start .args .forward) (start .args .at) (start .pre .1)) (front .is) .inside
 
 add-lay-given-vector : tie.Need-add-lay-given-vector
 add-lay-given-vector c = omega (arith, few (c .before), start (c .before) .pre .4)
@@ -85,7 +85,7 @@ module _ (c : tie.After-known-told4) where
   back = part-done (behind (start told)) (backward (start told) (front told .value) (told .before .next .given .0 .0)) (second .lay-given-vector2 .ensures .0) (c .before .end .given .1)
 
 add-both : tie.Need-add-both
-add-both c = omega (arith, few (told c), back c .size, given-short (gives (start (told c) .args .flags) 4) (back c .value))
+add-both c = omega (arith, few (told c), back c .size, given-short (givesBackward (start (told c) .args .flags)) (back c .value))
 
 same-length : tie.Need-same-length
 same-length c = search needs

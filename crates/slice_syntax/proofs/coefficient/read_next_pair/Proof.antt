@@ -6,7 +6,7 @@ use borrow.Author.Tests.{le-leb, lt-leb}
 use mir.Syntax.{w16}
 use mir.Val.{toZ, ofZ}
 use mir.ValLaws.{toZ-ofZ}
-use Rattle.format3.specs.Chain.{only}
+use Rattle.parsed.specs.Guard.{need_else_then_}
 use Rattle.bits.specs.Bits.{bitsFrom}
 use Rattle.bits.proofs.Rest.{rest-length}
 use Rattle.coefficient_codes.specs.Coefficient.{wordsOf, coefficientOf}
@@ -39,7 +39,7 @@ module _ (c : tie.After-known-told) where
   same = toZ-ofZ w16 (c .before .run .given .0 .1 .0) (record { sfits = c .known-told .given .1 .0 .1 })
 
 returns : tie.Need-returns
-unfolding nextPairOf only
+unfolding nextPairOf need_else_then_
 returns c = rw (pair (c .before), lt-leb _ _ (c .if1 .taken))
 
 advance-requires : tie.Need-advance-requires
@@ -71,7 +71,7 @@ enum-told-2 : tie.Need-enum-told-2
 enum-told-2 c = search needs
 
 returns-2 : tie.Need-returns-2
-unfolding nextPairOf only
+unfolding nextPairOf need_else_then_
 returns-2 c = rw (pair (c .before .before), le-leb _ _ (c .before .if1 .left), ← c .advance .ensures, same (c .before .before))
 
 returns-3 : tie.Need-returns-3

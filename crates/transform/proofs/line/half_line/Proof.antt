@@ -1,5 +1,5 @@
--- `transform::half` meets its contract: the accumulator has the bits of the sum so far. Assumes nothing.
-use Prim.Native.Nat.{ℕ, _+_, _-_, _*_, _≤_}
+-- `line::half_line` meets its contract: the accumulator has the bits of the sum so far. Assumes nothing.
+use Prim.Native.Nat.{ℕ, _+_, _-_, _*_, _^_, _≤_}
 use mathlib.Core.Path.{_≡_, sym, ap, _∙_}
 use native.Mathlib.Nat.{mul-le-mul-right}
 use native.Mathlib.Omega.{arith}
@@ -24,10 +24,10 @@ abbrev μ-loop : tie.MeasureT-loop
 abbrev termAt : tie.Start Inv-loop μ-loop → ℕ → ℤ
 termAt a k = at (a .args .t1) k *ℤ at (a .args .t2) (a .args .first + 2 * k)
 
-so-far : (s : tie.At-loop Inv-loop μ-loop) → Within 72057594037927936 (sumTo (termAt (s .before)) (s .loop .j))
+so-far : (s : tie.At-loop Inv-loop μ-loop) → Within (2 ^ 56) (sumTo (termAt (s .before)) (s .loop .j))
 so-far s =
-    within-more (within-sum _ 18014398509481984 (s .loop .j) (λ k h. within-mul (s .before .pre .0 .all k) (s .before .pre .1 .all (s .before .args .first + 2 * k))))
-    (omega (arith, mul-le-mul-right 18014398509481984 (s .loop .inv .0)))
+    within-more (within-sum _ (2 ^ 54) (s .loop .j) (λ k h. within-mul (s .before .pre .0 .all k) (s .before .pre .1 .all (s .before .args .first + 2 * k))))
+    (omega (arith, mul-le-mul-right (2 ^ 54) (s .loop .inv .0)))
 
 abbrev term : (c : tie.After-sum2 Inv-loop μ-loop) → let s = c .before .before .before in Held (termAt (s .before) (s .loop .j))
 term c = let s = c .before .before .before in

@@ -1,4 +1,5 @@
--- `transform::line` meets its contract: each of the eight is a sum or a difference of two halves. Assumes nothing.
+-- `line::transform_line` meets its contract: each of the eight is a sum or a difference of two halves. Assumes nothing.
+use Prim.Native.Nat.{_^_}
 use mathlib.Core.List.{List, [], _∷_}
 use mathlib.Core.Path.{_∙_}
 use native.Mathlib.Omega.{arith}
@@ -14,56 +15,56 @@ use Rattle.transform.proofs.line.transform_line.Tie as tie
 abbrev start : tie.After-half-line8 → tie.Start
 start c = c .before .before .before .before .before .before .before .before
 
-abbrev transform-line : tie.After-half-line8 → List ℤ
-transform-line c = start c .args .x
+abbrev input : tie.After-half-line8 → List ℤ
+input c = start c .args .x
 
-abbrev e0 : (c : tie.After-half-line8) → Held (halfSum even0 (transform-line c) 0)
-e0 c = result w64 (c .before .before .before .before .before .before .before .half-line .ensures) (half-within even0 (transform-line c) 0 (table-within 1048576 even0 tt) (start c .pre)) tt
+abbrev e0 : (c : tie.After-half-line8) → Held (halfSum even0 (input c) 0)
+e0 c = result w64 (c .before .before .before .before .before .before .before .half-line .ensures) (half-within even0 (input c) 0 (table-within (2 ^ 20) even0 tt) (start c .pre)) tt
 
-abbrev e1 : (c : tie.After-half-line8) → Held (halfSum even1 (transform-line c) 0)
-e1 c = result w64 (c .before .before .before .before .before .before .half-line2 .ensures) (half-within even1 (transform-line c) 0 (table-within 1048576 even1 tt) (start c .pre)) tt
+abbrev e1 : (c : tie.After-half-line8) → Held (halfSum even1 (input c) 0)
+e1 c = result w64 (c .before .before .before .before .before .before .half-line2 .ensures) (half-within even1 (input c) 0 (table-within (2 ^ 20) even1 tt) (start c .pre)) tt
 
-abbrev e2 : (c : tie.After-half-line8) → Held (halfSum even2 (transform-line c) 0)
-e2 c = result w64 (c .before .before .before .before .before .half-line3 .ensures) (half-within even2 (transform-line c) 0 (table-within 1048576 even2 tt) (start c .pre)) tt
+abbrev e2 : (c : tie.After-half-line8) → Held (halfSum even2 (input c) 0)
+e2 c = result w64 (c .before .before .before .before .before .half-line3 .ensures) (half-within even2 (input c) 0 (table-within (2 ^ 20) even2 tt) (start c .pre)) tt
 
-abbrev e3 : (c : tie.After-half-line8) → Held (halfSum even3 (transform-line c) 0)
-e3 c = result w64 (c .before .before .before .before .half-line4 .ensures) (half-within even3 (transform-line c) 0 (table-within 1048576 even3 tt) (start c .pre)) tt
+abbrev e3 : (c : tie.After-half-line8) → Held (halfSum even3 (input c) 0)
+e3 c = result w64 (c .before .before .before .before .half-line4 .ensures) (half-within even3 (input c) 0 (table-within (2 ^ 20) even3 tt) (start c .pre)) tt
 
-abbrev o0 : (c : tie.After-half-line8) → Held (halfSum odd0 (transform-line c) 1)
-o0 c = result w64 (c .before .before .before .half-line5 .ensures) (half-within odd0 (transform-line c) 1 (table-within 1048576 odd0 tt) (start c .pre)) tt
+abbrev o0 : (c : tie.After-half-line8) → Held (halfSum odd0 (input c) 1)
+o0 c = result w64 (c .before .before .before .half-line5 .ensures) (half-within odd0 (input c) 1 (table-within (2 ^ 20) odd0 tt) (start c .pre)) tt
 
-abbrev o1 : (c : tie.After-half-line8) → Held (halfSum odd1 (transform-line c) 1)
-o1 c = result w64 (c .before .before .half-line6 .ensures) (half-within odd1 (transform-line c) 1 (table-within 1048576 odd1 tt) (start c .pre)) tt
+abbrev o1 : (c : tie.After-half-line8) → Held (halfSum odd1 (input c) 1)
+o1 c = result w64 (c .before .before .half-line6 .ensures) (half-within odd1 (input c) 1 (table-within (2 ^ 20) odd1 tt) (start c .pre)) tt
 
-abbrev o2 : (c : tie.After-half-line8) → Held (halfSum odd2 (transform-line c) 1)
-o2 c = result w64 (c .before .half-line7 .ensures) (half-within odd2 (transform-line c) 1 (table-within 1048576 odd2 tt) (start c .pre)) tt
+abbrev o2 : (c : tie.After-half-line8) → Held (halfSum odd2 (input c) 1)
+o2 c = result w64 (c .before .half-line7 .ensures) (half-within odd2 (input c) 1 (table-within (2 ^ 20) odd2 tt) (start c .pre)) tt
 
-abbrev o3 : (c : tie.After-half-line8) → Held (halfSum odd3 (transform-line c) 1)
-o3 c = result w64 (c .half-line8 .ensures) (half-within odd3 (transform-line c) 1 (table-within 1048576 odd3 tt) (start c .pre)) tt
+abbrev o3 : (c : tie.After-half-line8) → Held (halfSum odd3 (input c) 1)
+o3 c = result w64 (c .half-line8 .ensures) (half-within odd3 (input c) 1 (table-within (2 ^ 20) odd3 tt) (start c .pre)) tt
 
 half-line-requires : tie.Need-half-line-requires
-half-line-requires c κs = (table-within 1048576 even0 tt, c .pre, omega arith)
+half-line-requires c κs = (table-within _ even0 tt, c .pre, omega arith)
 
 half-line-requires-2 : tie.Need-half-line-requires-2
-half-line-requires-2 c κs = (table-within 1048576 even1 tt, c .before .pre, omega arith)
+half-line-requires-2 c κs = (table-within _ even1 tt, c .before .pre, omega arith)
 
 half-line-requires-3 : tie.Need-half-line-requires-3
-half-line-requires-3 c κs = (table-within 1048576 even2 tt, c .before .before .pre, omega arith)
+half-line-requires-3 c κs = (table-within _ even2 tt, c .before .before .pre, omega arith)
 
 half-line-requires-4 : tie.Need-half-line-requires-4
-half-line-requires-4 c κs = (table-within 1048576 even3 tt, c .before .before .before .pre, omega arith)
+half-line-requires-4 c κs = (table-within _ even3 tt, c .before .before .before .pre, omega arith)
 
 half-line-requires-5 : tie.Need-half-line-requires-5
-half-line-requires-5 c κs = (table-within 1048576 odd0 tt, c .before .before .before .before .pre, omega arith)
+half-line-requires-5 c κs = (table-within _ odd0 tt, c .before .before .before .before .pre, omega arith)
 
 half-line-requires-6 : tie.Need-half-line-requires-6
-half-line-requires-6 c κs = (table-within 1048576 odd1 tt, c .before .before .before .before .before .pre, omega arith)
+half-line-requires-6 c κs = (table-within _ odd1 tt, c .before .before .before .before .before .pre, omega arith)
 
 half-line-requires-7 : tie.Need-half-line-requires-7
-half-line-requires-7 c κs = (table-within 1048576 odd2 tt, c .before .before .before .before .before .before .pre, omega arith)
+half-line-requires-7 c κs = (table-within _ odd2 tt, c .before .before .before .before .before .before .pre, omega arith)
 
 half-line-requires-8 : tie.Need-half-line-requires-8
-half-line-requires-8 c κs = (table-within 1048576 odd3 tt, c .before .before .before .before .before .before .before .pre, omega arith)
+half-line-requires-8 c κs = (table-within _ odd3 tt, c .before .before .before .before .before .before .before .pre, omega arith)
 
 add-t11 : tie.Need-add-t11
 add-t11 c = fits (e0 c ⊞ o0 c) tt
@@ -92,15 +93,15 @@ sub-t18 c = fits (e0 c ⊟ o0 c) tt
 returns : tie.Need-returns
 returns c =
     (λ i.
-    (kept w64 (e0 c ⊞ o0 c) tt .is ∙ halves-sum even0 odd0 (transform-line c)) i
-    ∷ (kept w64 (e1 c ⊞ o1 c) tt .is ∙ halves-sum even1 odd1 (transform-line c)) i
-    ∷ (kept w64 (e2 c ⊞ o2 c) tt .is ∙ halves-sum even2 odd2 (transform-line c)) i
-    ∷ (kept w64 (e3 c ⊞ o3 c) tt .is ∙ halves-sum even3 odd3 (transform-line c)) i
-    ∷ (kept w64 (e3 c ⊟ o3 c) tt .is ∙ halves-difference even3 odd3 (transform-line c)) i
-    ∷ (kept w64 (e2 c ⊟ o2 c) tt .is ∙ halves-difference even2 odd2 (transform-line c)) i
-    ∷ (kept w64 (e1 c ⊟ o1 c) tt .is ∙ halves-difference even1 odd1 (transform-line c)) i
-    ∷ (kept w64 (e0 c ⊟ o0 c) tt .is ∙ halves-difference even0 odd0 (transform-line c)) i ∷ [])
-    ∙ line-is (transform-line c)
+    (kept w64 (e0 c ⊞ o0 c) tt .is ∙ halves-sum even0 odd0 (input c)) i
+    ∷ (kept w64 (e1 c ⊞ o1 c) tt .is ∙ halves-sum even1 odd1 (input c)) i
+    ∷ (kept w64 (e2 c ⊞ o2 c) tt .is ∙ halves-sum even2 odd2 (input c)) i
+    ∷ (kept w64 (e3 c ⊞ o3 c) tt .is ∙ halves-sum even3 odd3 (input c)) i
+    ∷ (kept w64 (e3 c ⊟ o3 c) tt .is ∙ halves-difference even3 odd3 (input c)) i
+    ∷ (kept w64 (e2 c ⊟ o2 c) tt .is ∙ halves-difference even2 odd2 (input c)) i
+    ∷ (kept w64 (e1 c ⊟ o1 c) tt .is ∙ halves-difference even1 odd1 (input c)) i
+    ∷ (kept w64 (e0 c ⊟ o0 c) tt .is ∙ halves-difference even0 odd0 (input c)) i ∷ [])
+    ∙ line-is (input c)
 
 pub transform-line-spec : {M : Type 1} → statement M
 transform-line-spec =

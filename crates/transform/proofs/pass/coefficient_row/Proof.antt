@@ -1,3 +1,4 @@
+-- `pass::coefficient_row` meets its contract: before number u, the first u of the row are widened into the line. Assumes nothing.
 use Prim.Native.Nat.{_+_, _-_, _*_, _≤_}
 use mathlib.Core.Path.{refl, _∙_}
 use native.Mathlib.Omega.{arith}

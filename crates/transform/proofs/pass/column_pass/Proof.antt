@@ -1,5 +1,6 @@
-use Prim.Native.Nat.{_+_, _-_, _≤_, _<_}
-use mathlib.Core.Path.{refl, sym, ap, subst}
+-- `pass::column_pass` meets its contract: before row v, the first v columns have the residues of the rows' transformed lines. Assumes nothing.
+use Prim.Native.Nat.{_+_, _-_, _^_, _≤_, _<_}
+use mathlib.Core.Path.{sym, ap, subst}
 use native.Mathlib.Omega.{arith}
 use lib.IntN.{pos}
 use Rattle.integers.specs.Bound.{AllWithin}
@@ -10,13 +11,13 @@ use Rattle.transform.proofs.pass.column_pass.Statement.{statement}
 use Rattle.transform.proofs.pass.column_pass.Tie as tie
 
 abbrev Inv-loop : tie.InvT-loop
-Inv-loop t out₀ v₀ out v = Columns (λ k. residueOf (passed t k)) (pos 0) v out × (v ≤ 8)
+Inv-loop t residues₀ v₀ residues v = Columns (λ k. residueOf (passed t k)) (pos 0) v residues × (v ≤ 8)
 
 abbrev μ-loop : tie.MeasureT-loop
-μ-loop t out₀ v₀ out v = 8 - v
+μ-loop t residues₀ v₀ residues v = 8 - v
 
 loop-holds : tie.Need-loop-holds Inv-loop μ-loop
-loop-holds c = (columns-none refl, omega arith)
+loop-holds c = (columns-none, omega arith)
 
 middle-row-requires : tie.Need-middle-row-requires Inv-loop μ-loop
 middle-row-requires c κs = omega arith
@@ -24,12 +25,12 @@ middle-row-requires c κs = omega arith
 transform-line-requires : tie.Need-transform-line-requires Inv-loop μ-loop
 transform-line-requires c κs =
     let s = c .before .before .before in
-    subst (AllWithin 17179869184) (sym (c .middle-row .ensures)) (row-within (s .before .args .t1) (s .loop .v) (s .before .pre))
+    subst (AllWithin (2 ^ 34)) (sym (c .middle-row .ensures)) (row-within (s .before .args .t1) (s .loop .v) (s .before .pre))
 
 put-residues-requires : tie.Need-put-residues-requires Inv-loop μ-loop
 put-residues-requires c κs =
     let s = c .before .before .before .before .before in
-    (omega arith, subst (AllWithin 144115188075855872) (sym (c .before .transform-line .ensures)) (line-within (subst (AllWithin 17179869184) (sym (c .before .before .middle-row .ensures)) (row-within (s .before .args .t1) (s .loop .v) (s .before .pre)))))
+    (omega arith, subst (AllWithin (2 ^ 57)) (sym (c .before .transform-line .ensures)) (line-within (subst (AllWithin (2 ^ 34)) (sym (c .before .before .middle-row .ensures)) (row-within (s .before .args .t1) (s .loop .v) (s .before .pre)))))
 
 add-v : tie.Need-add-v Inv-loop μ-loop
 add-v c = omega arith
@@ -48,7 +49,7 @@ loop-again c =
     )
 
 returns : tie.Need-returns Inv-loop μ-loop
-returns c = columns-all (c .before .loop .inv .0) (omega arith)
+returns c = columns-all (c .before .loop .inv .0) (λ u w a b h. absurd (omega arith))
 
 pub column-pass-spec : {M : Type 1} → statement M
 column-pass-spec =

@@ -1,7 +1,6 @@
 -- `pass::limit_residue` meets its contract: each way rewrites with the tests that led there. Assumes nothing.
 use mir.Syntax.{w64}
 use mir.ValLaws.{toZ-ofZ}
-use Rattle.integers.specs.Bound.{at}
 use Rattle.transform.proofs.pass.limit_residue.Statement.{statement}
 use Rattle.transform.proofs.pass.limit_residue.Tie as tie
 

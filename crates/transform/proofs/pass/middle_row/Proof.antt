@@ -1,3 +1,4 @@
+-- `pass::middle_row` meets its contract: before number u, the first u of the row are copied into the line. Assumes nothing.
 use Prim.Native.Nat.{_+_, _-_, _*_, _≤_}
 use mathlib.Core.Path.{refl}
 use native.Mathlib.Omega.{arith}

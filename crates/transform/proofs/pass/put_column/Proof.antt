@@ -1,3 +1,4 @@
+-- `pass::put_column` meets its contract: before number u, the first u of the line are stored in the column. Assumes nothing.
 use Prim.Native.Nat.{_+_, _-_, _*_, _≤_}
 use mathlib.Core.Path.{_≡_, refl, sym, _∙_}
 use native.Mathlib.Omega.{arith}

@@ -1,3 +1,4 @@
+-- `pass::put_residues` meets its contract: before number u, the residues of the first u of the line are stored in the column. Assumes nothing.
 use Prim.Native.Nat.{_+_, _-_, _*_, _≤_}
 use mathlib.Core.Path.{_≡_, sym, ap, _∙_}
 use native.Mathlib.Omega.{arith}

@@ -1,3 +1,4 @@
+-- `pass::residue` meets its contract: a limited number fits sixteen bits. Assumes nothing.
 use mathlib.Core.Path.{ap, _∙_}
 use borrow.Author.Needs.{needs}
 use mir.Syntax.{w16, w64}

@@ -1,3 +1,4 @@
+-- `pass::round_residue` meets its contract: the sum fits, the shift divides downwards, and the result is limited. Assumes nothing.
 use Prim.Native.Nat.{_^_}
 use mathlib.Core.Path.{ap, _∙_}
 use borrow.Author.Needs.{needs}

@@ -1,3 +1,4 @@
+-- `pass::widened` meets its contract: a number of sixteen bits fits sixty-four. Assumes nothing.
 use mir.Syntax.{w16, w64}
 use Rattle.integers.proofs.Bound.{within-mag}
 use Rattle.integers.proofs.Machine.{Held, fits, kept, parameter}

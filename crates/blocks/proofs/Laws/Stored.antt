@@ -1,0 +1,224 @@
+-- A loop over the six blocks, each of which is put into the array of 384, as the definitions take them. Assumes nothing.
+use mathlib.Core.Path.{_≡_, refl, sym, ap, subst, _∙_}
+use mathlib.Core.Bool.{Bool, true, false}
+use mathlib.Core.List.{List, [], _∷_, _++_, append-assoc, append-nil}
+use Prim.Native.Nat.{ℕ, zero, suc, _+_, _-_, _*_, _<_, _≤_}
+use native.Mathlib.Numerals.{sub-one}
+use native.Mathlib.Omega.{arith}
+use lib.IntN.{ℤ, pos}
+use lib.ListN.{length, getD, drop, replicate, length-drop, length-append, length-set}
+use lib.Seq.{drop-drop}
+use Rattle.lists.proofs.Tab.{tab-ext, tab-self}
+use Rattle.lists.proofs.Scatter.{scatter-length, scatter-at, scatter-other}
+use Rattle.integers.specs.Bound.{at}
+use Rattle.refusals.specs.declared.Refusal.{Refusal}
+use Rattle.parsed.specs.Parsed.{Parsed, parsed, refused, bind, give, value, stopped, Finds}
+use Rattle.parsed.proofs.Parsed.{all-at, made-of, stopped-before}
+use Rattle.pairs.specs.declared.BlockCoding.{BlockCoding}
+use Rattle.pairs.specs.Pairs.{firstPosition}
+use Rattle.pairs.specs.Coefficients.{Placed, placed, landed, dcAlone, blockCoefficients}
+use Rattle.blocks.specs.declared.dc.DcPasts.{DcPasts}
+use Rattle.blocks.specs.declared.blocks.BlocksCoding.{BlocksCoding}
+use Rattle.blocks.specs.Blocks.{Block, uncoded, coded, levelsOf, givenDifferenceOf, blockOf, pastOf, pastsWith, pastsAfter, isCoded, givenBlockOf, blocksOf, LegalPasts}
+use Rattle.blocks.specs.Coefficients.{coefficientsOf, coefficientsFrom, pastsThrough}
+use Rattle.blocks.specs.Stored.{sixBlocks, blockIn, putBlock, codingOf, readDcOf, landingLevelsOf, Progress, stored, storingOf, decodingOf}
+use Rattle.blocks.proofs.Laws.Blocks.{pasts-legal}
+
+-- ---- one block
+module _ (c : BlocksCoding) (matrix : List ℕ) (block : ℕ) (s : Progress) (part : List ℕ) where
+  pub not-coded : isCoded (c .pattern) block ≡ false → Finds (storingOf c matrix block s) part (value s 0)
+  not-coded e = (rw e, omega arith)
+
+  module _ (e : isCoded (c .pattern) block ≡ true) where
+    pub dc-stops : {refusal : Refusal} → Finds (readDcOf (c .intra) (pastOf (s .pasts) block)) part (stopped refusal) → Finds (storingOf c matrix block s) part (stopped refusal)
+    unfolding blockOf
+    dc-stops found = rw (e, stopped-before (givenDifferenceOf (c .intra) (pastOf (s .pasts) block)) _ part found)
+
+    module _ {dc : ℤ} {n : ℕ} (first : Finds (readDcOf (c .intra) (pastOf (s .pasts) block)) part (value dc n)) where
+      pub levels-stop : {refusal : Refusal} → Finds (landingLevelsOf (codingOf c) matrix (dcAlone dc)) (drop n part) (stopped refusal) → Finds (storingOf c matrix block s) part (stopped refusal)
+      unfolding blockOf
+      levels-stop found =
+          let d = made-of (givenDifferenceOf (c .intra) (pastOf (s .pasts) block)) _ part first in
+          rw (e, d .found .0, stopped-before (levelsOf (c .intra)) _ (drop n part) found)
+
+      pub block-found : {values : List ℤ} {m : ℕ} → Finds (landingLevelsOf (codingOf c) matrix (dcAlone dc)) (drop n part) (value values m)
+          → Finds (storingOf c matrix block s) part (value (record { pasts = pastsWith (c .intra) (s .pasts) block dc; coefficients = putBlock block values (s .coefficients) }) (n + m))
+      unfolding blockOf blockCoefficients
+      block-found {values} {m} second =
+          let d = made-of (givenDifferenceOf (c .intra) (pastOf (s .pasts) block)) _ part first in
+          let l = made-of (levelsOf (c .intra)) _ (drop n part) second in
+          (rw (e, d .found .0, l .found .0, d .is, l .is, drop-drop), omega (arith, first .1, second .1, length-drop n part))
+
+-- ---- one step of the definition of the six
+module _ (intra : Bool) (pattern : ℕ) where
+  none-left : (n block : ℕ) (pasts : DcPasts) (bytes : List ℕ) → n ≤ 0 → blocksOf intra pattern n pasts block bytes ≡ parsed [] bytes
+  unfolding blocksOf
+  none-left zero block pasts bytes h = refl
+  none-left (suc n) block pasts bytes h = absurd (omega arith)
+
+  one-refused : (n block : ℕ) (pasts : DcPasts) (bytes : List ℕ) {refusal : Refusal} → 0 < n → givenBlockOf intra pattern pasts block bytes ≡ refused refusal → blocksOf intra pattern n pasts block bytes ≡ refused refusal
+  unfolding blocksOf
+  one-refused zero block pasts bytes h e = absurd (omega arith)
+  one-refused (suc n) block pasts bytes h e = rw e
+
+  one-read : (n block : ℕ) (pasts : DcPasts) (bytes : List ℕ) {b : Block} {rest : List ℕ} → 0 < n → givenBlockOf intra pattern pasts block bytes ≡ parsed b rest
+      → blocksOf intra pattern n pasts block bytes ≡ bind (blocksOf intra pattern (n - 1) (pastsAfter intra pasts block b) (block + 1) rest) (λ blocks. give (b ∷ blocks))
+  unfolding blocksOf
+  one-read zero block pasts bytes h e = absurd (omega arith)
+  one-read (suc n) block pasts bytes h e = rw (e, sub-one)
+
+-- ---- blocks put one after the other, from one on
+module _ (c : BlocksCoding) (matrix : List ℕ) where
+  pub storedThrough : ℕ → Progress → List Block → Progress
+  storedThrough block s [] = s
+  storedThrough block s (b ∷ blocks) = storedThrough (block + 1) (stored c matrix block s b) blocks
+
+  stored-pasts : (block : ℕ) (s : Progress) (b : Block) → stored c matrix block s b .pasts ≡ pastsAfter (c .intra) (s .pasts) block b
+  stored-pasts block s uncoded = refl
+  stored-pasts block s (coded difference pairs) = refl
+
+  through-more : (block : ℕ) (s : Progress) (blocks : List Block) (b : Block) (k : ℕ) → block + length blocks ≡ k → storedThrough block s (blocks ++ (b ∷ [])) ≡ stored c matrix k (storedThrough block s blocks) b
+  unfolding storedThrough
+  through-more block s [] b k e = let q : block ≡ k = omega arith in rw q
+  through-more block s (a ∷ blocks) b k e = through-more (block + 1) (stored c matrix block s a) blocks b k (omega arith)
+
+  through-pasts : (block : ℕ) (s : Progress) (blocks : List Block) → storedThrough block s blocks .pasts ≡ pastsThrough (c .intra) (s .pasts) block blocks
+  unfolding storedThrough pastsThrough
+  through-pasts block s [] = refl
+  through-pasts block s (b ∷ blocks) = through-pasts (block + 1) (stored c matrix block s b) blocks ∙ ap (λ (p : DcPasts). pastsThrough (c .intra) p (block + 1) blocks) (stored-pasts block s b)
+
+  -- ---- what the array then holds
+  stored-long : (block : ℕ) (s : Progress) (b : Block) → length (stored c matrix block s b .coefficients) ≡ length (s .coefficients)
+  unfolding putBlock
+  stored-long block s uncoded = refl
+  stored-long block s (coded difference pairs) = scatter-length _ _ 64 (s .coefficients)
+
+  stored-other : (block : ℕ) (s : Progress) (b : Block) (i : ℕ) → ((k : ℕ) → k < 64 → i ≡ 64 * block + k → ⊥) → at (stored c matrix block s b .coefficients) i ≡ at (s .coefficients) i
+  unfolding putBlock
+  stored-other block s uncoded i h = refl
+  stored-other block s (coded difference pairs) i h = scatter-other _ _ 64 (s .coefficients) i (pos 0) h
+
+  stored-own : (block : ℕ) (s : Progress) (b : Block) (k : ℕ) → k < 64 → 64 * block + 64 ≤ length (s .coefficients) → at (s .coefficients) (64 * block + k) ≡ pos 0
+      → at (stored c matrix block s b .coefficients) (64 * block + k) ≡ at (coefficientsOf (codingOf c) matrix (pastOf (s .pasts) block) b) k
+  unfolding putBlock
+  stored-own block s uncoded k low fits zero-there = zero-there ∙ sym (zeros-at 64 k)
+    where
+      zeros-at : (n i : ℕ) → at (replicate n (pos 0)) i ≡ pos 0
+      zeros-at zero i = refl
+      zeros-at (suc n) zero = refl
+      zeros-at (suc n) (suc i) = zeros-at n i
+  stored-own block s (coded difference pairs) k low fits zero-there = scatter-at _ _ 64 (s .coefficients) k (pos 0) low (omega arith) (λ j more below same. omega arith)
+
+  through-other : (block : ℕ) (s : Progress) (blocks : List Block) (i : ℕ) → i < 64 * block → at (storedThrough block s blocks .coefficients) i ≡ at (s .coefficients) i
+  unfolding storedThrough
+  through-other block s [] i h = refl
+  through-other block s (b ∷ blocks) i h = through-other (block + 1) (stored c matrix block s b) blocks i (omega arith) ∙ stored-other block s b i (λ k low e. omega arith)
+
+  through-at : (block : ℕ) (s : Progress) (blocks : List Block) (j k : ℕ) → j < length blocks → k < 64 → 64 * (block + length blocks) ≤ length (s .coefficients) → ((i : ℕ) → 64 * block ≤ i → at (s .coefficients) i ≡ pos 0)
+      → at (storedThrough block s blocks .coefficients) (64 * (block + j) + k) ≡ at (getD (coefficientsFrom (codingOf c) matrix (s .pasts) block blocks) j []) k
+  unfolding storedThrough coefficientsFrom
+  through-at block s [] j k few low fits zeros = absurd (omega arith)
+  through-at block s (b ∷ blocks) zero k few low fits zeros =
+      let here : 64 * (block + 0) + k ≡ 64 * block + k = omega arith in
+      rw here (through-other (block + 1) (stored c matrix block s b) blocks (64 * block + k) (omega arith) ∙ stored-own block s b k low (omega arith) (zeros (64 * block + k) (omega arith)))
+  through-at block s (b ∷ blocks) (suc j) k few low fits zeros =
+      let next : 64 * (block + suc j) + k ≡ 64 * (block + 1 + j) + k = omega arith in
+      rw (next, ← stored-pasts block s b)
+      (through-at (block + 1) (stored c matrix block s b) blocks j k (omega arith) low (rw (stored-long block s b) (omega arith))
+      (λ i above. stored-other block s b i (λ n small e. omega arith) ∙ zeros i (omega arith)))
+
+  coefficients-long : (pasts : DcPasts) (block : ℕ) (blocks : List Block) → length (coefficientsFrom (codingOf c) matrix pasts block blocks) ≡ length blocks
+  unfolding coefficientsFrom
+  coefficients-long pasts block [] = refl
+  coefficients-long pasts block (b ∷ blocks) = ap suc (coefficients-long (pastsAfter (c .intra) pasts block b) (block + 1) blocks)
+
+landed-long : (c : BlockCoding) (matrix : List ℕ) (levels : List Placed) (block : List ℤ) → length (landed c matrix levels block) ≡ length block
+unfolding landed
+landed-long c matrix [] block = refl
+landed-long c matrix (p ∷ levels) block = landed-long c matrix levels _ ∙ simp length-set
+
+block-long : (c : BlockCoding) (matrix : List ℕ) (past : ℤ) (b : Block) → length (coefficientsOf c matrix past b) ≡ 64
+unfolding blockCoefficients dcAlone
+block-long c matrix past uncoded = refl
+block-long c matrix past (coded difference pairs) = landed-long c matrix (placed (firstPosition (c .intra)) pairs) _ ∙ simp length-set
+
+each-long : (c : BlockCoding) (matrix : List ℕ) (pasts : DcPasts) (block : ℕ) (blocks : List Block) (j : ℕ) → j < length blocks → length (getD (coefficientsFrom c matrix pasts block blocks) j []) ≡ 64
+unfolding coefficientsFrom
+each-long c matrix pasts block [] j h = absurd (omega arith)
+each-long c matrix pasts block (b ∷ blocks) zero h = block-long c matrix (pastOf pasts block) b
+each-long c matrix pasts block (b ∷ blocks) (suc j) h = each-long c matrix (pastsAfter (c .intra) pasts block b) (block + 1) blocks j (omega arith)
+
+-- six blocks put into zeros are the six blocks of the array
+six-stored : (c : BlocksCoding) (matrix : List ℕ) (pasts : DcPasts) (blocks : List Block) → length blocks ≡ 6
+    → sixBlocks (storedThrough c matrix 0 (record { pasts = pasts; coefficients = replicate 384 (pos 0) }) blocks .coefficients) ≡ coefficientsFrom (codingOf c) matrix pasts 0 blocks
+six-stored c matrix pasts blocks six =
+    let s : Progress = record { pasts = pasts; coefficients = replicate 384 (pos 0) } in
+    let all = coefficientsFrom (codingOf c) matrix pasts 0 blocks in
+    let store = storedThrough c matrix 0 s blocks .coefficients in
+    tab-ext 6 (blockIn store) (λ b. getD all b []) (λ b low.
+    tab-ext 64 (λ k. at store (64 * b + k)) (λ k. at (getD all b []) k) (λ k small.
+    let here : 64 * (0 + b) + k ≡ 64 * b + k = omega arith in
+    rw here at (through-at c matrix 0 s blocks b k (omega arith) small (rw six (omega arith)) (λ i above. zeros-at 384 i)))
+    ∙ tab-self 64 (getD all b []) (pos 0) (each-long (codingOf c) matrix pasts 0 blocks b (omega arith)))
+    ∙ tab-self 6 all [] (coefficients-long c matrix pasts 0 blocks ∙ six)
+  where
+    zeros-at : (n i : ℕ) → at (replicate n (pos 0)) i ≡ pos 0
+    zeros-at zero i = refl
+    zeros-at (suc n) zero = refl
+    zeros-at (suc n) (suc i) = zeros-at n i
+
+-- ---- the loop: the array holds the blocks read so far, and with what is left to read they are the six
+module _ (c : BlocksCoding) (matrix : List ℕ) (start : Progress) (body : List ℕ) where
+  pub record SoFar (block at : ℕ) (s : Progress) : Type 0 where
+    pub below : block ≤ 6
+    pub inside : at ≤ length body
+    pub legal : LegalPasts (s .pasts)
+    pub blocks : List Block
+    pub count : length blocks ≡ block
+    pub holds : s ≡ storedThrough c matrix 0 start blocks
+    pub goes-on : blocksOf (c .intra) (c .pattern) 6 (start .pasts) 0 body ≡ bind (blocksOf (c .intra) (c .pattern) (6 - block) (s .pasts) block (drop at body)) (λ more. give (blocks ++ more))
+
+  pub at-start : LegalPasts (start .pasts) → SoFar 0 0 start
+  unfolding storedThrough
+  at-start p = record { below = omega arith; inside = omega arith; legal = p; blocks = []; count = refl; holds = refl; goes-on = whole (blocksOf (c .intra) (c .pattern) 6 (start .pasts) 0 body) }
+    where
+      whole : (x : Parsed (List Block)) → x ≡ bind x (λ more. give ([] ++ more))
+      whole (parsed blocks rest) = refl
+      whole (refused refusal) = refl
+
+  module _ {block at : ℕ} {s : Progress} (p : SoFar block at s) where
+    pub ends : 6 ≤ block → start .coefficients ≡ replicate 384 (pos 0) → Finds (decodingOf c matrix (start .pasts)) body (value (record { pasts = s .pasts; coefficients = sixBlocks (s .coefficients) }) at)
+    ends h zeros =
+        let none : 6 - block ≤ 0 = omega arith in
+        let six : length (p .blocks) ≡ 6 = omega (arith, p .count, p .below) in
+        let begun : start ≡ record { pasts = start .pasts; coefficients = replicate 384 (pos 0) } = λ i. record { pasts = start .pasts; coefficients = zeros i } in
+        let stands : s ≡ storedThrough c matrix 0 (record { pasts = start .pasts; coefficients = replicate 384 (pos 0) }) (p .blocks) = p .holds ∙ ap (λ (t : Progress). storedThrough c matrix 0 t (p .blocks)) begun in
+        (rw (p .goes-on, none-left (c .intra) (c .pattern) (6 - block) block (s .pasts) (drop at body) none, append-nil, stands, through-pasts c matrix 0, six-stored c matrix (start .pasts) (p .blocks) six), p .inside)
+
+    module _ (h : block < 6) where
+      some : 0 < 6 - block
+      some = omega arith
+
+      pub stops : {refusal : Refusal} → Finds (storingOf c matrix block s) (drop at body) (stopped refusal) → Finds (decodingOf c matrix (start .pasts)) body (stopped refusal)
+      stops found =
+          let e = stopped-before (givenBlockOf (c .intra) (c .pattern) (s .pasts) block) _ (drop at body) found in
+          rw (p .goes-on, one-refused (c .intra) (c .pattern) (6 - block) block (s .pasts) (drop at body) some e)
+
+      pub one-more : {next : Progress} {n : ℕ} → Finds (storingOf c matrix block s) (drop at body) (value next n) → SoFar (block + 1) (at + n) next
+      one-more {next} {n} found =
+          let b = made-of (givenBlockOf (c .intra) (c .pattern) (s .pasts) block) _ (drop at body) found in
+          let read = b .found .0 in
+          let pasts : pastsAfter (c .intra) (s .pasts) block (b .source) ≡ next .pasts = sym (stored-pasts c matrix block s (b .source)) ∙ ap (λ (t : Progress). t .pasts) (b .is) in
+          let less : 6 - block - 1 ≡ 6 - (block + 1) = omega arith in record {
+            below = omega arith;
+            inside = omega (arith, p .inside, found .1, length-drop at body);
+            legal = subst LegalPasts pasts (all-at (pasts-legal (c .intra) (c .pattern) (s .pasts) block (drop at body) (p .legal)) read);
+            blocks = p .blocks ++ (b .source ∷ []);
+            count = simp length-append (omega (arith, p .count));
+            holds = sym (b .is) ∙ ap (λ (t : Progress). stored c matrix block t (b .source)) (p .holds) ∙ sym (through-more c matrix 0 start (p .blocks) (b .source) block (omega (arith, p .count)));
+            goes-on = rw (p .goes-on, one-read (c .intra) (c .pattern) (6 - block) block (s .pasts) (drop at body) some read, drop-drop n at body, less, pasts) (more (b .source) (blocksOf (c .intra) (c .pattern) (6 - (block + 1)) (next .pasts) (block + 1) (drop (at + n) body)));
+          }
+        where
+          more : (b : Block) (x : Parsed (List Block)) → bind (bind x (λ blocks. give (b ∷ blocks))) (λ rest. give (p .blocks ++ rest)) ≡ bind x (λ rest. give ((p .blocks ++ (b ∷ [])) ++ rest))
+          more b (parsed blocks rest) = rw append-assoc
+          more b (refused refusal) = refl

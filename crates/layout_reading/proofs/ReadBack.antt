@@ -1,0 +1,70 @@
+-- Parts that are laid out are read back: a law for each way to put parsers together, and one for each field. Assumes nothing.
+use mathlib.Core.Bool.{Bool, true, false, cond}
+use mathlib.Core.List.{List, [], _∷_, _++_}
+use mathlib.Core.Path.{_≡_, refl, ap, _∙_}
+use Prim.Native.Nat.{ℕ, suc, _+_, _-_, _*_, _/_, _%_, _<_}
+use native.Mathlib.Omega.{arith}
+use borrow.Author.Tests.{lt-ltb, le-ltb}
+use lib.IntN.{ℤ, pos, negsuc, negℤ, _+ℤ_}
+use lib.Signed.{mag}
+use mir.Syntax.{w8, w16}
+use mir.Val.{Fits, SFits}
+use Rattle.integers.proofs.Difference.{up, dn, parts-add, parts-neg, same-of}
+use Rattle.refusals.specs.declared.Refusal.{Refusal}
+use Rattle.refusals.specs.Refusal.{numberOf}
+use Rattle.parsed.specs.Guard.{need_else_then_}
+use Rattle.parsed.specs.Parsed.{Parsed, Parser, bind, refuse, given_else_read_}
+use Rattle.format3.specs.Field.{bigEndian, twosComplement, byte, word, signedByte, signedWord}
+use Rattle.byte_layout.specs.Bytes.{complement, wordBytes, signedWordBytes}
+use Rattle.byte_layout.specs.Bytes as Bytes
+use Rattle.byte_layout.proofs.Laws.Bytes.{complement-below}
+use Rattle.layout_reading.specs.Fitting.{Given}
+use Rattle.layout_reading.specs.ReadBack.{ReadBack, back, other}
+use Rattle.layout_reading.proofs.Framed.{framing, framed}
+
+module _ {A : Type 0} {P : A → Type 0} {behind : List ℕ} where
+  pub back-then : {B : Type 0} {Q : B → Type 0} {rest : List ℕ} {x : Parsed B} (f : B → Parser A) → ReadBack Q rest x → ((b : B) → Q b → ReadBack P behind (f b rest)) → ReadBack P behind (bind x f)
+  back-then f (back q) r = r _ q
+  back-then f (other o) r = other o
+
+  pub back-need : (test : Bool) (refusal : Refusal) (p : Parser A) (bytes : List ℕ) → framing (numberOf refusal) ≡ false → (test ≡ true → ReadBack P behind (p bytes)) → ReadBack P behind ((need test else refuse refusal then p) bytes)
+  unfolding need_else_then_
+  back-need true refusal p bytes o r = r refl
+  back-need false refusal p bytes o r = other (framed _ o)
+
+  pub back-more : {Q : A → Type 0} {x : Parsed A} → ReadBack Q behind x → ((a : A) → Q a → P a) → ReadBack P behind x
+  back-more (back q) r = back (r _ q)
+  back-more (other o) r = other o
+
+pub back-given : {A : Type 0} {Fit : Type 0} (present : Bool) (absent field : A) (p : Parser A) (bytes behind : List ℕ) → ReadBack (λ a. Fit → a ≡ field) behind (p (bytes ++ behind))
+    → ReadBack (λ a. Given present Fit absent field → a ≡ field) behind ((given present else absent read p) (cond present bytes [] ++ behind))
+back-given true absent field p bytes behind r = r
+back-given false absent field p bytes behind r = back (λ same. same)
+
+-- ---- fields
+pub word-same : (n : ℕ) → n < 65536 → bigEndian (n / 256 % 256) (n % 256) ≡ n
+word-same n h = omega arith
+
+pub word-back : (n : ℕ) (behind : List ℕ) → ReadBack (λ m. Fits w16 n → m ≡ n) behind (word (wordBytes n ++ behind))
+unfolding word wordBytes
+word-back n behind = back (λ f. word-same n (f .fits))
+
+-- two's complement there and back
+complement-same : (half : ℕ) (z : ℤ) → mag z < half → twosComplement half (complement half z) ≡ z
+unfolding twosComplement complement
+complement-same half (pos n) h = rw (lt-ltb n half h)
+complement-same half (negsuc n) h =
+    let a = 2 * half - suc n in
+    let less = negℤ (pos (2 * half)) in
+    let z = pos a +ℤ less in
+    let sum : up z + (0 + dn less) ≡ a + up less + dn z = parts-add (pos a) less in
+    let neg = parts-neg (pos (2 * half)) in
+    rw (le-ltb a half (omega arith)) (same-of z (negsuc n) (omega (arith, sum, neg)))
+
+pub signed-byte-back : (z : ℤ) (behind : List ℕ) → ReadBack (λ y. SFits w8 z → y ≡ z) behind (signedByte (Bytes.signedByte z ∷ behind))
+unfolding signedByte byte
+signed-byte-back z behind = back (λ f. complement-same 128 z (f .sfits))
+
+pub signed-word-back : (z : ℤ) (behind : List ℕ) → ReadBack (λ y. SFits w16 z → y ≡ z) behind (signedWord (signedWordBytes z ++ behind))
+unfolding signedWord word wordBytes
+signed-word-back z behind = back (λ f. ap (twosComplement 32768) (word-same (complement 32768 z) (complement-below 32768 z (f .sfits))) ∙ complement-same 32768 z (f .sfits))

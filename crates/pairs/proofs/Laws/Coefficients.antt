@@ -1,0 +1,83 @@
+-- A loop over the pairs of a block, which land in it one by one, as the definitions take them. Assumes nothing.
+use mathlib.Core.Path.{_≡_, refl, ap}
+use mathlib.Core.List.{List, [], _∷_, _++_, append-assoc, append-nil}
+use Prim.Native.Nat.{ℕ, _+_, _-_, _<_, _≤_}
+use native.Mathlib.Omega.{arith}
+use lib.IntN.{ℤ}
+use lib.ListN.{length, drop, set, length-drop}
+use lib.Seq.{drop-drop}
+use Rattle.refusals.specs.declared.Refusal.{Refusal}
+use Rattle.parsed.specs.Parsed.{Parsed, parsed, refused, bind, give, value, stopped, Finds}
+use Rattle.parsed.proofs.Parsed.{all-at}
+use Rattle.pairs.specs.declared.BlockCoding.{BlockCoding}
+use Rattle.pairs.specs.declared.Pair.{Pair}
+use Rattle.pairs.specs.Pairs.{pairOf, positionOf, afterPair, pairsOf}
+use Rattle.pairs.specs.Coefficients.{Placed, placed, placeOf, scaledLevel, landed, landingOf}
+use Rattle.pairs.proofs.Laws.Pairs.{pair-legal, none-left, one-refused, one-read}
+
+-- ---- pairs with one more behind them
+-- from where the next pair's run counts
+pub afterPairs : ℕ → List Pair → ℕ
+afterPairs next [] = next
+afterPairs next (p ∷ pairs) = afterPairs (afterPair next p) pairs
+
+after-more : (next : ℕ) (pairs : List Pair) (p : Pair) → afterPairs next (pairs ++ (p ∷ [])) ≡ afterPair (afterPairs next pairs) p
+unfolding afterPairs
+after-more next [] p = refl
+after-more next (q ∷ pairs) p = after-more (afterPair next q) pairs p
+
+-- the level of a pair at its position
+abbrev pub at-position : ℕ → Pair → Placed
+at-position next p = record { position = positionOf next p; level = p .level }
+
+placed-more : (next : ℕ) (pairs : List Pair) (p : Pair) → placed next (pairs ++ (p ∷ [])) ≡ placed next pairs ++ (at-position (afterPairs next pairs) p ∷ [])
+unfolding placed afterPairs
+placed-more next [] p = refl
+placed-more next (q ∷ pairs) p = ap (λ (l : List Placed). at-position next q ∷ l) (placed-more (afterPair next q) pairs p)
+
+module _ (c : BlockCoding) (matrix : List ℕ) where
+  landed-more : (levels : List Placed) (p : Placed) (block : List ℤ) → landed c matrix (levels ++ (p ∷ [])) block ≡ set (landed c matrix levels block) (placeOf (p .position)) (scaledLevel c matrix p)
+  unfolding landed
+  landed-more [] p block = refl
+  landed-more (q ∷ levels) p block = landed-more levels p _
+
+  -- ---- the loop: the block holds the pairs read so far, and with what is left to read they are the whole
+  pub record SoFar (count first : ℕ) (body : List ℕ) (before now : List ℤ) (left next at : ℕ) : Type 0 where
+    pub near : next ≤ 64
+    pub inside : at ≤ length body
+    pub pairs : List Pair
+    pub next-is : next ≡ afterPairs first pairs
+    pub holds : now ≡ landed c matrix (placed first pairs) before
+    pub goes-on : pairsOf count first body ≡ bind (pairsOf left next (drop at body)) (λ more. give (pairs ++ more))
+
+  module _ {count first : ℕ} {body : List ℕ} {before : List ℤ} where
+    pub at-start : first ≤ 64 → SoFar count first body before before count first 0
+    unfolding landed placed afterPairs
+    at-start h = record { near = h; inside = omega arith; pairs = []; next-is = refl; holds = refl; goes-on = whole (pairsOf count first body) }
+      where
+        whole : (x : Parsed (List Pair)) → x ≡ bind x (λ more. give ([] ++ more))
+        whole (parsed pairs rest) = refl
+        whole (refused refusal) = refl
+
+    module _ {now : List ℤ} {left next at : ℕ} (p : SoFar count first body before now left next at) where
+      pub stops : {refusal : Refusal} → 0 < left → Finds (pairOf next) (drop at body) (stopped refusal) → Finds (landingOf c matrix count first before) body (stopped refusal)
+      stops h e = rw (p .goes-on, one-refused left next (drop at body) h e)
+
+      pub ends : left ≤ 0 → Finds (landingOf c matrix count first before) body (value now at)
+      ends h = (rw (p .goes-on, none-left left next (drop at body) h, append-nil, ← p .holds), p .inside)
+
+      pub one-more : {pair : Pair} {n : ℕ} → 0 < left → Finds (pairOf next) (drop at body) (value pair n)
+          → SoFar count first body before (set now (placeOf (positionOf next pair)) (scaledLevel c matrix (at-position next pair))) (left - 1) (afterPair next pair) (at + n)
+      one-more {pair} {n} h r =
+          let low : positionOf next pair ≤ 63 = all-at (pair-legal next (drop at body)) (r .0) .low in record {
+            near = omega arith;
+            inside = omega (arith, p .inside, r .1, length-drop at body);
+            pairs = p .pairs ++ (pair ∷ []);
+            next-is = rw (after-more first (p .pairs) pair, ← p .next-is);
+            holds = rw (placed-more first (p .pairs) pair, ← p .next-is, landed-more (placed first (p .pairs)) (at-position next pair) before, ← p .holds);
+            goes-on = rw (p .goes-on, one-read left next (drop at body) h (r .0), drop-drop n at body) (more (pairsOf (left - 1) (afterPair next pair) (drop (at + n) body)));
+          }
+        where
+          more : (x : Parsed (List Pair)) → bind (bind x (λ pairs. give (pair ∷ pairs))) (λ rest. give (p .pairs ++ rest)) ≡ bind x (λ rest. give ((p .pairs ++ (pair ∷ [])) ++ rest))
+          more (parsed pairs rest) = rw append-assoc
+          more (refused refusal) = refl

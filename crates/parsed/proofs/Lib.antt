@@ -1,0 +1,3 @@
+pub mod Guard
+pub mod Parsed
+pub mod Refusals

@@ -1,0 +1,1 @@
+// What parsing a part of a record gives: definitions and their laws, no function.
