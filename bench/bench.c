@@ -1,4 +1,4 @@
-/* The exported library beside plain C of the same algorithm.
+/* The exported library beside plain C of the same rules.
  *
  *   bench compare REEL..                both make the same pictures and refusals: answers and every byte
  *   bench time REEL..                   pictures and macroblocks a second, repeated until they are stable

@@ -1,4 +1,4 @@
-/* Format 3 and raw slices in plain C: the same algorithm as the library's, with its refusals and its exact transform, written as one
+/* Format 3 and raw slices in plain C: the same rules as the library's, with its refusals and its exact transform, written as one
  * writes C. It is not proved, and is here only to be measured beside it. */
 #ifndef PLAIN_H
 #define PLAIN_H

@@ -1,4 +1,5 @@
--- Laws of a block put at its place, byte by byte: a byte in the block has the block's pel, every other what it had; and of the block read there. Assumes nothing.
+-- Laws of a block put at its place, byte by byte: a byte in the block has the block's pel, every other what it had; and of the block read
+-- there. Assumes nothing.
 use mathlib.Core.Path.{_≡_, ap, _∙_, sym}
 use mathlib.Core.Bool.{Bool, true, false, cond}
 use mathlib.Core.List.{List, []}

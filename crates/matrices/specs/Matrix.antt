@@ -14,6 +14,7 @@ use Rattle.format3.specs.declared.verdict.Verdict.{Verdict}
 use Rattle.format3.specs.declared.verdict.Verdict.the-variants.{Passed, Refused}
 use Rattle.parsed.specs.Guard.{need_else_then_}
 
+-- the two matrices of a picture
 abbrev pub matricesOf : List ℕ → List ℕ → Matrices
 matricesOf intra nonIntra = record { intra = intra; «non_intra» = nonIntra }
 

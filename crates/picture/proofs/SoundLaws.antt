@@ -1,4 +1,5 @@
--- Every record that passes keeps the state in its ranges and the header as it was, and makes macroblocks in order, with coefficients in range. Assumes nothing.
+-- Every record that passes keeps the state in its ranges and the header as it was, and makes macroblocks in order, with coefficients in
+-- range. Assumes nothing.
 use Prim.Native.Nat.{ℕ, _+_, _-_, _≤_, _<_, zero-le}
 use mathlib.Core.Bool.{Bool, true, false}
 use mathlib.Core.List.{List, [], _∷_}

@@ -201,8 +201,8 @@ fn write_predicted(
     Outcome { verdict, state }
 }
 
-// A macroblock with coded blocks, from where they start. Their coefficients are kept until the record is known to be whole. `start` is the plan of its symbols,
-// before the DC pasts that its blocks leave, and `verdict` that of its fit.
+// A macroblock with coded blocks, from where they start. Their coefficients are kept until the record is known to be whole. `start` is
+// the plan of its symbols, before the DC pasts that its blocks leave, and `verdict` that of its fit.
 fn act_coded<'m>(
     picture: PictureState,
     symbols: MacroblockSymbols,
@@ -249,7 +249,8 @@ fn act_coded<'m>(
     )
 }
 
-// A macroblock record.
+// A macroblock record. Its plan has the DC pasts that a macroblock leaves which is not intra; an intra one has coded blocks, and `act_coded`
+// puts in those that they leave.
 pub fn act_macroblock<'m>(
     picture: PictureState,
     body: &[u8],

@@ -41,7 +41,7 @@ pub record SymbolsLegal (c : MacroblockContext) (m : MacroblockSymbols) : Type 0
   pub scale-legal : givesScale (m .flags) ≡ true → legalScale (m .scale) ≡ true
   pub forward-known : CodesKnown (c .«forward_f») (m .forward)
   pub backward-known : CodesKnown (c .«backward_f») (m .backward)
-  pub none-coded : m .pattern ≡ 0 → isIntra (m .flags) ≡ false
+  pub inter-if-uncoded : m .pattern ≡ 0 → isIntra (m .flags) ≡ false
 
 -- an intra macroblock has all six blocks coded
 pattern-inter : (flags : ℕ) (part : List ℕ) → All (λ pattern rest. pattern ≡ 0 → isIntra flags ≡ false) (codedPatternOf flags part)
@@ -75,7 +75,7 @@ symbols-legal c body =
       scale-legal = h .scale;
       forward-known = v .forward;
       backward-known = v .backward;
-      none-coded = inter;
+      inter-if-uncoded = inter;
     })
 
 -- ---- the scale and the pasts that hold

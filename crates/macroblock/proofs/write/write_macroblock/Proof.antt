@@ -1,4 +1,5 @@
--- `write::write_macroblock` meets its contract: intra where neither direction is used, and six blocks at the address's position in both cases. Assumes nothing.
+-- `write::write_macroblock` meets its contract: intra where neither direction is used, and six blocks at the address's position in both
+-- cases. Assumes nothing.
 use mathlib.Core.Path.{_∙_}
 use borrow.Author.Tests.{not-true}
 use Rattle.transform.specs.Transform.{inverseTransform}
