@@ -36,8 +36,8 @@ source_answers() {
 }
 
 source_limits() {
-    constants usize crates/picture_header/src/size.rt | sed 's/^MOST /MOST_MACROBLOCKS /'
-    sed -nE 's/^ *([0-9]+) \* macroblocks$/MACROBLOCK_BYTES \1/p' crates/picture_header/src/size.rt
+    constants usize crates/symbols/src/size.rt | sed 's/^MOST /MOST_MACROBLOCKS /'
+    sed -nE 's/^ *([0-9]+) \* macroblocks$/MACROBLOCK_BYTES \1/p' crates/symbols/src/size.rt
 }
 
 source_kinds() {

@@ -2,23 +2,21 @@
 use mathlib.Core.Bool.{Bool, true, cond, _&&_}
 use mathlib.Core.List.{List, [], _∷_}
 use mathlib.Core.Path.{_≡_}
-use Prim.Native.Nat.{ℕ, zero, suc, _+_, _-_, _/_, _%_, _^_}
-use lib.Dec.{leb, ltb, eqb}
+use Prim.Native.Nat.{ℕ, zero, suc, _+_}
+use lib.Dec.{leb, eqb}
 use lib.IntN.{ℤ, pos, negsuc}
 use Rattle.integers.specs.Limit.{inRange}
-use Rattle.coefficient.specs.Scaling.{intraDc}
 use Rattle.refusals.specs.declared.Refusal.the-variants.{Coefficient, DcCoefficient}
-use Rattle.parsed.specs.Guard.{need_else_then_}
-use Rattle.parsed.specs.Parsed.{Parser, _then_, give, refuse, given_else_read_}
+use Rattle.coefficient.specs.Scaling.{intraDc}
+use Rattle.symbols.specs.Guard.{need_else_then_}
+use Rattle.symbols.specs.Parsed.{Parser, _then_, give, refuse, given_else_read_}
+use Rattle.symbols.specs.declared.pair.Pair.{Pair}
+use Rattle.symbols.specs.Pair.{firstPosition}
+use Rattle.symbols.specs.Block.{Block, uncoded, coded}
+use Rattle.symbols.specs.Pattern.{isCoded, isLuma}
 use Rattle.format3.specs.Field.{byte, signedWord}
-use Rattle.pairs.specs.declared.Pair.{Pair}
-use Rattle.pairs.specs.Pairs.{firstPosition, pairsOf}
+use Rattle.pairs.specs.Pairs.{pairsOf}
 use Rattle.blocks.specs.declared.dc.DcPasts.{DcPasts}
-
--- a block's symbols: the DC difference, which is 0 where the block is not intra, and the pairs
-pub data Block : Type 0 where
-  uncoded : Block
-  coded : ℤ → List Pair → Block
 
 -- not "difference outside -255..255"
 unfoldable pub legalDifference : ℤ → Bool
@@ -28,7 +26,7 @@ legalDifference difference = inRange (negsuc 254) (pos 255) difference
 unfoldable pub legalDc : ℤ → Bool
 legalDc dc = inRange (pos 0) (pos 2040) dc
 
--- "a 2-byte DC difference": "8 × difference is added to the past DC"
+-- "a 2-byte DC difference": it is tested, and then the DC that it gives (both 17)
 unfoldable pub differenceOf : ℤ → Parser ℤ
 differenceOf past =
     signedWord then λ difference.
@@ -65,11 +63,11 @@ blockOf intra past =
 
 -- "the past DC of Y, Cb or Cr": blocks 0 to 3, 4, and 5
 unfoldable pub pastOf : DcPasts → ℕ → ℤ
-pastOf pasts block = cond (ltb block 4) (pasts .y) (cond (eqb block 4) (pasts .cb) (pasts .cr))
+pastOf pasts block = cond (isLuma block) (pasts .y) (cond (eqb block 4) (pasts .cb) (pasts .cr))
 
 unfoldable pub withPast : DcPasts → ℕ → ℤ → DcPasts
 withPast pasts block dc =
-    cond (ltb block 4) (record { y = dc; cb = pasts .cb; cr = pasts .cr })
+    cond (isLuma block) (record { y = dc; cb = pasts .cb; cr = pasts .cr })
     (cond (eqb block 4) (record { y = pasts .y; cb = dc; cr = pasts .cr })
     (record { y = pasts .y; cb = pasts .cb; cr = dc }))
 
@@ -83,10 +81,6 @@ pastsWith intra pasts block dc = cond intra (withPast pasts block dc) pasts
 abbrev pub pastsAfter : Bool → DcPasts → ℕ → Block → DcPasts
 pastsAfter intra pasts block uncoded = pasts
 pastsAfter intra pasts block (coded difference pairs) = pastsWith intra pasts block (dcOf intra (pastOf pasts block) difference)
-
--- "with 32 the first Y block and 1 Cr"
-unfoldable pub isCoded : ℕ → ℕ → Bool
-isCoded pattern block = eqb (pattern / 2 ^ (5 - block) % 2) 1
 
 -- a block, if the pattern says that it is coded
 abbrev pub givenBlockOf : Bool → ℕ → DcPasts → ℕ → Parser Block

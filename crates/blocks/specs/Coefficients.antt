@@ -5,11 +5,12 @@ use Prim.Native.Nat.{ℕ, _+_}
 use lib.IntN.{ℤ, pos, negsuc}
 use lib.ListN.{getD, replicate}
 use Rattle.integers.specs.Bound.{AllBetween}
+use Rattle.symbols.specs.Pair.{firstPosition}
+use Rattle.symbols.specs.Block.{Block, uncoded, coded}
 use Rattle.pairs.specs.declared.BlockCoding.{BlockCoding}
-use Rattle.pairs.specs.Pairs.{firstPosition}
 use Rattle.pairs.specs.Coefficients.{blockCoefficients}
 use Rattle.blocks.specs.declared.dc.DcPasts.{DcPasts}
-use Rattle.blocks.specs.Blocks.{Block, uncoded, coded, dcOf, pastOf, pastsAfter}
+use Rattle.blocks.specs.Blocks.{dcOf, pastOf, pastsAfter}
 
 -- the sixty-four coefficients of a block, with the past DC before it; all 0 where it is not coded
 abbrev pub coefficientsOf : BlockCoding → List ℕ → ℤ → Block → List ℤ

@@ -1,24 +1,25 @@
 -- The array in which the code keeps a macroblock's six blocks, 64 coefficients each, and what the readers of blocks answer.
 use mathlib.Core.Bool.{Bool}
 use mathlib.Core.List.{List}
-use Prim.Native.Nat.{ℕ, _+_, _*_, _≤_}
+use Prim.Native.Nat.{ℕ, _+_, _*_}
 use lib.IntN.{ℤ}
 use Rattle.lists.specs.Scatter.{scatter}
 use Rattle.lists.specs.Tab.{tab}
 use Rattle.integers.specs.Bound.{at}
 use Rattle.refusals.specs.declared.Refusal.{Refusal}
 use Rattle.refusals.specs.declared.Refusal.the-variants.{DcCoefficient}
-use Rattle.parsed.specs.Parsed.{Parser, _then_, give, Found, value, stopped}
+use Rattle.symbols.specs.Parsed.{Parser, _then_, give, Found, value, stopped}
+use Rattle.symbols.specs.Pair.{firstPosition}
+use Rattle.symbols.specs.Block.{Block, uncoded, coded}
 use Rattle.pairs.specs.declared.BlockCoding.{BlockCoding}
-use Rattle.pairs.specs.Pairs.{firstPosition}
-use Rattle.pairs.specs.Coefficients.{placed, landed}
+use Rattle.pairs.specs.Coefficients.{placed, landed, Coded}
 use Rattle.blocks.specs.declared.dc.DcPasts.{DcPasts}
 use Rattle.blocks.specs.declared.dc.DcAnswer.{DcAnswer}
 use Rattle.blocks.specs.declared.dc.DcAnswer.the-variants as Dc
 use Rattle.blocks.specs.declared.blocks.BlocksCoding.{BlocksCoding}
 use Rattle.blocks.specs.declared.blocks.BlocksAnswer.{BlocksAnswer}
 use Rattle.blocks.specs.declared.blocks.BlocksAnswer.the-variants as Blocks
-use Rattle.blocks.specs.Blocks.{Block, uncoded, coded, dcOf, pastOf, pastsAfter, givenDifferenceOf, levelsOf, givenBlockOf, sixBlocksOf}
+use Rattle.blocks.specs.Blocks.{dcOf, pastOf, pastsAfter, givenDifferenceOf, levelsOf, givenBlockOf, sixBlocksOf}
 use Rattle.blocks.specs.Coefficients.{coefficientsOf, coefficientsFrom, pastsThrough}
 
 -- the block of that number, and all six
@@ -100,5 +101,5 @@ blocksRefusal (Blocks.Legal pasts cursor) = DcCoefficient
 blocksRefusal (Blocks.Refused refusal) = refusal
 
 -- ---- what the code relies on: a scale in its limits
-pub record BlocksCoded (c : BlocksCoding) : Type 0 where
-  pub scale-below : c .scale ≤ 31
+abbrev pub BlocksCoded : BlocksCoding → Type 0
+BlocksCoded c = Coded (codingOf c)

@@ -4,8 +4,8 @@ ghost use Prim.Native.Nat.{_<_};
 ghost use lib.IntN.{pos};
 ghost use lib.ListN.{replicate};
 ghost use Rattle.tables.specs.Tables.{zigzag};
-ghost use Rattle.parsed.specs.Parsed.{Finds};
-ghost use Rattle.blocks.specs.Blocks.{isCoded, LegalPasts};
+ghost use Rattle.symbols.specs.Parsed.{Finds};
+ghost use Rattle.blocks.specs.Blocks.{LegalPasts};
 ghost use Rattle.blocks.specs.Stored.{putBlock, storingOf, progressFound, decodingOf, decodedFound, blocksRefusal, BlocksCoded};
 use crate::dc;
 use crate::dc::DcAnswer;
@@ -16,6 +16,7 @@ use format3::field::Cursor;
 use pairs::BlockCoding;
 use pairs::PairsAnswer;
 use refusals::Refusal;
+use symbols::pattern;
 
 // The pasts after blocks that are all legal, and where they end.
 pub enum BlocksAnswer {
@@ -28,15 +29,6 @@ pub struct BlocksCoding {
     pub pattern: u8,
     pub intra: bool,
     pub scale: u8,
-}
-
-// Whether a block is coded: 32 in the pattern for the first, 1 for the last.
-pub fn is_coded(pattern: u8, block: usize) -> bool
-    requires { ⌜ block < 6 ⌝ }
-    ensures { λ r. ⌜ r ≡ isCoded pattern block ⌝ }
-{
-    let from_block = pattern >> (5 - block);
-    from_block % 2 == 1
 }
 
 // A block's coefficients put at its places.
@@ -62,7 +54,7 @@ fn read_block(
     requires { ⌜ (block < 6) × LegalPasts pasts × BlocksCoded coding × (now order ≡ zigzag) ⌝ }
     ensures { λ r. ⌜ Finds (storingOf coding (now (matrix .entry)) block (record { pasts = pasts; coefficients = now (coefficients .entry) })) (now (rest .entry)) (progressFound r (now (coefficients .exit))) ⌝ }
 {
-    if !is_coded(coding.pattern, block) {
+    if !pattern::is_coded(coding.pattern, block) {
         return BlocksAnswer::Legal(pasts, Cursor { at: 0 });
     }
     let intra = coding.intra;

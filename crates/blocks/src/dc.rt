@@ -1,7 +1,7 @@
 // The DC of an intra block, and the pasts that the next differences are added to.
 ghost use mathlib.Core.Path.{_≡_};
 ghost use mathlib.Core.Bool.{true};
-ghost use Rattle.parsed.specs.Parsed.{Finds};
+ghost use Rattle.symbols.specs.Parsed.{Finds};
 ghost use Rattle.blocks.specs.Blocks.{legalDifference, legalDc, pastOf, withPast, pastsWith};
 ghost use Rattle.blocks.specs.Stored.{readDcOf, dcFound, dcRefusal};
 use format3::field;

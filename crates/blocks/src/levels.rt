@@ -1,9 +1,8 @@
 // The levels of a block: a count of pairs, then the pairs.
 ghost use mathlib.Core.Path.{_≡_};
 ghost use Rattle.tables.specs.Tables.{zigzag};
-ghost use Rattle.parsed.specs.Parsed.{Finds};
+ghost use Rattle.symbols.specs.Parsed.{Finds};
 ghost use Rattle.format3.specs.Field.{testedFound};
-ghost use Rattle.pairs.specs.Pairs.{firstPosition};
 ghost use Rattle.pairs.specs.Coefficients.{dcAlone, pairsFound, Coded};
 ghost use Rattle.blocks.specs.Blocks.{legalCount, countOf};
 ghost use Rattle.blocks.specs.Stored.{landingLevelsOf};
@@ -15,6 +14,7 @@ use pairs::BlockCoding;
 use pairs::PairsAnswer;
 use pairs::PairsRead;
 use refusals::Refusal;
+use symbols::pair;
 
 const MOST_INTRA_PAIRS: u8 = 63;
 
@@ -45,16 +45,6 @@ fn read_count(rest: &[u8], intra: bool) -> TestedByte
     TestedByte::Legal(count, cursor)
 }
 
-// Where the first pair lands if its run is 0.
-pub fn first_position(intra: bool) -> usize
-    ensures { λ r. ⌜ r ≡ firstPosition intra ⌝ }
-{
-    if intra {
-        return 1;
-    }
-    0
-}
-
 // A block before its pairs: zeros, and the DC at its first place.
 pub(crate) fn dc_alone(dc: i16) -> [i16; 64]
     ensures { λ r. ⌜ r ≡ dcAlone dc ⌝ }
@@ -83,7 +73,7 @@ pub(crate) fn read_levels(
         };
     };
     let left = field::after(rest, cursor.at);
-    let start = first_position(coding.intra);
+    let start = pair::first_position(coding.intra);
     let read = pairs::read_pairs(left, count, start, coding, order, matrix, block);
     let answer = read.answer;
     let PairsAnswer::Legal(end) = answer else {

@@ -6,7 +6,7 @@ use lib.Dec.{ltb}
 use lib.IntN.{ℤ, pos, _-ℤ_}
 use Rattle.refusals.specs.declared.Refusal.{Refusal}
 use Rattle.refusals.specs.declared.Refusal.the-variants.{BodyLength}
-use Rattle.parsed.specs.Parsed.{Parser, parsed, refused, _then_, give, Found, value, stopped}
+use Rattle.symbols.specs.Parsed.{Parser, parsed, refused, _then_, give, Found, value, stopped}
 use Rattle.format3.specs.declared.field.ByteField.{ByteField}
 use Rattle.format3.specs.declared.field.ByteField.the-variants as Byte
 use Rattle.format3.specs.declared.field.WordField.{WordField}

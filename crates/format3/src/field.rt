@@ -2,7 +2,7 @@
 // or `Short` where the field is not wholly inside.
 ghost use mathlib.Core.Path.{_≡_};
 ghost use lib.ListN.{drop};
-ghost use Rattle.parsed.specs.Parsed.{Finds};
+ghost use Rattle.symbols.specs.Parsed.{Finds};
 ghost use Rattle.format3.specs.Field.{twosComplement, byte, word, signedByte, signedWord, byteFound, wordFound, signedFound, testedRefusal};
 use refusals::Refusal;
 

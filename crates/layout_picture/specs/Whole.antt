@@ -2,9 +2,9 @@
 use mathlib.Core.List.{List, [], _∷_, _++_}
 use Prim.Native.Nat.{ℕ, _≤_}
 use lib.ListN.{length}
+use Rattle.symbols.specs.Macroblock.{Macroblock}
 use Rattle.format3.specs.Record.{header}
 use Rattle.picture_header.specs.Opening.{version}
-use Rattle.macroblock_symbols.specs.Macroblock.{Macroblock}
 use Rattle.record_layout.specs.Records.{recordBytes, sliceRecord, macroblockBody, macroblockRecord}
 use Rattle.layout_reading.specs.Fitting.{Matching}
 

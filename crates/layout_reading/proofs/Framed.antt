@@ -11,7 +11,7 @@ use Rattle.layout_reading.specs.Framed.{Framed}
 abbrev pub framing : ℕ → Bool
 framing number = eqb number (numberOf RecordCut) || eqb number (numberOf RecordKind) || eqb number (numberOf BodyLength)
 
-never : true ≡ false → ⊥
+pub never : true ≡ false → ⊥
 never e = let z : _≡_ {A = ℕ} 0 1 = cc in omega arith
 
 pub framed : (number : ℕ) → framing number ≡ false → Framed number

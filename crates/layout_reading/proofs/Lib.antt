@@ -1,7 +1,11 @@
 pub mod Framed
+pub mod Legal
 pub mod ReadBack
 pub mod Record
 pub mod Slice
 pub mod Blocks
 pub mod Macroblock
+pub mod Bytes
+pub mod Written
+pub mod RoundTrip
 pub mod Examples

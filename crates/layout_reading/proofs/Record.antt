@@ -7,12 +7,13 @@ use native.Mathlib.Nat.{add-zero, add-sub-cancel-left}
 use native.Mathlib.Omega.{arith}
 use borrow.Author.Tests.{le-leb}
 use lib.ListN.{length, getD, take, drop, length-append, length-drop}
-use lib.Seq.{getD-drop, drop-drop, take-append-seam, drop-append-seam}
-use Rattle.parsed.specs.Guard.{need_else_then_}
+use lib.Seq.{getD-drop, drop-drop, take-append-seam, drop-append-seam, take-add}
+use Rattle.symbols.specs.Guard.{need_else_then_}
 use Rattle.format3.specs.Record.{legalKind, lengthAt, kindAt, recordOf}
 use Rattle.format3.specs.declared.record.Record.the-variants.{Found}
 use Rattle.byte_layout.specs.Bytes.{wordBytes}
 use Rattle.record_layout.specs.Records.{recordHead, recordBytes}
+use Rattle.record_layout.proofs.Laws.Lengths as Lengths
 use Rattle.layout_reading.proofs.ReadBack.{word-same}
 
 module _ (file : List ℕ) (at kind : ℕ) (body after : List ℕ) (stands : drop at file ≡ recordBytes kind body ++ after) where
@@ -50,3 +51,13 @@ module _ (file : List ℕ) (at kind : ℕ) (body after : List ℕ) (stands : dro
 
   pub record-after : drop (at + 3 + length body) file ≡ after
   record-after = sym (drop-drop (length body) (at + 3) file) ∙ ap (drop (length body)) body-from ∙ drop-append-seam body after
+
+  -- the bytes up to its end are those before it, and its own
+  pub record-before : take (at + 3 + length body) file ≡ take at file ++ recordBytes kind body
+  record-before =
+      ap (λ (n : ℕ). take n file) ends
+      ∙ take-add at (length (recordBytes kind body)) file
+      ∙ ap (λ (l : List ℕ). take at file ++ l) (rw stands (take-append-seam (recordBytes kind body) after))
+    where
+      ends : at + 3 + length body ≡ at + length (recordBytes kind body)
+      ends = omega (arith, Lengths.record-length kind body)

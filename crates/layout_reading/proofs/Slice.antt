@@ -1,23 +1,24 @@
 -- A slice's record that is laid out is read back. Assumes nothing.
+use mathlib.Core.Bool.{true}
 use mathlib.Core.List.{List, [], _∷_}
 use mathlib.Core.Path.{_≡_, refl}
 use Prim.Native.Nat.{ℕ}
 use Rattle.refusals.specs.declared.Refusal.the-variants.{QuantizerScale}
-use Rattle.parsed.specs.Guard.{need_else_then_}
+use Rattle.symbols.specs.Guard.{need_else_then_}
 use Rattle.format3.specs.Field.{byte}
-use Rattle.symbols.specs.Slice.{legalScale, scaleOf, sliceFieldsOf, sliceOf}
+use Rattle.macroblock_symbols.specs.Slice.{legalScale, scaleOf, sliceFieldsOf, sliceOf}
 use Rattle.byte_layout.specs.Bytes.{wordBytes}
 use Rattle.record_layout.specs.Records.{sliceBody}
 use Rattle.layout_reading.specs.ReadBack.{ReadBack, back, SliceReadBack}
 use Rattle.layout_reading.proofs.ReadBack.{back-then, back-need, word-back}
 
-pub scale-back : (scale : ℕ) (behind : List ℕ) → ReadBack (λ n. n ≡ scale) behind (scaleOf (scale ∷ behind))
+pub scale-back : (scale : ℕ) (behind : List ℕ) → ReadBack (λ n. n ≡ scale) (legalScale scale ≡ true) behind (scaleOf (scale ∷ behind))
 unfolding scaleOf byte
-scale-back scale behind = back-need (legalScale scale) QuantizerScale _ behind refl λ legal. back refl
+scale-back scale behind = back-need (legalScale scale) QuantizerScale _ behind refl (λ legal. legal) λ legal. back refl
 
 pub slice-back : (scale start : ℕ) → SliceReadBack scale start
 unfolding sliceOf sliceFieldsOf sliceBody wordBytes need_else_then_
 slice-back scale start =
-    back-then _ (scale-back scale (wordBytes start)) λ n same.
-    back-then _ (word-back start []) λ address found.
+    back-then _ (scale-back scale (wordBytes start)) (λ legal. legal .scale) λ n same.
+    back-then _ (word-back start []) (λ legal. tt) λ address found.
     back (λ fits. cc (found fits))

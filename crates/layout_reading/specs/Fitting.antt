@@ -6,13 +6,14 @@ use Prim.Native.Nat.{ℕ, suc, _+_}
 use lib.IntN.{pos}
 use mir.Syntax.{w8, w16}
 use mir.Val.{Fits, SFits}
-use Rattle.symbols.specs.MacroblockType.{givesScale, givesForward, givesBackward, isIntra, codedPattern}
+use Rattle.symbols.specs.MacroblockType.{givesScale, givesForward, givesBackward, isIntra}
+use Rattle.symbols.specs.Pattern.{codedPattern, isCoded}
 use Rattle.symbols.specs.declared.vector_codes.VectorCodes.{VectorCodes}
-use Rattle.pairs.specs.declared.Pair.{Pair}
-use Rattle.blocks.specs.Blocks.{Block, uncoded, coded, isCoded}
-use Rattle.macroblock_symbols.specs.declared.MacroblockSymbols.{MacroblockSymbols}
-use Rattle.macroblock_symbols.specs.Vectors.{noCodes}
-use Rattle.macroblock_symbols.specs.Macroblock.{Macroblock}
+use Rattle.symbols.specs.declared.pair.Pair.{Pair}
+use Rattle.symbols.specs.Block.{Block, uncoded, coded}
+use Rattle.symbols.specs.declared.macroblock.MacroblockSymbols.{MacroblockSymbols}
+use Rattle.symbols.specs.VectorCodes.{noCodes}
+use Rattle.symbols.specs.Macroblock.{Macroblock}
 
 -- ---- its blocks are those that its type and its pattern say
 abbrev pub wasCoded : Block → Bool
@@ -28,7 +29,8 @@ pub record Matching (m : Macroblock) : Type 0 where
   pub pattern : m .symbols .pattern ≡ codedPattern (m .symbols .flags) (λ known. known) (m .symbols .pattern)
   pub blocks : CodedBy (m .symbols .pattern) 6 0 (m .blocks)
 
--- ---- its numbers fit their fields, and a field that its type doesn't give is absent
+-- ---- its signed numbers and its increment fit their fields, and a field that its type doesn't give is absent. A number of one byte that isn't signed is
+-- laid as it is and needs no bound to be read back
 abbrev pub Given : {A : Type 0} → Bool → Type 0 → A → A → Type 0
 Given true Fit absent field = Fit
 Given false Fit absent field = absent ≡ field

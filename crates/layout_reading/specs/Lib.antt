@@ -1,3 +1,5 @@
 pub mod Framed
 pub mod Fitting
+pub mod Legal
 pub mod ReadBack
+pub mod RoundTrip

@@ -6,24 +6,27 @@ use mir.Syntax.{w16}
 use mir.Val.{Fits}
 use Rattle.refusals.specs.declared.Refusal.{Refusal}
 use Rattle.refusals.specs.Refusal.{numberOf}
-use Rattle.parsed.specs.Parsed.{Parsed, parsed, refused}
-use Rattle.symbols.specs.Slice.{sliceOf}
+use Rattle.symbols.specs.Parsed.{Parsed, parsed, refused}
+use Rattle.symbols.specs.Macroblock.{Macroblock}
+use Rattle.macroblock_symbols.specs.Slice.{sliceOf}
 use Rattle.macroblock_symbols.specs.declared.MacroblockContext.{MacroblockContext}
-use Rattle.macroblock_symbols.specs.Macroblock.{Macroblock, macroblockOf}
+use Rattle.macroblock_symbols.specs.Macroblock.{macroblockOf}
 use Rattle.record_layout.specs.Records.{sliceBody, macroblockBody}
 use Rattle.layout_reading.specs.Framed.{Framed}
-use Rattle.layout_reading.specs.Fitting.{Fitting}
+use Rattle.layout_reading.specs.Fitting.{Matching, Fitting}
+use Rattle.layout_reading.specs.Legal.{LegalSlice, LegalMacroblock}
 
--- what is parsed of a part that is laid out, with some bytes behind it: a value of which P holds, and those bytes are left; or a refusal of a value,
--- which finds no fault with how the part is put together
-pub data ReadBack {A : Type 0} (P : A → Type 0) (behind : List ℕ) : Parsed A → Type 0 where
-  back : {a : A} → P a → ReadBack P behind (parsed a behind)
-  other : {refusal : Refusal} → Framed (numberOf refusal) → ReadBack P behind (refused refusal)
+-- what parsing gives of a part that is laid out, with bytes behind it: a value of which P holds, with just those bytes left; or a refusal other than 3, 4
+-- and 6, and then the values are not Legal
+pub data ReadBack {A : Type 0} (P : A → Type 0) (Legal : Type 0) (behind : List ℕ) : Parsed A → Type 0 where
+  back : {a : A} → P a → ReadBack P Legal behind (parsed a behind)
+  other : {refusal : Refusal} → Framed (numberOf refusal) → (Legal → ⊥) → ReadBack P Legal behind (refused refusal)
 
--- the body of a slice's record, with any values, is read back
+-- the body of a slice's record, with any values: it is read back where the start fits two bytes, or refused, and then a value is not legal
 abbrev pub SliceReadBack : ℕ → ℕ → Type 0
-SliceReadBack scale start = ReadBack (λ slice. Fits w16 start → slice ≡ record { scale = scale; start = start }) [] (sliceOf (sliceBody scale start))
+SliceReadBack scale start =
+    ReadBack (λ slice. Fits w16 start → slice ≡ record { scale = scale; start = start }) (LegalSlice (record { scale = scale; start = start })) [] (sliceOf (sliceBody scale start))
 
--- the body of a macroblock's record is read back, whatever the picture and its state
+-- the same of a macroblock's record, in every context, where its blocks are those of its type and its pattern
 abbrev pub MacroblockReadBack : MacroblockContext → Macroblock → Type 0
-MacroblockReadBack c m = ReadBack (λ read. Fitting m → read ≡ m) [] (macroblockOf c (macroblockBody m))
+MacroblockReadBack c m = Matching m → ReadBack (λ read. Fitting m → read ≡ m) (LegalMacroblock c m) [] (macroblockOf c (macroblockBody m))

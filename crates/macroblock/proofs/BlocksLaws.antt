@@ -9,8 +9,8 @@ use native.Mathlib.Omega.{arith}
 use lib.IntN.{ℤ}
 use Rattle.lists.specs.Tab.{tab}
 use Rattle.lists.proofs.Tab.{tab-more}
-use Rattle.blocks.specs.Blocks.{isCoded}
-use Rattle.picture_header.specs.declared.size.PictureSize.{PictureSize}
+use Rattle.symbols.specs.Pattern.{isCoded}
+use Rattle.symbols.specs.declared.size.PictureSize.{PictureSize}
 use Rattle.macroblock.specs.declared.place.Position.{Position}
 use Rattle.macroblock.specs.declared.compensation.Motion.{Motion}
 use Rattle.macroblock.specs.Place.{placeOf, putAt}

@@ -12,9 +12,9 @@ use lib.ListN.{length, getD}
 use Rattle.lists.proofs.Tab.{tab-at}
 use Rattle.transform.specs.Transform.{limitedResidue, residuesBy}
 use Rattle.motion.specs.Pel.{reconstructed, reconstructedPel}
-use Rattle.blocks.specs.Blocks.{isCoded}
-use Rattle.picture_header.specs.declared.size.PictureSize.{PictureSize}
-use Rattle.picture_header.specs.Size.{SizeWithin, count, bytes, startOfCb, startOfCr}
+use Rattle.symbols.specs.Pattern.{isCoded}
+use Rattle.symbols.specs.declared.size.PictureSize.{PictureSize}
+use Rattle.symbols.specs.Size.{SizeWithin, count, bytes, startOfCb, startOfCr}
 use Rattle.macroblock.specs.declared.place.Position.{Position}
 use Rattle.macroblock.specs.declared.place.Place.{Place}
 use Rattle.macroblock.specs.Place.{positionOf, lumaPlace, chromaPlace, placeOf, putAt, Inside, Holds}

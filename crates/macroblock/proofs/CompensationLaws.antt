@@ -20,7 +20,7 @@ use Rattle.motion.specs.Fit.{pointed, halfPelPlace, macroblockFits}
 use Rattle.motion.specs.Vector.{chromaVector, oddBit}
 use Rattle.motion.proofs.FitLaws.{size-up, place-odd, Fits, MacroblockFits, luma-known, chroma-known}
 use Rattle.motion.proofs.VectorLaws.{both-true, chroma-within}
-use Rattle.picture_header.specs.Size.{bytes}
+use Rattle.symbols.specs.Size.{bytes}
 use Rattle.macroblock.specs.declared.place.Position.{Position}
 use Rattle.macroblock.specs.declared.place.Place.{Place}
 use Rattle.macroblock.specs.declared.compensation.Vector.{Vector}

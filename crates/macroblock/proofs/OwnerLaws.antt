@@ -10,8 +10,8 @@ use lib.Arith.{digits-lt, digits-div, digits-mod}
 use lib.Dec.{ltb, leb}
 use Rattle.motion.proofs.PelLaws.{inSquare}
 use Rattle.motion.proofs.VectorLaws.{both-true}
-use Rattle.picture_header.specs.declared.size.PictureSize.{PictureSize}
-use Rattle.picture_header.specs.Size.{SizeWithin, count, bytes, startOfCb, startOfCr}
+use Rattle.symbols.specs.declared.size.PictureSize.{PictureSize}
+use Rattle.symbols.specs.Size.{SizeWithin, count, bytes, startOfCb, startOfCr}
 use Rattle.macroblock.specs.declared.place.Place.{Place}
 use Rattle.macroblock.specs.Place.{positionOf, lumaPlace, chromaPlace, placeOf}
 use Rattle.macroblock.specs.Owner.{ownerIn, ownerOf}

@@ -5,9 +5,9 @@ use native.Mathlib.Decide.{ℕ-discrete}
 use native.Mathlib.Nat.{le-refl, le-trans, le-of-eq, mul-le-mul-right, mul-mul-mul-comm, mul-comm}
 use native.Mathlib.Omega.{arith}
 use borrow.Author.Tests.{eq-eqb, ne-eqb}
-use Rattle.picture_header.specs.declared.size.PictureSize.{PictureSize}
-use Rattle.picture_header.specs.Size.{SizeWithin, count, bytes, startOfCb, startOfCr}
-use Rattle.picture_header.proofs.Laws.Size.{width-few, height-few, column-inside, row-inside}
+use Rattle.symbols.specs.declared.size.PictureSize.{PictureSize}
+use Rattle.symbols.specs.Size.{SizeWithin, count, bytes, startOfCb, startOfCr}
+use Rattle.symbols.proofs.Laws.Size.{width-few, height-few, column-inside, row-inside}
 use Rattle.macroblock.specs.declared.place.Position.{Position}
 use Rattle.macroblock.specs.declared.place.Place.{Place}
 use Rattle.macroblock.specs.Place.{positionOf, lumaPlace, chromaPlace, placeOf, Inside, Holds}

@@ -14,8 +14,8 @@ use Rattle.lists.proofs.Tab.{tab-ext}
 use Rattle.integers.specs.Bound.{at}
 use Rattle.transform.specs.Transform.{residuesBy}
 use Rattle.motion.specs.Pel.{reconstructed, reconstructedPel}
-use Rattle.blocks.specs.Blocks.{isCoded}
-use Rattle.picture_header.specs.Size.{bytes}
+use Rattle.symbols.specs.Pattern.{isCoded}
+use Rattle.symbols.specs.Size.{bytes}
 use Rattle.macroblock.specs.declared.place.Position.{Position}
 use Rattle.macroblock.specs.declared.compensation.Motion.{Motion}
 use Rattle.macroblock.specs.Place.{placeOf, readAt, putAt, Inside, Holds}

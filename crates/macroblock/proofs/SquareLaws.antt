@@ -11,7 +11,7 @@ use Rattle.lists.proofs.Part.{part-none, part-same, part-twice}
 use Rattle.motion.specs.Pel.{withSquare, withBlock}
 use Rattle.motion.specs.Prediction.{prediction}
 use Rattle.motion.proofs.SquareLaws.{withQuarters, quarters-length, pelOfQuarter, square-quarters, quarter-predicted}
-use Rattle.picture_header.specs.Size.{bytes, startOfY, startOfCb}
+use Rattle.symbols.specs.Size.{bytes, startOfY, startOfCb}
 use Rattle.macroblock.specs.declared.place.Position.{Position}
 use Rattle.macroblock.specs.declared.place.Place.{Place}
 use Rattle.macroblock.specs.declared.compensation.Vector.{Vector}

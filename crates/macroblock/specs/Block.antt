@@ -4,9 +4,9 @@ use mathlib.Core.List.{List, []}
 use Prim.Native.Nat.{ℕ}
 use lib.IntN.{ℤ}
 use lib.ListN.{getD}
-use Rattle.blocks.specs.Blocks.{isCoded}
-use Rattle.motion.specs.Pel.{reconstructed}
 use Rattle.transform.specs.Transform.{residuesBy}
+use Rattle.motion.specs.Pel.{reconstructed}
+use Rattle.symbols.specs.Pattern.{isCoded}
 use Rattle.macroblock.specs.declared.place.Position.{Position}
 use Rattle.macroblock.specs.declared.compensation.Motion.{Motion}
 use Rattle.macroblock.specs.Place.{placeOf}

@@ -8,9 +8,9 @@ use lib.IntN.{ℤ}
 use lib.ListN.{getD}
 use Rattle.transform.specs.Transform.{limitedResidue}
 use Rattle.motion.specs.Pel.{reconstructedPel}
-use Rattle.blocks.specs.Blocks.{isCoded}
-use Rattle.picture_header.specs.declared.size.PictureSize.{PictureSize}
-use Rattle.picture_header.specs.Size.{startOfCb, startOfCr}
+use Rattle.symbols.specs.Pattern.{isCoded}
+use Rattle.symbols.specs.declared.size.PictureSize.{PictureSize}
+use Rattle.symbols.specs.Size.{startOfCb, startOfCr}
 use Rattle.macroblock.specs.declared.place.Place.{Place}
 use Rattle.macroblock.specs.Place.{positionOf, placeOf}
 use Rattle.macroblock.specs.Compensation.{References, predictedBlock}

@@ -3,7 +3,7 @@ use mathlib.Core.Path.{_≡_}
 use mathlib.Core.Bool.{Bool, true, cond, _&&_}
 use mathlib.Core.List.{List}
 use Prim.Native.Nat.{ℕ, _+_, _-_, _*_, _≤_}
-use lib.Dec.{ltb, eqb}
+use lib.Dec.{eqb}
 use lib.IntN.{pos}
 use lib.ListN.{length, take, drop, replicate}
 use lib.Signed.{_≤ℤ_}
@@ -11,6 +11,7 @@ use Rattle.integers.specs.Bound.{Within}
 use Rattle.motion.specs.Fit.{pointed, halfPelPlace}
 use Rattle.motion.specs.Prediction.{prediction, pelsOfSquare, meanOfBoth}
 use Rattle.motion.specs.Vector.{chromaVector, oddBit}
+use Rattle.symbols.specs.Pattern.{isLuma}
 use Rattle.macroblock.specs.declared.place.Position.{Position}
 use Rattle.macroblock.specs.declared.place.Place.{Place}
 use Rattle.macroblock.specs.declared.compensation.Vector.{Vector}
@@ -28,7 +29,7 @@ references forward backward = record { forward = forward; backward = backward }
 
 -- "Chroma first halves towards zero": the vector for the plane of a block
 unfoldable pub vectorFor : ℕ → Vector → Vector
-vectorFor block v = cond (ltb block 4) v (record { right = chromaVector (v .right); down = chromaVector (v .down) })
+vectorFor block v = cond (isLuma block) v (record { right = chromaVector (v .right); down = chromaVector (v .down) })
 
 -- the plane of a place, of a picture
 abbrev pub planeOf : Place → List ℕ → List ℕ

@@ -2,7 +2,7 @@
 use mathlib.Core.Bool.{Bool, true, cond}
 use Prim.Native.Nat.{ℕ, zero, suc, _+_}
 use Rattle.motion.specs.Fit.{macroblockFits}
-use Rattle.picture_header.specs.declared.size.PictureSize.{PictureSize}
+use Rattle.symbols.specs.declared.size.PictureSize.{PictureSize}
 use Rattle.macroblock.specs.declared.place.Position.{Position}
 use Rattle.macroblock.specs.declared.compensation.Vector.{Vector}
 use Rattle.macroblock.specs.declared.compensation.Motion.{Motion}

@@ -6,8 +6,9 @@ use Prim.Native.Nat.{ℕ, zero, suc, _+_, _≤_, _<_}
 use lib.IntN.{ℤ}
 use lib.ListN.{length}
 use Rattle.lists.specs.Tab.{tab}
-use Rattle.picture_header.specs.declared.size.PictureSize.{PictureSize}
-use Rattle.picture_header.specs.Size.{SizeWithin, count, bytes}
+use Rattle.symbols.specs.declared.size.PictureSize.{PictureSize}
+use Rattle.symbols.specs.Pattern.{noBlock}
+use Rattle.symbols.specs.Size.{SizeWithin, count, bytes}
 use Rattle.macroblock.specs.declared.place.Position.{Position}
 use Rattle.macroblock.specs.declared.compensation.Motion.{Motion}
 use Rattle.macroblock.specs.declared.compensation.Vector.{Vector}
@@ -31,7 +32,7 @@ pub record Made : Type 0 where
 
 -- one that is predicted alone: none of its blocks is coded
 abbrev pub uncoded : ℕ → Motion → Made
-uncoded address m = record { address = address; motion = m; pattern = 0; coefficients = [] }
+uncoded address m = record { address = address; motion = m; pattern = noBlock; coefficients = [] }
 
 -- n of these, from an address on
 abbrev pub uncodedFrom : ℕ → ℕ → Motion → List Made

@@ -2,8 +2,8 @@
 use mathlib.Core.Bool.{cond}
 use Prim.Native.Nat.{ℕ, _+_, _-_, _*_, _/_, _%_}
 use lib.Dec.{ltb}
-use Rattle.picture_header.specs.declared.size.PictureSize.{PictureSize}
-use Rattle.picture_header.specs.Size.{startOfCb, startOfCr}
+use Rattle.symbols.specs.declared.size.PictureSize.{PictureSize}
+use Rattle.symbols.specs.Size.{startOfCb, startOfCr}
 
 -- the address of the macroblock of pel i of a plane, in which a macroblock has side by side pels
 unfoldable pub ownerIn : ℕ → ℕ → ℕ → ℕ

@@ -7,8 +7,8 @@ use lib.ListN.{getD}
 use Rattle.lists.specs.Part.{part}
 use Rattle.lists.specs.Tab.{tab}
 use Rattle.motion.specs.Pel.{cell, withSquare, withBlock}
-use Rattle.picture_header.specs.declared.size.PictureSize.{PictureSize}
-use Rattle.picture_header.specs.Size.{count, startOfY, startOfCb, startOfCr, column, row}
+use Rattle.symbols.specs.declared.size.PictureSize.{PictureSize}
+use Rattle.symbols.specs.Size.{count, startOfY, startOfCb, startOfCr, column, row}
 use Rattle.macroblock.specs.declared.place.Position.{Position}
 use Rattle.macroblock.specs.declared.place.Place.{Place}
 

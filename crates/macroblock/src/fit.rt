@@ -1,7 +1,7 @@
 // Whether what a macroblock is predicted from lies inside the references, and if not, which direction fails first.
 ghost use mathlib.Core.Path.{_≡_};
 ghost use Prim.Native.Nat.{_+_, _≤_, _<_};
-ghost use Rattle.picture_header.specs.Size.{SizeWithin, count};
+ghost use Rattle.symbols.specs.Size.{SizeWithin, count};
 ghost use Rattle.macroblock.specs.Place.{Inside};
 ghost use Rattle.macroblock.specs.Compensation.{VectorWithin, MotionWithin};
 ghost use Rattle.macroblock.specs.Fit.{directionFits, fitOf, firstMisfit};
@@ -9,7 +9,7 @@ use crate::compensation::Motion;
 use crate::compensation::Vector;
 use crate::place;
 use crate::place::Position;
-use picture_header::size::PictureSize;
+use symbols::size::PictureSize;
 
 // Every used direction fits, or the first that does not.
 pub enum Fit {

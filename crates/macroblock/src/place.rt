@@ -2,9 +2,9 @@
 ghost use mathlib.Core.Path.{_≡_};
 ghost use Prim.Native.Nat.{_+_, _-_, _*_, _≤_, _<_};
 ghost use lib.ListN.{length};
-ghost use Rattle.picture_header.specs.Size.{SizeWithin, count};
+ghost use Rattle.symbols.specs.Size.{SizeWithin, count};
 ghost use Rattle.macroblock.specs.Place.{positionOf, lumaPlace, chromaPlace, placeOf, readAt, putAt, putSquareAt, Inside, Holds};
-use picture_header::size::PictureSize;
+use symbols::size::PictureSize;
 
 // A macroblock's column and row in a picture of this size.
 pub struct Position {

@@ -38,7 +38,7 @@ pub fn add_residue(
     requires { ⌜ InRange (sixBlocks (now coefficients)) × (block < 6) ⌝ }
     ensures { λ r. ⌜ r ≡ withResidue inverseTransform pattern (sixBlocks (now (coefficients .entry))) block predicted ⌝ }
 {
-    if !blocks::blocks::is_coded(pattern, block) {
+    if !symbols::pattern::is_coded(pattern, block) {
         return predicted;
     }
     reconstruct(predicted, coefficients, block)

@@ -6,11 +6,11 @@ ghost use Prim.Native.Nat.{_≤_, _<_};
 ghost use lib.ListN.{length, replicate};
 ghost use Rattle.transform.specs.Transform.{inverseTransform, residuesBy};
 ghost use Rattle.motion.specs.Pel.{reconstructed};
-ghost use Rattle.picture_header.specs.Size.{bytes};
-ghost use Rattle.macroblock.specs.Place.{placeOf, readAt, putAt, Inside};
-ghost use Rattle.blocks.specs.Blocks.{isCoded};
+ghost use Rattle.symbols.specs.Size.{bytes};
+ghost use Rattle.symbols.specs.Pattern.{isCoded};
 ghost use Rattle.blocks.specs.Coefficients.{InRange};
 ghost use Rattle.blocks.specs.Stored.{sixBlocks};
+ghost use Rattle.macroblock.specs.Place.{placeOf, readAt, putAt, Inside};
 ghost use Rattle.macroblock.specs.Compensation.{references, isWhole, predictedFrom, pointedBlock, Readable};
 ghost use Rattle.macroblock.specs.Block.{coefficientsOf, withResidue, pelsOf};
 ghost use Rattle.macroblock.specs.Macroblock.{uncoded, uncodedFrom, withBlocks, withMacroblock, withMacroblocks, BlocksDrawable, Drawable, RunDrawable, Copyable};
@@ -20,7 +20,7 @@ use crate::compensation::Vector;
 use crate::place;
 use crate::place::Position;
 use crate::residue;
-use picture_header::size::PictureSize;
+use symbols::size::PictureSize;
 
 // The prediction of a block, put at its place.
 fn write_predicted_block(
@@ -131,7 +131,7 @@ fn add_block(
     requires { ⌜ Inside position × (length (now output) ≡ bytes (position .size)) × InRange (sixBlocks (now coefficients)) × (block < 6) ⌝ }
     ensures { λ _. ⌜ now (output .exit) ≡ cond (isCoded pattern block) (putAt (placeOf position block) (reconstructed (readAt (placeOf position block) (now (output .entry))) (residuesBy inverseTransform (coefficientsOf (sixBlocks (now (coefficients .entry))) block))) (now (output .entry))) (now (output .entry)) ⌝ }
 {
-    if !blocks::blocks::is_coded(pattern, block) {
+    if !symbols::pattern::is_coded(pattern, block) {
         return;
     }
     let place = place::place_of(position, block);

@@ -1,2 +1,5 @@
+pub mod Slice
+pub mod VectorCodes
+pub mod MacroblockHead
 pub mod Vectors
 pub mod Macroblock

@@ -1,19 +1,21 @@
--- From a macroblock's symbols to its coefficients and DC pasts (document 01, "Coefficients"). No byte of the file occurs here.
+-- From a macroblock's symbols to its coefficients and DC pasts (document 01, "Coefficients"). No byte of the file occurs before the last section, which
+-- says what the reader of the blocks answers.
 use mathlib.Core.Bool.{Bool, cond}
 use mathlib.Core.List.{List}
 use Prim.Native.Nat.{ℕ}
 use lib.IntN.{ℤ}
-use Rattle.parsed.specs.Parsed.{Parser, _then_, give}
+use Rattle.symbols.specs.Parsed.{Parser, _then_, give}
+use Rattle.symbols.specs.MacroblockType.{givesScale, isIntra}
+use Rattle.symbols.specs.declared.macroblock.MacroblockSymbols.{MacroblockSymbols}
+use Rattle.symbols.specs.Macroblock.{Macroblock}
 use Rattle.matrices.specs.Matrix.{matrixFor}
 use Rattle.matrices.specs.declared.Matrices.{Matrices}
 use Rattle.pairs.specs.declared.BlockCoding.{BlockCoding}
-use Rattle.symbols.specs.MacroblockType.{givesScale, isIntra}
 use Rattle.blocks.specs.declared.dc.DcPasts.{DcPasts}
 use Rattle.blocks.specs.Coefficients.{coefficientsFrom, pastsThrough}
 use Rattle.blocks.specs.Stored.{Decoded, decodedOf}
-use Rattle.macroblock_symbols.specs.declared.MacroblockSymbols.{MacroblockSymbols}
 use Rattle.macroblock_symbols.specs.declared.DecodedMacroblock.{DecodedMacroblock}
-use Rattle.macroblock_symbols.specs.Macroblock.{Macroblock, resetPasts, startingPasts, wholeBlocksOf}
+use Rattle.macroblock_symbols.specs.Macroblock.{resetPasts, startingPasts, wholeBlocksOf}
 
 -- "A scale holds until the next one given"
 abbrev pub scaleAfter : ℕ → MacroblockSymbols → ℕ
@@ -27,7 +29,7 @@ abbrev pub macroblockCoefficients : Matrices → ℕ → DcPasts → Macroblock 
 macroblockCoefficients matrices scale pasts m =
     coefficientsFrom (blockCoding (m .symbols) scale) (matrixFor (isIntra (m .symbols .flags)) matrices) pasts 0 (m .blocks)
 
--- "Pasts are 1024 .. after any skipped or non-intra macroblock"
+-- "Pasts are 1024 .. after any .. non-intra macroblock"; skipped ones are in `startingPasts`
 abbrev pub pastsLeft : Bool → DcPasts → DcPasts
 pastsLeft intra running = cond intra running resetPasts
 

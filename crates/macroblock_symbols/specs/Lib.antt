@@ -1,3 +1,6 @@
+pub mod Slice
+pub mod VectorCodes
+pub mod MacroblockHead
 pub mod Vectors
 pub mod Macroblock
 pub mod Decoding

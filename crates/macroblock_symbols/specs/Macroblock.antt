@@ -6,29 +6,25 @@ use lib.Dec.{leb, ltb}
 use lib.IntN.{pos}
 use Rattle.refusals.specs.declared.Refusal.{Refusal}
 use Rattle.refusals.specs.declared.Refusal.the-variants as Refusal
-use Rattle.parsed.specs.Guard.{need_else_then_}
-use Rattle.parsed.specs.Parsed.{Parser, parsed, refused, _then_, give, refuse, Found, value, stopped}
+use Rattle.symbols.specs.Guard.{need_else_then_}
+use Rattle.symbols.specs.Parsed.{Parser, parsed, refused, _then_, give, refuse, Found, value, stopped}
+use Rattle.symbols.specs.MacroblockType.{isIntra}
+use Rattle.symbols.specs.Pattern.{allBlocks, codedPattern}
+use Rattle.symbols.specs.Block.{Block}
+use Rattle.symbols.specs.declared.macroblock.MacroblockSymbols.{MacroblockSymbols}
+use Rattle.symbols.specs.Macroblock.{Macroblock, symbolsWith}
 use Rattle.format3.specs.Field.{byte}
-use Rattle.symbols.specs.declared.macroblock_head.MacroblockHead.{MacroblockHead}
-use Rattle.symbols.specs.MacroblockType.{isIntra, codedPattern}
-use Rattle.symbols.specs.MacroblockHead.{headOf}
 use Rattle.blocks.specs.declared.dc.DcPasts.{DcPasts}
-use Rattle.blocks.specs.Blocks.{Block, sixBlocksOf}
-use Rattle.macroblock_symbols.specs.declared.vectors.Vectors.{Vectors}
+use Rattle.blocks.specs.Blocks.{sixBlocksOf}
+use Rattle.macroblock_symbols.specs.MacroblockHead.{headOf}
 use Rattle.macroblock_symbols.specs.declared.MacroblockContext.{MacroblockContext}
-use Rattle.macroblock_symbols.specs.declared.MacroblockSymbols.{MacroblockSymbols}
 use Rattle.macroblock_symbols.specs.declared.SymbolsAnswer.{SymbolsAnswer}
 use Rattle.macroblock_symbols.specs.declared.SymbolsAnswer.the-variants.{Legal, Refused}
 use Rattle.macroblock_symbols.specs.Vectors.{vectorsOf}
 
--- the symbols of a macroblock: those before its blocks, and the six blocks
-pub record Macroblock : Type 0 where
-  pub symbols : MacroblockSymbols
-  pub blocks : List Block
-
 -- "Pattern is 1..63"
 abbrev pub legalPattern : ℕ → Bool
-legalPattern pattern = leb 1 pattern && leb pattern 63
+legalPattern pattern = leb 1 pattern && leb pattern allBlocks
 
 unfoldable pub patternOf : Parser ℕ
 patternOf =
@@ -39,16 +35,6 @@ patternOf =
 -- "pattern byte", as the type says
 abbrev pub codedPatternOf : ℕ → Parser ℕ
 codedPatternOf flags = codedPattern flags give patternOf
-
-abbrev pub symbolsWith : MacroblockHead → Vectors → ℕ → MacroblockSymbols
-symbolsWith head vectors pattern = record {
-  flags = head .flags;
-  increment = head .increment;
-  scale = head .scale;
-  forward = vectors .forward;
-  backward = vectors .backward;
-  pattern = pattern;
-}
 
 -- "type byte, 2-byte address increment, then as the type says: scale; forward codes ..; backward codes; pattern byte"
 unfoldable pub symbolsOf : MacroblockContext → Parser MacroblockSymbols

@@ -1,23 +1,17 @@
 -- The codes of a macroblock's vectors (document 01, kind 4: "forward codes ..; backward codes").
 use mathlib.Core.Bool.{Bool}
 use Prim.Native.Nat.{ℕ}
-use lib.IntN.{pos}
 use Rattle.refusals.specs.declared.Refusal.{Refusal}
 use Rattle.refusals.specs.declared.Refusal.the-variants as Refusal
-use Rattle.parsed.specs.Parsed.{Parser, _then_, give, given_else_read_, Found, value, stopped}
+use Rattle.symbols.specs.Parsed.{Parser, _then_, give, given_else_read_, Found, value, stopped}
 use Rattle.symbols.specs.declared.vector_codes.VectorCode.{VectorCode}
 use Rattle.symbols.specs.declared.vector_codes.VectorCodes.{VectorCodes}
 use Rattle.symbols.specs.MacroblockType.{givesForward, givesBackward}
-use Rattle.symbols.specs.VectorCodes.{codesOf}
-use Rattle.macroblock_symbols.specs.declared.vectors.Vectors.{Vectors}
+use Rattle.symbols.specs.declared.vector_codes.Vectors.{Vectors}
+use Rattle.symbols.specs.VectorCodes.{noCodes}
+use Rattle.macroblock_symbols.specs.VectorCodes.{codesOf}
 use Rattle.macroblock_symbols.specs.declared.vectors.VectorsAnswer.{VectorsAnswer}
 use Rattle.macroblock_symbols.specs.declared.vectors.VectorsAnswer.the-variants.{Legal, Refused}
-
-abbrev pub noCode : VectorCode
-noCode = record { code = pos 0; residual = 0 }
-
-abbrev pub noCodes : VectorCodes
-noCodes = record { horizontal = noCode; vertical = noCode }
 
 -- the codes of one direction, zeros where they are not given
 abbrev pub givenCodesOf : Bool → ℕ → Parser VectorCodes

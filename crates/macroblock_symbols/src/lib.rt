@@ -1,17 +1,22 @@
 // A macroblock record (kind 4): its symbols before the blocks, and its blocks.
+pub mod macroblock_head;
+pub mod slice;
+pub mod vector_codes;
 pub mod vectors;
 
 ghost use mathlib.Core.Path.{_≡_};
 ghost use Prim.Native.Nat.{_≤_};
 ghost use lib.IntN.{pos};
 ghost use lib.ListN.{replicate};
-ghost use Rattle.parsed.specs.Parsed.{Finds};
+ghost use Rattle.symbols.specs.Parsed.{Finds};
 ghost use Rattle.format3.specs.Field.{testedFound};
+ghost use Rattle.matrices.specs.Matrix.{matricesOf};
 ghost use Rattle.blocks.specs.Blocks.{LegalPasts};
 ghost use Rattle.blocks.specs.Stored.{decodedFound};
 ghost use Rattle.macroblock_symbols.specs.Macroblock.{legalPattern, patternOf, codedPatternOf, symbolsOf, symbolsFound, symbolsRefusal, resetPasts, startingPasts};
-ghost use Rattle.matrices.specs.Matrix.{matricesOf};
 ghost use Rattle.macroblock_symbols.specs.Decoding.{scaleAfter, decodingBlocksOf, pastsLeft};
+use crate::macroblock_head::HeadAnswer;
+use crate::macroblock_head::HeadContext;
 use crate::vectors::VectorsAnswer;
 use blocks::blocks::BlocksAnswer;
 use blocks::blocks::BlocksCoding;
@@ -21,16 +26,12 @@ use format3::field::ByteField;
 use format3::field::Cursor;
 use format3::field::TestedByte;
 use refusals::Refusal;
-use symbols::macroblock_head;
-use symbols::macroblock_head::HeadAnswer;
-use symbols::macroblock_head::HeadContext;
+use symbols::macroblock::MacroblockSymbols;
 use symbols::macroblock_type;
 use symbols::macroblock_type::INTRA;
 use symbols::macroblock_type::PATTERN;
 use symbols::macroblock_type::SCALE_GIVEN;
-use symbols::vector_codes::VectorCodes;
-
-const ALL_BLOCKS: u8 = 63;
+use symbols::pattern::ALL_BLOCKS;
 
 // The DC pasts at a slice's start, and after a macroblock that is skipped or not intra.
 pub const RESET_DC: i16 = 1024;
@@ -41,16 +42,6 @@ pub struct MacroblockContext {
     pub forward_f: u32,
     pub backward_f: u32,
     pub dc: DcPasts,
-}
-
-// The symbols before the blocks. The scale and the codes are 0 where they are not given; the pattern is that of the coded blocks.
-pub struct MacroblockSymbols {
-    pub flags: u8,
-    pub increment: u16,
-    pub scale: u8,
-    pub forward: VectorCodes,
-    pub backward: VectorCodes,
-    pub pattern: u8,
 }
 
 // The symbols, and the DC pasts that the macroblock leaves.

@@ -1,23 +1,19 @@
 // The codes of a macroblock's vectors, in the directions that its type gives.
 ghost use mathlib.Core.Path.{_≡_};
-ghost use Rattle.parsed.specs.Parsed.{Finds};
-ghost use Rattle.symbols.specs.VectorCodes.{codesFound};
+ghost use Rattle.symbols.specs.Parsed.{Finds};
+ghost use Rattle.macroblock_symbols.specs.VectorCodes.{codesFound};
 ghost use Rattle.macroblock_symbols.specs.Vectors.{givenCodesOf, vectorsOf, vectorsFound, vectorsRefusal};
+use crate::vector_codes;
+use crate::vector_codes::CodesAnswer;
 use format3::field;
 use format3::field::Cursor;
 use refusals::Refusal;
 use symbols::macroblock_type;
 use symbols::macroblock_type::BACKWARD;
 use symbols::macroblock_type::FORWARD;
-use symbols::vector_codes;
-use symbols::vector_codes::CodesAnswer;
 use symbols::vector_codes::VectorCode;
 use symbols::vector_codes::VectorCodes;
-
-pub struct Vectors {
-    pub forward: VectorCodes,
-    pub backward: VectorCodes,
-}
+use symbols::vector_codes::Vectors;
 
 pub enum VectorsAnswer {
     Legal(Vectors, Cursor),

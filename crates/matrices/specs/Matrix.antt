@@ -6,13 +6,13 @@ use lib.Dec.{leb, eqb}
 use lib.ListN.{length, getD, drop, replicate}
 use Rattle.lists.specs.Scatter.{scatter}
 use Rattle.lists.specs.Test.{allBelow}
-use Rattle.tables.specs.Tables.{zigzag, defaultIntra, defaultNonIntra}
 use Rattle.refusals.specs.declared.Refusal.the-variants as Refusal
-use Rattle.matrices.specs.declared.Matrices.{Matrices}
-use Rattle.matrices.specs.declared.Loaded.{Loaded}
+use Rattle.tables.specs.Tables.{zigzag, defaultIntra, defaultNonIntra}
+use Rattle.symbols.specs.Guard.{need_else_then_}
 use Rattle.format3.specs.declared.verdict.Verdict.{Verdict}
 use Rattle.format3.specs.declared.verdict.Verdict.the-variants.{Passed, Refused}
-use Rattle.parsed.specs.Guard.{need_else_then_}
+use Rattle.matrices.specs.declared.Matrices.{Matrices}
+use Rattle.matrices.specs.declared.Loaded.{Loaded}
 
 -- the two matrices of a picture
 abbrev pub matricesOf : List ℕ → List ℕ → Matrices

@@ -7,12 +7,13 @@ use Rattle.refusals.specs.declared.Refusal.{Refusal}
 use Rattle.refusals.specs.declared.Refusal.the-variants.{Coefficient}
 use Rattle.tables.specs.Tables.{zigzag}
 use Rattle.coefficient.specs.Scaling.{coefficientOf}
-use Rattle.parsed.specs.Parsed.{Parser, _then_, give, Found, value, stopped}
+use Rattle.symbols.specs.Parsed.{Parser, _then_, give, Found, value, stopped}
+use Rattle.symbols.specs.declared.pair.Pair.{Pair}
+use Rattle.symbols.specs.Pair.{positionOf, afterPair}
 use Rattle.pairs.specs.declared.BlockCoding.{BlockCoding}
-use Rattle.pairs.specs.declared.Pair.{Pair}
 use Rattle.pairs.specs.declared.PairsAnswer.{PairsAnswer}
 use Rattle.pairs.specs.declared.PairsAnswer.the-variants as Pairs
-use Rattle.pairs.specs.Pairs.{positionOf, afterPair, pairsOf}
+use Rattle.pairs.specs.Pairs.{pairsOf}
 
 -- a level at its position in zigzag order
 pub record Placed : Type 0 where

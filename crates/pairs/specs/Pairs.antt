@@ -1,5 +1,5 @@
 -- The pairs of a block (document 01, kind 4, and refusals 6 and 16).
-use mathlib.Core.Bool.{Bool, cond, not, _&&_}
+use mathlib.Core.Bool.{Bool, not, _&&_}
 use mathlib.Core.List.{List, [], _∷_}
 use Prim.Native.Nat.{ℕ, zero, suc, _+_}
 use lib.Dec.{leb}
@@ -7,10 +7,11 @@ use lib.IntN.{ℤ, pos, negsuc}
 use Rattle.integers.specs.Limit.{inRange, eqZ}
 use Rattle.refusals.specs.declared.Refusal.{Refusal}
 use Rattle.refusals.specs.declared.Refusal.the-variants.{Coefficient}
-use Rattle.parsed.specs.Guard.{need_else_then_}
-use Rattle.parsed.specs.Parsed.{Parser, _then_, give, refuse, Found, value, stopped}
+use Rattle.symbols.specs.Guard.{need_else_then_}
+use Rattle.symbols.specs.Parsed.{Parser, _then_, give, refuse, Found, value, stopped}
+use Rattle.symbols.specs.declared.pair.Pair.{Pair}
+use Rattle.symbols.specs.Pair.{lastPosition, afterPair}
 use Rattle.format3.specs.Field.{byte, signedWord}
-use Rattle.pairs.specs.declared.Pair.{Pair}
 use Rattle.pairs.specs.declared.PairAnswer.{PairAnswer}
 use Rattle.pairs.specs.declared.PairAnswer.the-variants as Pair
 
@@ -18,25 +19,14 @@ use Rattle.pairs.specs.declared.PairAnswer.the-variants as Pair
 unfoldable pub legalLevel : ℤ → Bool
 legalLevel level = inRange (negsuc 254) (pos 255) level && not (eqZ level (pos 0))
 
--- "each a run byte and a 2-byte level", not "position past 63": a run of 0 lands at the position next
+-- "each a run byte and a 2-byte level": a run of 0 lands at `next`; a position past the last is refused (16) before the level is read
 unfoldable pub pairOf : ℕ → Parser Pair
 pairOf next =
     byte then λ run.
-    need leb (next + run) 63 else refuse Coefficient then
+    need leb (next + run) lastPosition else refuse Coefficient then
     signedWord then λ level.
     need legalLevel level else refuse Coefficient then
     give (record { run = run; level = level })
-
--- "The first pair lands at its run (intra: 1 plus run)"
-unfoldable pub firstPosition : Bool → ℕ
-firstPosition intra = cond intra 1 0
-
--- where a pair lands, and from where "each later one at run plus 1 further on" counts
-abbrev pub positionOf : ℕ → Pair → ℕ
-positionOf next pair = next + pair .run
-
-abbrev pub afterPair : ℕ → Pair → ℕ
-afterPair next pair = positionOf next pair + 1
 
 -- n pairs, the first of which lands at its run from the position next on
 unfoldable pub pairsOf : ℕ → ℕ → Parser (List Pair)

@@ -5,7 +5,7 @@ ghost use lib.IntN.{pos};
 ghost use Rattle.integers.specs.Bound.{Within};
 ghost use Rattle.tables.specs.Tables.{zigzag};
 ghost use Rattle.coefficient.specs.Scaling.{coefficientOf};
-ghost use Rattle.parsed.specs.Parsed.{Finds};
+ghost use Rattle.symbols.specs.Parsed.{Finds};
 ghost use Rattle.pairs.specs.Pairs.{legalLevel, pairOf, pairFound, pairRefusal};
 ghost use Rattle.pairs.specs.Coefficients.{landingOf, pairsFound, pairsRefusal, Coded};
 use format3::field;
@@ -13,8 +13,8 @@ use format3::field::ByteField;
 use format3::field::Cursor;
 use format3::field::SignedField;
 use refusals::Refusal;
-
-const LAST_POSITION: usize = 63;
+use symbols::pair::LAST_POSITION;
+use symbols::pair::Pair;
 
 const LEAST_LEVEL: i16 = -255;
 
@@ -24,12 +24,6 @@ const GREATEST_LEVEL: i16 = 255;
 pub struct BlockCoding {
     pub intra: bool,
     pub scale: u8,
-}
-
-// How many positions are passed over, and the level behind them.
-pub struct Pair {
-    pub run: u8,
-    pub level: i16,
 }
 
 pub enum PairAnswer {

@@ -4,4 +4,7 @@ pub mod SoundLaws
 pub mod StartLaws
 pub mod ReadLaws
 pub mod WriteLaws
+pub mod SymbolLaws
 pub mod ReaderLaws
+pub mod PictureLaws
+pub mod Alone

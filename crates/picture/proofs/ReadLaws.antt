@@ -7,18 +7,18 @@ use native.Mathlib.Omega.{arith}
 use lib.ListN.{length, drop}
 use Rattle.refusals.specs.declared.Refusal.{Refusal}
 use Rattle.refusals.specs.declared.Refusal.the-variants.{BodyLength}
-use Rattle.parsed.specs.Parsed.{value, stopped, Finds}
-use Rattle.parsed.proofs.Parsed.{all-at, made-of, stopped-before}
-use Rattle.blocks.specs.Blocks.{Block}
+use Rattle.symbols.specs.Parsed.{value, stopped, Finds}
+use Rattle.symbols.specs.Block.{Block}
+use Rattle.symbols.specs.MacroblockType.{isIntra}
+use Rattle.symbols.specs.declared.macroblock.MacroblockSymbols.{MacroblockSymbols}
+use Rattle.symbols.proofs.Parsed.{all-at, made-of, stopped-before}
+use Rattle.matrices.specs.Matrix.{matrixFor}
+use Rattle.matrices.specs.declared.Matrices.{Matrices}
 use Rattle.blocks.specs.Coefficients.{InRange}
 use Rattle.blocks.specs.Stored.{Decoded, decodedOf}
 use Rattle.blocks.specs.declared.dc.DcPasts.{DcPasts}
-use Rattle.matrices.specs.Matrix.{matrixFor}
-use Rattle.matrices.specs.declared.Matrices.{Matrices}
-use Rattle.symbols.specs.MacroblockType.{isIntra}
 use Rattle.macroblock_symbols.specs.Macroblock.{symbolsOf, startingPasts, wholeBlocksOf, macroblockWith, macroblockOf}
 use Rattle.macroblock_symbols.specs.Decoding.{scaleAfter, blockCoding, decodedWith, decodingBlocksOf}
-use Rattle.macroblock_symbols.specs.declared.MacroblockSymbols.{MacroblockSymbols}
 use Rattle.macroblock_symbols.proofs.Laws.Macroblock.{noneCoded, none-then-end, none-then-more, none-through, whole-legal, coefficients-in-range}
 use Rattle.picture_state.specs.Plan.{planOf}
 use Rattle.picture_state.specs.declared.state.PictureState.{PictureState}
@@ -54,7 +54,7 @@ module _ (q : Matrices) (s : PictureState) (m : MacroblockSymbols) (rest : List 
 
   -- what they come to: the plan of their symbols, with their coefficients, which are in range
   pub record BlocksRead (d : Decoded) : Type 0 where
-    pub comes-to : from-blocks ≡ planned s (planOf s (decodedWith m (d .pasts))) (d .coefficients)
+    pub comes-to : from-blocks ≡ planned s (planOf (s .header) (s .next) (s .slice) (decodedWith m (d .pasts))) (d .coefficients)
     pub in-range : InRange (d .coefficients)
 
   pub blocks-read : {d : Decoded} {n : ℕ} → Finds (decodingBlocksOf m scale q starting) rest (value d n) → BlocksRead d

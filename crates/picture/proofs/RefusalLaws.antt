@@ -6,9 +6,12 @@ use lib.Dec.{T}
 use lib.IntN.{ℤ, pos}
 use Rattle.refusals.specs.declared.Refusal.the-variants as R
 use Rattle.refusals.proofs.Laws.{ofRecord}
-use Rattle.parsed.specs.Parsed.{give, given_else_read_}
-use Rattle.parsed.proofs.Guard.{need-all}
-use Rattle.parsed.proofs.Refusals.{OfRecord, legal, refused-by, of-then, of-need, of-given}
+use Rattle.symbols.specs.Parsed.{give, given_else_read_}
+use Rattle.symbols.specs.MacroblockType.{givesScale, givesForward, givesBackward, givesPattern, isIntra}
+use Rattle.symbols.specs.Pair.{firstPosition, afterPair}
+use Rattle.symbols.specs.Pattern.{isCoded}
+use Rattle.symbols.proofs.Guard.{need-all}
+use Rattle.symbols.proofs.Refusals.{OfRecord, legal, refused-by, of-then, of-need, of-given}
 use Rattle.format3.specs.Field.{byte, word, signedByte, signedWord}
 use Rattle.format3.specs.Record.{recordOf}
 use Rattle.format3.specs.declared.record.Record.{Record}
@@ -17,14 +20,13 @@ use Rattle.format3.specs.declared.verdict.Verdict.{Verdict}
 use Rattle.format3.specs.declared.verdict.Verdict.the-variants.{Passed, Refused}
 use Rattle.matrices.specs.Matrix.{verdictOf}
 use Rattle.matrices.specs.declared.Loaded.{Loaded}
-use Rattle.symbols.specs.Slice.{scaleOf, sliceFieldsOf, sliceOf}
-use Rattle.symbols.specs.MacroblockType.{givesScale, givesForward, givesBackward, givesPattern, isIntra}
-use Rattle.symbols.specs.MacroblockHead.{headOf}
-use Rattle.symbols.specs.VectorCodes.{codeOf, codesOf}
-use Rattle.symbols.specs.declared.macroblock_head.HeadContext.{HeadContext}
-use Rattle.pairs.specs.Pairs.{firstPosition, pairOf, afterPair, pairsOf}
-use Rattle.blocks.specs.Blocks.{differenceOf, countOf, levelsOf, blockOf, pastOf, pastsAfter, isCoded, blocksOf}
+use Rattle.pairs.specs.Pairs.{pairOf, pairsOf}
+use Rattle.blocks.specs.Blocks.{differenceOf, countOf, levelsOf, blockOf, pastOf, pastsAfter, blocksOf}
 use Rattle.blocks.specs.declared.dc.DcPasts.{DcPasts}
+use Rattle.macroblock_symbols.specs.Slice.{scaleOf, sliceFieldsOf, sliceOf}
+use Rattle.macroblock_symbols.specs.MacroblockHead.{headOf}
+use Rattle.macroblock_symbols.specs.VectorCodes.{codeOf, codesOf}
+use Rattle.macroblock_symbols.specs.declared.macroblock_head.HeadContext.{HeadContext}
 use Rattle.macroblock_symbols.specs.Vectors.{vectorsOf}
 use Rattle.macroblock_symbols.specs.Macroblock.{patternOf, codedPatternOf, symbolsOf, atEnd, startingPasts, wholeBlocksOf, macroblockOf}
 use Rattle.macroblock_symbols.specs.declared.MacroblockContext.{MacroblockContext}

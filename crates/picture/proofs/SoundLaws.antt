@@ -10,44 +10,46 @@ use borrow.Author.Tests.{ne-eqb}
 use lib.Dec.{T, eqb}
 use lib.ListN.{length}
 use Rattle.integers.proofs.Bound.{within-literal}
-use Rattle.parsed.proofs.Parsed.{all-at}
-use Rattle.format3.proofs.Laws.Record.{Inside, inside}
-use Rattle.format3.specs.Record.{macroblock, recordOf}
+use Rattle.motion.proofs.VectorLaws.{factor-least}
+use Rattle.symbols.specs.Header.{HeaderWithin}
+use Rattle.symbols.specs.Size.{count}
+use Rattle.symbols.specs.declared.header.Header.{Header}
+use Rattle.symbols.specs.declared.vector_codes.VectorCodes.{VectorCodes}
+use Rattle.symbols.specs.Macroblock.{Macroblock}
+use Rattle.symbols.specs.declared.macroblock.MacroblockSymbols.{MacroblockSymbols}
+use Rattle.symbols.proofs.Parsed.{all-at}
+use Rattle.format3.specs.Record.{matrix, slice, macroblock, recordOf}
 use Rattle.format3.specs.Turn.{inTurn, turnAfter}
 use Rattle.format3.specs.declared.record.Record.{Record}
 use Rattle.format3.specs.declared.record.Record.the-variants as Record
 use Rattle.format3.specs.declared.turn.Turn.{Turn}
 use Rattle.format3.specs.declared.turn.Turn.the-variants as Turn
 use Rattle.format3.specs.declared.verdict.Verdict.the-variants.{Passed, Refused}
+use Rattle.format3.proofs.Laws.Record.{Inside, inside}
 use Rattle.matrices.specs.declared.Matrices.{Matrices}
-use Rattle.motion.proofs.VectorLaws.{factor-least}
-use Rattle.picture_header.specs.Header.{HeaderWithin}
-use Rattle.picture_header.specs.Size.{count}
-use Rattle.picture_header.specs.declared.header.Header.{Header}
-use Rattle.symbols.specs.Slice.{legalScale}
-use Rattle.symbols.specs.declared.vector_codes.VectorCodes.{VectorCodes}
 use Rattle.pairs.proofs.Laws.Range.{zeros-between}
 use Rattle.blocks.specs.Blocks.{legalDc}
 use Rattle.blocks.specs.Coefficients.{InRange}
+use Rattle.macroblock_symbols.specs.Slice.{legalScale}
+use Rattle.macroblock_symbols.specs.Decoding.{decoded}
+use Rattle.macroblock_symbols.specs.declared.DecodedMacroblock.{DecodedMacroblock}
 use Rattle.macroblock_symbols.proofs.Laws.Macroblock.{SymbolsLegal, symbols-legal, scale-legal-after, pasts-after-legal, coefficients-in-range, MacroblockLegal}
 use Rattle.macroblock_symbols.proofs.Laws.Vectors.{CodesKnown}
-use Rattle.macroblock_symbols.specs.Macroblock.{Macroblock, startingPasts}
-use Rattle.macroblock_symbols.specs.Decoding.{scaleAfter, macroblockCoefficients, decoded}
-use Rattle.macroblock_symbols.specs.declared.DecodedMacroblock.{DecodedMacroblock}
-use Rattle.macroblock_symbols.specs.declared.MacroblockSymbols.{MacroblockSymbols}
 use Rattle.macroblock.specs.Compensation.{VectorWithin}
 use Rattle.macroblock.specs.Macroblock.{Made, uncodedFrom, InOrder, Each}
 use Rattle.macroblock.proofs.OrderLaws.{order-both, each-both, uncoded-order, uncoded-each}
-use Rattle.picture_state.proofs.PlanLaws.{pasts-within, motion-within, no-motion-within, skip-within, own-forward-used, own-backward-used, skip-forward-used, skip-backward-used}
 use Rattle.picture_state.specs.Plan.{skipMotion, planOf, ownMade, madeBy, Plannable}
 use Rattle.picture_state.specs.Vectors.{ownMotion, nextPasts, CodesWithin}
 use Rattle.picture_state.specs.State.{zeroVector, startState}
 use Rattle.picture_state.specs.declared.state.PictureState.{PictureState}
+use Rattle.picture_state.proofs.PlanLaws.{pasts-within, motion-within, no-motion-within, skip-within, own-forward-used, own-backward-used, skip-forward-used, skip-backward-used}
+use Rattle.picture.specs.Reconstruction.{planFor, coefficientsFor}
 use Rattle.picture.specs.MacroblockRecord.{contextOf, Acted}
 use Rattle.picture.specs.Picture.{isComplete}
 use Rattle.picture.specs.Sound.{BorrowedBy, StateWithin, Planned, PlanLent, Makeable, Given}
-use Rattle.picture.specs.Step.{withMatrix, withSlice, takenAt}
-use Rattle.picture.proofs.RecordLaws.{madeRecord, Ways, taken-all, found-after}
+use Rattle.picture.specs.Step.{withMatrix, withSlice, Taken, takenAt}
+use Rattle.picture.specs.Symbols.{Symbol}
+use Rattle.picture.proofs.RecordLaws.{madeRecord, Way, refuses, matrix-passes, slice-starts, macroblocks-made, taken-way, found-after}
 
 -- ---- a macroblock's symbols that were read can be planned and written
 codes-within : {f : ℕ} {c : VectorCodes} → 1 ≤ f → CodesKnown f c → CodesWithin f c
@@ -75,7 +77,7 @@ module _ (s : PictureState) (m : DecodedMacroblock) (w : StateWithin s) (l : Sym
     near = omega (arith, w .inside, w .header .size .few);
   }
 
-  can-plan : Planned (s .header .size) (planOf s m)
+  can-plan : Planned (s .header .size) (planOf (s .header) (s .next) (s .slice) m)
   unfolding planOf ownMotion
   can-plan = record {
     within = w .header .size;
@@ -85,7 +87,7 @@ module _ (s : PictureState) (m : DecodedMacroblock) (w : StateWithin s) (l : Sym
     own-within = motion-within (s .header) (m .symbols .flags) (nextPasts (s .header) (m .symbols) (s .slice .pasts)) (pasts-within (s .header) m (s .slice) (plannable .slice));
   }
 
-  plan-lent : {forward backward output : List ℕ} → BorrowedBy (s .header) forward backward output → PlanLent (s .header .size) (planOf s m) forward backward output
+  plan-lent : {forward backward output : List ℕ} → BorrowedBy (s .header) forward backward output → PlanLent (s .header .size) (planOf (s .header) (s .next) (s .slice) m) forward backward output
   unfolding planOf ownMotion
   plan-lent lent = record {
     skip-lent = record {
@@ -100,7 +102,7 @@ module _ (s : PictureState) (m : DecodedMacroblock) (w : StateWithin s) (l : Sym
     };
   }
 
-  pub makeable : {forward backward output : List ℕ} → BorrowedBy (s .header) forward backward output → Makeable s (planOf s m) forward backward output
+  pub makeable : {forward backward output : List ℕ} → BorrowedBy (s .header) forward backward output → Makeable s (planOf (s .header) (s .next) (s .slice) m) forward backward output
   unfolding planOf
   makeable lent = record {
     planned = can-plan;
@@ -188,7 +190,7 @@ module _ (q : Matrices) (s : PictureState) (w : StateWithin s) where
     skipped = uncodedFrom (s .next) (m .symbols .increment - 1) (skipMotion (s .header .«coding_type») (s .slice .motion))
 
     abbrev own : List Made
-    own = ownMade (planOf s (decoded (s .slice .dc) m)) (macroblockCoefficients q (scaleAfter (s .slice .scale) (m .symbols)) (startingPasts (s .slice .dc) (m .symbols .increment)) m) ∷ []
+    own = ownMade (planFor (s .header) (s .next) (s .slice) m) (coefficientsFor q (s .slice) m) ∷ []
 
     made-order : InOrder (s .next) (madeRecord q s m .macroblocks) (madeRecord q s m .state .next)
     unfolding planOf madeBy
@@ -201,16 +203,14 @@ module _ (q : Matrices) (s : PictureState) (w : StateWithin s) where
         (uncoded-each (λ n. InRange (n .coefficients)) _ (λ address. record { all = λ block. zeros-between 0 }) (s .next) _)
         (coefficients-in-range q _ _ m (legal .blocks), tt)
 
-  kept-ways : Ways (λ a. a .verdict ≡ Passed → Kept s a) q s
-  kept-ways = record {
-    refuses = λ refusal t e. let z : _≡_ {A = ℕ} 0 1 = cc in absurd (omega arith);
-    matrix-passes = λ kind turn body e. record { within = matrix-within kind turn body; header = refl; order = refl; in-range = tt };
-    slice-starts = λ kind turn scale legal e. record { within = slice-within kind turn scale legal; header = refl; order = refl; in-range = tt };
-    macroblocks-made = λ m legal e. record { within = advanced-within m legal; header = refl; order = made-order m legal; in-range = made-in-range m legal };
-  }
+  pub kept : {symbol : Symbol} {t : Taken} → Way q s symbol t → t .acts .verdict ≡ Passed → Kept s (t .acts)
+  kept (refuses refusal t) e = let z : _≡_ {A = ℕ} 0 1 = cc in absurd (omega arith)
+  kept (matrix-passes turn body) e = record { within = matrix-within matrix turn body; header = refl; order = refl; in-range = tt }
+  kept (slice-starts turn header legal start) e = record { within = slice-within slice turn (header .scale) legal; header = refl; order = refl; in-range = tt }
+  kept (macroblocks-made begun m legal) e = record { within = advanced-within m legal; header = refl; order = made-order m legal; in-range = made-in-range m legal }
 
   pub taken-kept : (file : List ℕ) (at : ℕ) → takenAt file at s q .acts .verdict ≡ Passed → Kept s (takenAt file at s q .acts)
-  taken-kept file at = taken-all (λ a. a .verdict ≡ Passed → Kept s a) q s kept-ways file at
+  taken-kept file at = kept (taken-way file at s q)
 
 -- ---- where it ends: past it, and in the file
 pub record Ends (file : List ℕ) (at end : ℕ) : Type 0 where

@@ -6,20 +6,20 @@ use mathlib.Core.Path.{_≡_, refl, sym, subst}
 use native.Mathlib.Omega.{arith}
 use lib.Dec.{T, eqb, eqb→eq}
 use lib.ListN.{length}
-use Rattle.parsed.proofs.Guard.{need-all}
-use Rattle.picture_header.proofs.Laws.Opening.{begun}
-use Rattle.picture_header.specs.Header.{usesForward, usesBackward, HeaderWithin}
-use Rattle.picture_header.specs.Lengths.{referenceLength, lengthsOf}
-use Rattle.picture_header.specs.Opening.{firstHeader, openedOf}
-use Rattle.picture_header.specs.Size.{bytes}
-use Rattle.picture.specs.Sound.{BorrowedBy}
 use Rattle.refusals.specs.declared.Refusal.{Refusal}
+use Rattle.symbols.specs.Header.{usesForward, usesBackward, HeaderWithin}
+use Rattle.symbols.specs.Size.{bytes}
+use Rattle.symbols.specs.declared.size.PictureSize.{PictureSize}
+use Rattle.symbols.specs.declared.header.Header.{Header}
+use Rattle.symbols.proofs.Guard.{need-all}
 use Rattle.format3.specs.declared.verdict.Verdict.{Verdict}
 use Rattle.format3.specs.declared.verdict.Verdict.the-variants as Verdict
-use Rattle.picture_header.specs.declared.size.PictureSize.{PictureSize}
-use Rattle.picture_header.specs.declared.header.Header.{Header}
+use Rattle.picture_header.specs.Lengths.{referenceLength, lengthsOf}
+use Rattle.picture_header.specs.Opening.{firstHeader, openedOf}
 use Rattle.picture_header.specs.declared.opening.Opened.{Opened}
 use Rattle.picture_header.specs.declared.opening.Opened.the-variants as Opened
+use Rattle.picture_header.proofs.Laws.Opening.{begun}
+use Rattle.picture.specs.Sound.{BorrowedBy}
 
 -- ---- the lengths, where they passed
 record Lengths (h : Header) (forward backward output : List ℕ) (v : Verdict) : Type 0 where

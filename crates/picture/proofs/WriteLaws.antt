@@ -5,13 +5,13 @@ use Prim.Native.Nat.{ℕ}
 use native.Mathlib.Omega.{arith}
 use lib.IntN.{ℤ}
 use Rattle.refusals.specs.declared.Refusal.{Refusal}
+use Rattle.symbols.specs.declared.size.PictureSize.{PictureSize}
+use Rattle.symbols.specs.MacroblockType.{isIntra}
+use Rattle.symbols.specs.declared.macroblock.MacroblockSymbols.{MacroblockSymbols}
 use Rattle.format3.specs.declared.verdict.Verdict.{Verdict}
 use Rattle.format3.specs.declared.verdict.Verdict.the-variants.{Passed, Refused}
-use Rattle.picture_header.specs.declared.size.PictureSize.{PictureSize}
 use Rattle.blocks.specs.declared.dc.DcPasts.{DcPasts}
-use Rattle.symbols.specs.MacroblockType.{isIntra}
 use Rattle.macroblock_symbols.specs.Decoding.{pastsLeft, decodedWith}
-use Rattle.macroblock_symbols.specs.declared.MacroblockSymbols.{MacroblockSymbols}
 use Rattle.macroblock.specs.Compensation.{References}
 use Rattle.macroblock.specs.Fit.{fitOf, firstMisfit, orElse}
 use Rattle.macroblock.specs.Macroblock.{uncoded, uncodedFrom, withBlocks, withMacroblock, withMacroblocks}
@@ -90,6 +90,6 @@ pub same-fit : (size : PictureSize) (p : Plan) (dc : DcPasts) → recordFit size
 unfolding recordFit
 same-fit size p dc = refl
 
-pub later-pasts : (s : PictureState) (m : MacroblockSymbols) (running : DcPasts) → withDc (startingPlan s m) (pastsLeft (isIntra (m .flags)) running) ≡ planOf s (decodedWith m running)
+pub later-pasts : (s : PictureState) (m : MacroblockSymbols) (running : DcPasts) → withDc (startingPlan s m) (pastsLeft (isIntra (m .flags)) running) ≡ planOf (s .header) (s .next) (s .slice) (decodedWith m running)
 unfolding planOf
 later-pasts s m running = refl

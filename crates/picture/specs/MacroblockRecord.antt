@@ -5,26 +5,27 @@ use lib.Dec.{eqb}
 use lib.IntN.{ℤ}
 use Rattle.refusals.specs.declared.Refusal.{Refusal}
 use Rattle.refusals.specs.declared.Refusal.the-variants.{VectorOutside}
-use Rattle.parsed.specs.Parsed.{Parsed, parsed, refused}
+use Rattle.motion.specs.Vector.{factorOf}
+use Rattle.symbols.specs.Parsed.{Parsed, parsed, refused}
+use Rattle.symbols.specs.Size.{count}
+use Rattle.symbols.specs.declared.size.PictureSize.{PictureSize}
+use Rattle.symbols.specs.Macroblock.{Macroblock}
 use Rattle.format3.specs.Record.{macroblock}
 use Rattle.format3.specs.Turn.{turnAfter}
 use Rattle.format3.specs.declared.verdict.Verdict.{Verdict}
 use Rattle.format3.specs.declared.verdict.Verdict.the-variants.{Passed, Refused}
-use Rattle.motion.specs.Vector.{factorOf}
 use Rattle.matrices.specs.declared.Matrices.{Matrices}
-use Rattle.picture_header.specs.Size.{count}
-use Rattle.picture_header.specs.declared.size.PictureSize.{PictureSize}
-use Rattle.macroblock_symbols.specs.Macroblock.{Macroblock, startingPasts, macroblockOf}
-use Rattle.macroblock_symbols.specs.Decoding.{scaleAfter, macroblockCoefficients, decoded}
+use Rattle.macroblock_symbols.specs.Macroblock.{macroblockOf}
 use Rattle.macroblock_symbols.specs.declared.MacroblockContext.{MacroblockContext}
 use Rattle.macroblock.specs.Compensation.{References}
 use Rattle.macroblock.specs.Fit.{fitOf, firstMisfit, orElse}
 use Rattle.macroblock.specs.Macroblock.{Made, withMacroblocks}
 use Rattle.macroblock.specs.declared.fit.Fit.{Fit}
 use Rattle.macroblock.specs.declared.fit.Fit.the-variants.{Fits, Forward, Backward}
-use Rattle.picture_state.specs.Plan.{planOf, madeBy}
+use Rattle.picture_state.specs.Plan.{madeBy}
 use Rattle.picture_state.specs.declared.state.PictureState.{PictureState}
 use Rattle.picture_state.specs.declared.plan.Plan.{Plan}
+use Rattle.picture.specs.Reconstruction.{planFor, coefficientsFor}
 use Rattle.picture.specs.declared.macroblock_record.Outcome.{Outcome}
 
 -- what a macroblock record is read against
@@ -72,7 +73,7 @@ advanced s p = record {
   slice = p .slice;
 }
 
--- all its macroblocks are made, where they fit
+-- if every macroblock of the record fits, all are made; else the record is refused and makes none
 unfoldable pub planned : PictureState → Plan → List (List ℤ) → Acted
 planned s p coefficients = go (fitVerdict (recordFit (s .header .size) p))
   where
@@ -80,11 +81,9 @@ planned s p coefficients = go (fitVerdict (recordFit (s .header .size) p))
     go Passed = record { verdict = Passed; state = advanced s p; macroblocks = madeBy p coefficients }
     go (Refused refusal) = refusedRecord refusal s
 
--- what the symbols of a macroblock come to: its coefficients, with the matrices, the scale and the pasts that hold for it, and its plan
+-- what a macroblock's symbols do: its vectors are tested for their fit (18), then its macroblocks are made
 unfoldable pub reconstructed : Matrices → PictureState → Macroblock → Acted
-reconstructed q s m =
-    planned s (planOf s (decoded (s .slice .dc) m))
-    (macroblockCoefficients q (scaleAfter (s .slice .scale) (m .symbols)) (startingPasts (s .slice .dc) (m .symbols .increment)) m)
+reconstructed q s m = planned s (planFor (s .header) (s .next) (s .slice) m) (coefficientsFor q (s .slice) m)
 
 abbrev pub reconstructedFrom : Matrices → PictureState → Parsed Macroblock → Acted
 reconstructedFrom q s (parsed m rest) = reconstructed q s m

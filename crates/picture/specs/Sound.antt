@@ -5,17 +5,17 @@ use mathlib.Core.Path.{_≡_}
 use Prim.Native.Nat.{ℕ, _+_, _≤_, _<_}
 use lib.Dec.{eqb}
 use lib.ListN.{length}
-use Rattle.parsed.specs.Parsed.{parsed}
-use Rattle.picture_header.specs.Header.{usesForward, usesBackward, HeaderWithin}
-use Rattle.picture_header.specs.Size.{count, bytes, SizeWithin}
-use Rattle.picture_header.specs.declared.header.Header.{Header}
-use Rattle.picture_header.specs.declared.size.PictureSize.{PictureSize}
+use Rattle.symbols.specs.Parsed.{parsed}
+use Rattle.symbols.specs.Header.{usesForward, usesBackward, HeaderWithin}
+use Rattle.symbols.specs.Size.{count, bytes, SizeWithin}
+use Rattle.symbols.specs.declared.header.Header.{Header}
+use Rattle.symbols.specs.declared.size.PictureSize.{PictureSize}
+use Rattle.symbols.specs.declared.macroblock.MacroblockSymbols.{MacroblockSymbols}
+use Rattle.blocks.specs.Blocks.{LegalPasts}
+use Rattle.macroblock_symbols.specs.Slice.{legalScale}
+use Rattle.macroblock_symbols.specs.Macroblock.{symbolsOf, resetPasts}
 use Rattle.macroblock.specs.Compensation.{MotionWithin}
 use Rattle.macroblock.specs.Macroblock.{Lent}
-use Rattle.blocks.specs.Blocks.{LegalPasts}
-use Rattle.symbols.specs.Slice.{legalScale}
-use Rattle.macroblock_symbols.specs.Macroblock.{symbolsOf, resetPasts}
-use Rattle.macroblock_symbols.specs.declared.MacroblockSymbols.{MacroblockSymbols}
 use Rattle.picture_state.specs.Vectors.{PastsWithin}
 use Rattle.picture_state.specs.Plan.{planOf}
 use Rattle.picture_state.specs.declared.state.PictureState.{PictureState}
@@ -81,4 +81,4 @@ pub record Given (s : PictureState) (m : MacroblockSymbols) : Type 0 where
 
 -- what such symbols come to, with the DC pasts that a macroblock leaves which is not intra
 abbrev pub startingPlan : PictureState → MacroblockSymbols → Plan
-startingPlan s m = planOf s (record { symbols = m; dc = resetPasts })
+startingPlan s m = planOf (s .header) (s .next) (s .slice) (record { symbols = m; dc = resetPasts })

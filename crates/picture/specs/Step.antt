@@ -6,8 +6,9 @@ use lib.Dec.{eqb}
 use lib.ListN.{take, drop}
 use Rattle.refusals.specs.declared.Refusal.{Refusal}
 use Rattle.refusals.specs.declared.Refusal.the-variants.{RecordCut, OutOfTurn, SliceStart}
-use Rattle.parsed.specs.Guard.{need_else_then_}
-use Rattle.parsed.specs.Parsed.{Parsed, parsed, refused}
+use Rattle.symbols.specs.Guard.{need_else_then_}
+use Rattle.symbols.specs.Parsed.{Parsed, parsed, refused}
+use Rattle.symbols.specs.declared.slice.SliceHeader.{SliceHeader}
 use Rattle.format3.specs.Record.{recordOf, matrix, slice}
 use Rattle.format3.specs.Turn.{inTurn, turnAfter}
 use Rattle.format3.specs.declared.record.Record.{Record}
@@ -16,11 +17,10 @@ use Rattle.format3.specs.declared.verdict.Verdict.{Verdict}
 use Rattle.format3.specs.declared.verdict.Verdict.the-variants.{Passed, Refused}
 use Rattle.matrices.specs.Matrix.{verdictOf, loadedWith, nowLoaded}
 use Rattle.matrices.specs.declared.Matrices.{Matrices}
-use Rattle.symbols.specs.Slice.{sliceOf}
-use Rattle.symbols.specs.declared.slice.Slice.{Slice}
+use Rattle.macroblock_symbols.specs.Slice.{sliceOf}
 use Rattle.picture_state.specs.State.{resetSlice}
-use Rattle.picture.specs.MacroblockRecord.{Acted, refusedRecord, macroblockActed}
 use Rattle.picture_state.specs.declared.state.PictureState.{PictureState}
+use Rattle.picture.specs.MacroblockRecord.{Acted, refusedRecord, macroblockActed}
 
 -- a record that makes no macroblock and moves the state on
 abbrev pub passedRecord : PictureState → Acted
@@ -56,12 +56,12 @@ withSlice s scale = record {
 }
 
 -- "11 slice start not the next address"
-unfoldable pub sliceStarted : PictureState → Slice → Acted
+unfoldable pub sliceStarted : PictureState → SliceHeader → Acted
 sliceStarted s l =
     need eqb (l .start) (s .next) else refusedRecord SliceStart s then
     passedRecord (withSlice s (l .scale))
 
-abbrev pub sliceStartedFrom : PictureState → Parsed Slice → Acted
+abbrev pub sliceStartedFrom : PictureState → Parsed SliceHeader → Acted
 sliceStartedFrom s (parsed l rest) = sliceStarted s l
 sliceStartedFrom s (refused refusal) = refusedRecord refusal s
 

@@ -2,9 +2,9 @@
 ghost use mathlib.Core.Path.{_≡_};
 ghost use mathlib.Core.List.{[]};
 ghost use Rattle.transform.specs.Transform.{inverseTransform};
+ghost use Rattle.matrices.specs.Matrix.{matricesOf};
 ghost use Rattle.blocks.specs.Coefficients.{InRange};
 ghost use Rattle.blocks.specs.Stored.{sixBlocks};
-ghost use Rattle.matrices.specs.Matrix.{matricesOf};
 ghost use Rattle.macroblock_symbols.specs.Macroblock.{macroblockWith};
 ghost use Rattle.macroblock.specs.Compensation.{references};
 ghost use Rattle.macroblock.specs.Macroblock.{uncodedFrom, withMacroblocks};
@@ -17,16 +17,16 @@ use format3::verdict::Verdict;
 use macroblock::fit::Fit;
 use macroblock_symbols::DecodedMacroblock;
 use macroblock_symbols::MacroblockContext;
-use macroblock_symbols::MacroblockSymbols;
 use macroblock_symbols::SymbolsAnswer;
-use picture_header::size::PictureSize;
+use macroblock_symbols::macroblock_head::HeadContext;
 use picture_state::plan;
 use picture_state::plan::Plan;
 use picture_state::state::PictureState;
 use refusals::Refusal;
-use symbols::macroblock_head::HeadContext;
+use symbols::macroblock::MacroblockSymbols;
 use symbols::macroblock_type;
 use symbols::macroblock_type::INTRA;
+use symbols::size::PictureSize;
 
 // What a record comes to: the verdict, and the state after it.
 pub struct Outcome {

@@ -3,10 +3,11 @@ ghost use mathlib.Core.Path.{_≡_};
 ghost use Prim.Native.Nat.{_≤_};
 ghost use lib.ListN.{length};
 ghost use Rattle.transform.specs.Transform.{inverseTransform};
+ghost use Rattle.symbols.specs.Header.{HeaderWithin};
 ghost use Rattle.macroblock.specs.Compensation.{references};
-ghost use Rattle.macroblock.specs.Macroblock.{withMacroblocks};
-ghost use Rattle.picture.specs.Picture.{answerOf, isComplete, refusedAt, endAnswer, recordsOf, pictureOf};
-ghost use Rattle.picture.specs.Sound.{Sound};
+ghost use Rattle.picture.specs.Reconstruction.{reconstruction};
+ghost use Rattle.picture.specs.Picture.{answerOf, isComplete, refusedAt, endAnswer, recordsOf, symbolsOf, pictureOf};
+ghost use Rattle.picture.specs.Sound.{BorrowedBy};
 use crate::records;
 use format3::record::MATRIX;
 use format3::record::Record;
@@ -17,6 +18,7 @@ use picture_header::opening::Opened;
 use picture_state::state;
 use picture_state::state::PictureState;
 use refusals::Refusal;
+use symbols::header::Header;
 
 // The answer: 0 or a refusal's number, its place in the file, and the count of macroblocks written.
 pub struct Answer {
@@ -70,21 +72,21 @@ fn refused_at(refusal: Refusal, place: usize, made: usize) -> Answer
     }
 }
 
-// The records from an offset on.
+// The records behind a header.
 fn read_records(
     file: &[u8],
     start: usize,
-    first: PictureState,
+    header: Header,
     forward: &[u8],
     backward: &[u8],
     output: &mut [u8],
 ) -> Answer
-    requires { ⌜ Sound first (now forward) (now backward) (now output) × (start ≤ length (now file)) ⌝ }
-    ensures { λ r. ⌜ r ≡ recordsOf (now (file .entry)) start first .answer ⌝ }
-    ensures { λ _. ⌜ now (output .exit) ≡ withMacroblocks inverseTransform (references (now (forward .entry)) (now (backward .entry))) (first .header .size) (recordsOf (now (file .entry)) start first .macroblocks) (now (output .entry)) ⌝ }
+    requires { ⌜ HeaderWithin header × BorrowedBy header (now forward) (now backward) (now output) × (start ≤ length (now file)) ⌝ }
+    ensures { λ r. ⌜ r ≡ recordsOf (now (file .entry)) header start .answer ⌝ }
+    ensures { λ _. ⌜ now (output .exit) ≡ reconstruction inverseTransform (references (now (forward .entry)) (now (backward .entry))) header (symbolsOf (now (file .entry)) header start) (now (output .entry)) ⌝ }
 {
     let mut at = start;
-    let mut picture = first;
+    let mut picture = state::start_state(header);
     let mut matrices = matrices::default_matrices();
     while at < file.len() {
         let found = format3::record::record_at(file, at);
@@ -129,8 +131,7 @@ pub fn reconstruct(file: &[u8], forward: &[u8], backward: &[u8], output: &mut [u
     match opening::open(file, output.len(), forward.len(), backward.len()) {
         Opened::Refused(refusal, place) => refused_at(refusal, place, 0),
         Opened::Opened(header, end) => {
-            let first = state::start_state(header);
-            read_records(file, end, first, forward, backward, output)
+            read_records(file, end, header, forward, backward, output)
         }
     }
 }

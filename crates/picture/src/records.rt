@@ -12,11 +12,11 @@ use format3::record::MATRIX;
 use format3::record::Record;
 use format3::record::SLICE;
 use format3::verdict::Verdict;
+use macroblock_symbols::slice::SliceAnswer;
 use picture_state::slice;
 use picture_state::state::PictureState;
 use refusals::Refusal;
-use symbols::slice::Slice;
-use symbols::slice::SliceAnswer;
+use symbols::slice::SliceHeader;
 
 // The refusal of a record that is not found.
 pub fn record_refusal(found: Record) -> Refusal
@@ -72,7 +72,7 @@ fn act_matrix(picture: PictureState, body: &[u8]) -> Outcome
 }
 
 // A slice that starts: at the next address (11).
-fn start_slice(picture: PictureState, start: Slice) -> Outcome
+fn start_slice(picture: PictureState, start: SliceHeader) -> Outcome
     ensures { λ r. ⌜ r ≡ outcomeOf (sliceStarted picture start) ⌝ }
 {
     if start.start as usize != picture.next {
@@ -100,7 +100,7 @@ fn start_slice(picture: PictureState, start: Slice) -> Outcome
 fn act_slice(picture: PictureState, body: &[u8]) -> Outcome
     ensures { λ r. ⌜ r ≡ outcomeOf (sliceActed picture (now (body .entry))) ⌝ }
 {
-    match symbols::slice::read_slice(body) {
+    match macroblock_symbols::slice::read_slice(body) {
         SliceAnswer::Refused(refusal) => macroblock_record::refused_record(picture, refusal),
         SliceAnswer::Legal(start) => start_slice(picture, start),
     }

@@ -1,64 +1,14 @@
--- The header of a picture, and which are legal (document 01, kind 1, and refusals 6 and 8).
-use mathlib.Core.Path.{_≡_}
-use mathlib.Core.Bool.{Bool, true, false, _&&_}
+-- A header's record (document 01, kind 1, and refusals 6 and 8).
 use mathlib.Core.List.{List}
-use Prim.Native.Nat.{ℕ, _≤_}
-use lib.Dec.{leb, eqb}
+use Prim.Native.Nat.{ℕ}
+use lib.Dec.{eqb}
 use lib.ListN.{length, getD}
 use Rattle.refusals.specs.declared.Refusal.the-variants as Refusal
-use Rattle.picture_header.specs.declared.header.HeaderFields.{HeaderFields}
-use Rattle.picture_header.specs.declared.header.VectorCoding.{VectorCoding}
-use Rattle.picture_header.specs.declared.header.Header.{Header}
-use Rattle.picture_header.specs.declared.header.HeaderAnswer.{HeaderAnswer}
-use Rattle.picture_header.specs.declared.header.HeaderAnswer.the-variants.{Legal, Refused}
-use Rattle.parsed.specs.Guard.{need_else_then_}
-use Rattle.picture_header.specs.Size.{legalSize, SizeWithin}
-
--- "type (1 I, 2 P, 3 B)"
-abbrev pub typeI : ℕ
-typeI = 1
-
-abbrev pub typeP : ℕ
-typeP = 2
-
-abbrev pub typeB : ℕ
-typeB = 3
-
--- "where the type uses that direction (P forward, B both)"
-abbrev pub usesForward : ℕ → Bool
-usesForward type = leb typeP type
-
-abbrev pub usesBackward : ℕ → Bool
-usesBackward type = leb typeB type
-
--- "full-pel forward flag (0 or 1)"; "An f_code is 1..7 where the type uses that direction (P forward, B both); where it doesn't, flag and f_code are 0"
-abbrev pub legalCoding : Bool → ℕ → ℕ → Bool
-legalCoding true flag code = leb flag 1 && leb 1 code && leb code 7
-legalCoding false flag code = eqb flag 0 && eqb code 0
-
-unfoldable pub legalCodings : HeaderFields → Bool
-legalCodings f =
-    leb typeI (f .«coding_type») && leb (f .«coding_type») typeB
-    && legalCoding (usesForward (f .«coding_type»)) (f .«full_pel_forward») (f .«forward_f_code»)
-    && legalCoding (usesBackward (f .«coding_type»)) (f .«full_pel_backward») (f .«backward_f_code»)
-
--- the legality of a header, over its numbers
-unfoldable pub legalHeader : HeaderFields → Bool
-legalHeader f = legalSize (f .width) (f .height) && legalCodings f
-
-abbrev pub codingOf : ℕ → ℕ → VectorCoding
-codingOf flag code = record { «full_pel» = eqb flag 1; «f_code» = code }
-
-abbrev pub headerValue : HeaderFields → Header
-headerValue f = record {
-  size = record { width = f .width; height = f .height };
-  «coding_type» = f .«coding_type»;
-  forward = codingOf (f .«full_pel_forward») (f .«forward_f_code»);
-  backward = codingOf (f .«full_pel_backward») (f .«backward_f_code»);
-}
-
-unfoldable pub headerWith : HeaderFields → HeaderAnswer
-headerWith f = need legalHeader f else Refused Refusal.Header then Legal (headerValue f)
+use Rattle.symbols.specs.declared.header.HeaderFields.{HeaderFields}
+use Rattle.symbols.specs.declared.header.HeaderAnswer.{HeaderAnswer}
+use Rattle.symbols.specs.declared.header.HeaderAnswer.the-variants.{Refused}
+use Rattle.symbols.specs.Guard.{need_else_then_}
+use Rattle.symbols.specs.Header.{headerWith}
 
 -- the fields of a body, a byte each, in this order
 abbrev pub fieldsOf : List ℕ → HeaderFields
@@ -77,15 +27,3 @@ unfoldable pub headerOf : List ℕ → HeaderAnswer
 headerOf body =
     need eqb (length body) 7 else Refused Refusal.BodyLength then
     headerWith (fieldsOf body)
-
--- what holds of a header that was read
-pub record CodingWithin (used : Bool) (c : VectorCoding) : Type 0 where
-  pub least : used ≡ true → 1 ≤ c .«f_code»
-  pub most : c .«f_code» ≤ 7
-
-pub record HeaderWithin (h : Header) : Type 0 where
-  pub size : SizeWithin 396 (h .size)
-  pub first-type : typeI ≤ h .«coding_type»
-  pub last-type : h .«coding_type» ≤ typeB
-  pub forward : CodingWithin (usesForward (h .«coding_type»)) (h .forward)
-  pub backward : CodingWithin (usesBackward (h .«coding_type»)) (h .backward)

@@ -3,13 +3,13 @@ use mathlib.Core.Bool.{Bool, true, false}
 use Prim.Native.Nat.{ℕ}
 use lib.Dec.{eqb}
 use Rattle.refusals.specs.declared.Refusal.the-variants.{OutputLength, ForwardLength, BackwardLength}
-use Rattle.picture_header.specs.declared.size.PictureSize.{PictureSize}
-use Rattle.picture_header.specs.declared.header.Header.{Header}
+use Rattle.symbols.specs.declared.size.PictureSize.{PictureSize}
+use Rattle.symbols.specs.declared.header.Header.{Header}
+use Rattle.symbols.specs.Guard.{need_else_then_}
+use Rattle.symbols.specs.Header.{usesForward, usesBackward}
+use Rattle.symbols.specs.Size.{bytes}
 use Rattle.format3.specs.declared.verdict.Verdict.{Verdict}
 use Rattle.format3.specs.declared.verdict.Verdict.the-variants.{Passed, Refused}
-use Rattle.parsed.specs.Guard.{need_else_then_}
-use Rattle.picture_header.specs.Header.{usesForward, usesBackward}
-use Rattle.picture_header.specs.Size.{bytes}
 
 -- "a used reference too, an unused one is empty"
 abbrev pub referenceLength : Bool → PictureSize → ℕ

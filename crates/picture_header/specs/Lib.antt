@@ -1,4 +1,3 @@
-pub mod Size
 pub mod Header
 pub mod Lengths
 pub mod Opening

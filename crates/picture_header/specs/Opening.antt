@@ -4,7 +4,10 @@ use Prim.Native.Nat.{ℕ, _+_}
 use lib.Dec.{eqb, leb}
 use lib.ListN.{length, getD, take, drop}
 use Rattle.refusals.specs.declared.Refusal.the-variants.{FileEmpty, Version, OutOfTurn, FileEnds}
-use Rattle.parsed.specs.Guard.{need_else_then_}
+use Rattle.symbols.specs.Guard.{need_else_then_}
+use Rattle.symbols.specs.declared.header.Header.{Header}
+use Rattle.symbols.specs.declared.header.HeaderAnswer.{HeaderAnswer}
+use Rattle.symbols.specs.declared.header.HeaderAnswer.the-variants as Header
 use Rattle.format3.specs.Record.{recordOf}
 use Rattle.format3.specs.Turn.{inTurn}
 use Rattle.format3.specs.declared.record.Record.{Record}
@@ -14,9 +17,6 @@ use Rattle.format3.specs.declared.verdict.Verdict.{Verdict}
 use Rattle.format3.specs.declared.verdict.Verdict.the-variants.{Passed, Refused}
 use Rattle.picture_header.specs.Header.{headerOf}
 use Rattle.picture_header.specs.Lengths.{lengthsOf}
-use Rattle.picture_header.specs.declared.header.Header.{Header}
-use Rattle.picture_header.specs.declared.header.HeaderAnswer.{HeaderAnswer}
-use Rattle.picture_header.specs.declared.header.HeaderAnswer.the-variants as Header
 use Rattle.picture_header.specs.declared.opening.Opened.{Opened}
 use Rattle.picture_header.specs.declared.opening.Opened.the-variants as Opened
 

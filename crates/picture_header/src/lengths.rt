@@ -1,11 +1,12 @@
 // The lengths of what the caller lends.
 ghost use mathlib.Core.Path.{_≡_};
-ghost use Rattle.picture_header.specs.Size.{SizeWithin};
+ghost use Rattle.symbols.specs.Size.{SizeWithin};
 ghost use Rattle.picture_header.specs.Lengths.{referenceLength, lengthsOf};
-use crate::header::Header;
-use crate::size::PictureSize;
 use format3::verdict::Verdict;
 use refusals::Refusal;
+use symbols::header;
+use symbols::header::Header;
+use symbols::size::PictureSize;
 
 // The length of a reference: the picture's where it is used, else 0.
 fn reference_length(used: bool, size: PictureSize) -> usize
@@ -24,10 +25,10 @@ pub fn lent_lengths(header: Header, output: usize, forward: usize, backward: usi
     if output != size.bytes() {
         return Verdict::Refused(Refusal::OutputLength);
     }
-    if forward != reference_length(crate::header::uses_forward(header.coding_type), size) {
+    if forward != reference_length(header::uses_forward(header.coding_type), size) {
         return Verdict::Refused(Refusal::ForwardLength);
     }
-    if backward != reference_length(crate::header::uses_backward(header.coding_type), size) {
+    if backward != reference_length(header::uses_backward(header.coding_type), size) {
         return Verdict::Refused(Refusal::BackwardLength);
     }
     Verdict::Passed

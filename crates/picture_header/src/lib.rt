@@ -2,4 +2,3 @@
 pub mod header;
 pub mod lengths;
 pub mod opening;
-pub mod size;

@@ -1,12 +1,12 @@
 // A file's start: its version, its first record, which is the header, and the lengths of what the caller lends.
 ghost use mathlib.Core.Path.{_≡_};
 ghost use Rattle.picture_header.specs.Opening.{firstHeader, openedOf};
-use crate::header::Header;
-use crate::header::HeaderAnswer;
 use format3::record::Record;
 use format3::turn::Turn;
 use format3::verdict::Verdict;
 use refusals::Refusal;
+use symbols::header::Header;
+use symbols::header::HeaderAnswer;
 
 const VERSION: u8 = 3;
 

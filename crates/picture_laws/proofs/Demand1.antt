@@ -2,25 +2,28 @@
 use mathlib.Core.Bool.{Bool, true, false, cond}
 use mathlib.Core.List.{List, [], _∷_}
 use mathlib.Core.Path.{_≡_, refl, sym, ap, _∙_, subst}
-use Prim.Native.Nat.{ℕ, _≤_, _<_}
+use Prim.Native.Nat.{ℕ, _≤_}
 use native.Mathlib.Omega.{arith}
 use lib.IntN.{ℤ}
-use lib.ListN.{length}
+use lib.ListN.{length, getD}
 use Rattle.refusals.specs.Refusal.{accepted, numberOf}
 use Rattle.refusals.specs.declared.Refusal.{Refusal}
 use Rattle.refusals.specs.declared.Refusal.the-variants.{FileEnds}
+use Rattle.symbols.specs.Size.{count}
+use Rattle.symbols.specs.declared.header.Header.{Header}
 use Rattle.format3.specs.declared.verdict.Verdict.the-variants.{Refused}
-use Rattle.blocks.specs.Coefficients.{InRange}
-use Rattle.picture_header.specs.Size.{count}
-use Rattle.picture_header.specs.declared.header.Header.{Header}
 use Rattle.picture_header.specs.declared.opening.Opened.{Opened}
 use Rattle.picture_header.specs.declared.opening.Opened.the-variants as Opened
+use Rattle.blocks.specs.Coefficients.{InRange}
+use Rattle.macroblock.specs.Byte.{byteAmong}
 use Rattle.macroblock.specs.Compensation.{references}
 use Rattle.macroblock.specs.Macroblock.{Made, withMacroblocks, InOrder, Each}
-use Rattle.macroblock.proofs.ByteLaws.{macroblocks-length, macroblocks-byte}
-use Rattle.picture.specs.Picture.{Picture, isComplete, refusedAt, withOutput, pictureOf}
-use Rattle.picture.proofs.RecordLaws.{Ways, taken-all}
+use Rattle.picture.specs.Picture.{Picture, isComplete, withOutput, pictureOf}
+use Rattle.picture.specs.Step.{Taken}
+use Rattle.picture.specs.Symbols.{Symbol}
+use Rattle.picture.proofs.RecordLaws.{Way, refuses, matrix-passes, slice-starts, macroblocks-made, taken-way}
 use Rattle.picture.proofs.RefusalLaws.{VerdictOf}
+use Rattle.picture.proofs.PictureLaws.{unopened, opened-is, opened-byte, opened-long}
 use Rattle.picture.proofs.StartLaws.{Started, opened}
 use Rattle.picture_laws.specs.Applies.{Reached, verdictAt, Passing, opening, to-start, to-record, to-end}
 use Rattle.picture_laws.specs.Demand1.{MeetsDemand3, Holds, Held, RefusedHolds, OpenedHolds, KeepsLength, isListed, NumberListed}
@@ -29,10 +32,13 @@ use Rattle.picture_laws.proofs.PassingLaws.{Stands, stands, Stop, at-re
 
 -- a record is refused by a listed refusal that is not 7
 pub record-other : (file : List ℕ) (r : Reached) {refusal : Refusal} → verdictAt file r ≡ Refused refusal → Other refusal
-record-other file r {refusal} v = of-record refusal (subst VerdictOf v (taken-all (λ a. VerdictOf (a .verdict)) (r .matrices) (r .state) ways file (r .offset)))
+record-other file r {refusal} v = of-record refusal (subst VerdictOf v (go (taken-way file (r .offset) (r .state) (r .matrices))))
   where
-    ways : Ways (λ a. VerdictOf (a .verdict)) (r .matrices) (r .state)
-    ways = record { refuses = λ other t. t; matrix-passes = λ kind turn a. tt; slice-starts = λ kind turn scale legal. tt; macroblocks-made = λ m legal. tt }
+    go : {symbol : Symbol} {t : Taken} → Way (r .matrices) (r .state) symbol t → VerdictOf (t .acts .verdict)
+    go (refuses other t) = t
+    go (matrix-passes turn body) = tt
+    go (slice-starts turn header legal start) = tt
+    go (macroblocks-made begun m legal) = tt
 
 -- coefficients in range meet demand 3's hypothesis
 meet : (macroblocks : List Made) → Each (λ m. InRange (m .coefficients)) macroblocks → Each MeetsDemand3 macroblocks
@@ -42,10 +48,6 @@ meet (m ∷ macroblocks) p = ((λ block coded. record { each = λ k low. p .0 .a
 module _ (transform : List ℤ → ℕ → ℤ) (file forward backward output : List ℕ) where
   abbrev picture : Picture
   picture = pictureOf transform file forward backward output
-
-  pub unopened : {refusal : Refusal} {place : ℕ} → opening file forward backward output ≡ Opened.Refused refusal place → picture ≡ withOutput (refusedAt refusal place 0) output
-  unfolding pictureOf
-  unopened e = rw e
 
   -- ---- an opened picture, at the record that is refused or at the file's end
   module _ {h : Header} {end : ℕ} (e : opening file forward backward output ≡ Opened.Opened h end) where
@@ -60,8 +62,10 @@ module _ (transform : List ℤ → ℕ → ℤ) (file forward backward output : 
       made-few = let s = stands-at passing in subst (λ (g : Header). r .state .next ≤ count (g .size)) (s .header) (s .within .inside)
 
       pub stopped-is : (s : Stop file h end r) → picture ≡ withOutput (answerAt file h end s) (withMacroblocks transform (references forward backward) (h .size) (r .macroblocks) output)
-      unfolding pictureOf
-      stopped-is s = rw (e, stops file h end passing s)
+      stopped-is s =
+          let ends = stops file h end passing s in
+          opened-is transform file forward backward output e
+          ∙ (λ i. withOutput (ends .answer i) (withMacroblocks transform (references forward backward) (h .size) (ends .macroblocks i) output))
 
       stopped-made : Stop file h end r → picture .made ≡ r .state .next
       stopped-made s = ap (λ (p : Picture). p .made) (stopped-is s) ∙ by-stop s ∙ stands-at passing .within .counted
@@ -75,8 +79,8 @@ module _ (transform : List ℤ → ℕ → ℤ) (file forward backward output : 
           let there = stands-at passing in
           record {
             order = subst (InOrder 0 (r .macroblocks)) (sym (stopped-made s)) (there .order);
-            bytes = λ i low. rw (stopped-is s) (macroblocks-byte transform (references forward backward) (h .size) (start .header .size) 0 (r .state .next) (r .macroblocks) output i
-                (there .order) made-few (start .lent .output-whole) (subst (λ (n : ℕ). i < n) (start .lent .output-whole) low));
+            bytes = λ i low. opened-byte transform file forward backward output e i low
+                ∙ ap (λ (l : List Made). byteAmong transform (references forward backward) (h .size) l i (getD output i 0)) (stops file h end passing s .macroblocks);
             coefficients = meet (r .macroblocks) (there .in-range);
           }
 
@@ -86,10 +90,6 @@ module _ (transform : List ℤ → ℕ → ℤ) (file forward backward output : 
           by-stop : (x : Stop file h end r) → answerAt file h end x .place ≡ r .offset
           by-stop (at-record inside refusal v) = refl
           by-stop (at-end past) = omega (arith, past, stands-at passing .in-file)
-
-      long : Stop file h end r → length (picture .output) ≡ length output
-      long s = rw (stopped-is s) (macroblocks-length transform (references forward backward) (h .size) (start .header .size) 0 (r .state .next) (r .macroblocks) output
-          (stands-at passing .order) made-few (start .lent .output-whole)) ∙ sym (start .lent .output-whole)
 
       listed : Stop file h end r → isListed (picture .number) ≡ true
       listed s = rw (stopped-is s) (by-stop s)
@@ -107,18 +107,15 @@ module _ (transform : List ℤ → ℕ → ℤ) (file forward backward output : 
         let s = stopped file h end in
         record { reached = s .reached; passing = s .passing; place = stopped-place (s .passing) (s .stop); holds = holds (s .passing) (s .stop) }
 
-    opened-long : length (picture .output) ≡ length output
-    opened-long = let s = stopped file h end in long (s .passing) (s .stop)
-
     opened-number : isListed (picture .number) ≡ true
     opened-number = let s = stopped file h end in listed (s .passing) (s .stop)
 
   keeps : (x : Opened) → opening file forward backward output ≡ x → length (picture .output) ≡ length output
-  keeps (Opened.Refused refusal place) e = rw (unopened e)
-  keeps (Opened.Opened h end) e = opened-long e
+  keeps (Opened.Refused refusal place) e = rw (unopened transform file forward backward output e)
+  keeps (Opened.Opened h end) e = opened-long transform file forward backward output e
 
   in-list : (x : Opened) → opening file forward backward output ≡ x → StartListed file x → isListed (picture .number) ≡ true
-  in-list (Opened.Refused refusal place) e p = rw (unopened e) (p .is-listed)
+  in-list (Opened.Refused refusal place) e p = rw (unopened transform file forward backward output e) (p .is-listed)
   in-list (Opened.Opened h end) e p = opened-number e
 
 pub refused-holds : RefusedHolds

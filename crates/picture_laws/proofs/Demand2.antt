@@ -11,15 +11,16 @@ use lib.ListN.{length}
 use Rattle.refusals.specs.Refusal.{accepted, numberOf}
 use Rattle.refusals.specs.declared.Refusal.the-variants.{FileEnds}
 use Rattle.refusals.proofs.Laws.{never-accepted}
-use Rattle.picture_header.specs.Size.{count}
-use Rattle.picture_header.specs.declared.header.Header.{Header}
+use Rattle.symbols.specs.Size.{count}
+use Rattle.symbols.specs.declared.header.Header.{Header}
 use Rattle.picture_header.specs.declared.opening.Opened.{Opened}
 use Rattle.picture_header.specs.declared.opening.Opened.the-variants as Opened
 use Rattle.picture.specs.Picture.{Picture, isComplete, endAnswer, refusedAt, pictureOf, answerOf}
 use Rattle.picture.specs.declared.reader.Answer.{Answer}
+use Rattle.picture.proofs.PictureLaws.{unopened}
 use Rattle.picture_laws.specs.Applies.{Reached, Passing, opening, Applies, to-start, to-record, to-end, given}
 use Rattle.picture_laws.specs.Demand2.{Accepted, AcceptedWhole, ExactlyWhenNoneApplies, RefusalGiven, Missing, SevenMissing}
-use Rattle.picture_laws.proofs.Demand1.{record-other, unopened, stands-at, made-few, stopped-is, held}
+use Rattle.picture_laws.proofs.Demand1.{record-other, stands-at, made-few, stopped-is, held}
 use Rattle.picture_laws.proofs.OpeningLaws.{StartListed, opened-listed}
 use Rattle.picture_laws.proofs.PassingLaws.{Stands, Stop, at-record, at-end, stopped}
 

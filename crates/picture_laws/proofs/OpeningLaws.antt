@@ -11,19 +11,20 @@ use Rattle.refusals.specs.Refusal.{numberOf}
 use Rattle.refusals.specs.declared.Refusal.{Refusal}
 use Rattle.refusals.specs.declared.Refusal.the-variants.{FileEmpty, Version, FileEnds}
 use Rattle.refusals.proofs.Laws.{ofRecord}
-use Rattle.parsed.specs.Guard.{need_else_then_}
-use Rattle.parsed.proofs.Guard.{need-all}
+use Rattle.symbols.specs.Guard.{need_else_then_}
+use Rattle.symbols.specs.Header.{headerWith}
+use Rattle.symbols.specs.declared.header.Header.{Header}
+use Rattle.symbols.specs.declared.header.HeaderAnswer.{HeaderAnswer}
+use Rattle.symbols.specs.declared.header.HeaderAnswer.the-variants as Answer
+use Rattle.symbols.proofs.Guard.{need-all}
 use Rattle.format3.specs.Record.{recordOf}
 use Rattle.format3.specs.declared.record.Record.{Record}
 use Rattle.format3.specs.declared.record.Record.the-variants as Record
 use Rattle.format3.specs.declared.verdict.Verdict.{Verdict}
 use Rattle.format3.specs.declared.verdict.Verdict.the-variants.{Passed, Refused}
-use Rattle.picture_header.specs.Header.{headerOf, headerWith}
+use Rattle.picture_header.specs.Header.{headerOf}
 use Rattle.picture_header.specs.Lengths.{lengthsOf}
 use Rattle.picture_header.specs.Opening.{version, firstHeader, openedOf}
-use Rattle.picture_header.specs.declared.header.Header.{Header}
-use Rattle.picture_header.specs.declared.header.HeaderAnswer.{HeaderAnswer}
-use Rattle.picture_header.specs.declared.header.HeaderAnswer.the-variants as Answer
 use Rattle.picture_header.specs.declared.opening.Opened.{Opened}
 use Rattle.picture_header.specs.declared.opening.Opened.the-variants as Opened
 use Rattle.picture.proofs.RefusalLaws.{FoundOf, of-found}

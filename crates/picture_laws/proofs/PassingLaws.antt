@@ -5,20 +5,22 @@ use Prim.Native.Nat.{ℕ, zero, suc, _-_, _≤_, _<_}
 use native.Mathlib.Decide.{decLt}
 use native.Mathlib.Omega.{arith}
 use lib.ListN.{length}
+use Rattle.lists.specs.Joined.{joined}
 use Rattle.refusals.specs.declared.Refusal.{Refusal}
+use Rattle.symbols.specs.Header.{HeaderWithin}
+use Rattle.symbols.specs.declared.header.Header.{Header}
 use Rattle.format3.specs.declared.verdict.Verdict.{Verdict}
 use Rattle.format3.specs.declared.verdict.Verdict.the-variants.{Passed, Refused}
 use Rattle.blocks.specs.Coefficients.{InRange}
-use Rattle.picture_header.specs.Header.{HeaderWithin}
-use Rattle.picture_header.specs.declared.header.Header.{Header}
 use Rattle.macroblock.specs.Macroblock.{InOrder, Each}
 use Rattle.macroblock.proofs.OrderLaws.{order-both, each-both}
-use Rattle.picture_state.specs.State.{startState}
-use Rattle.picture.specs.Picture.{Answered, refusedAt, endAnswer, recordsFrom, recordsOf}
+use Rattle.picture.specs.Reconstruction.{madeFrom, macroblocksOf}
+use Rattle.picture.specs.Picture.{Answered, refusedAt, endAnswer, answeredBy, recordsFrom, recordsOf, symbolsOf}
 use Rattle.picture.specs.Sound.{StateWithin}
 use Rattle.picture.specs.declared.reader.Answer.{Answer}
 use Rattle.picture.proofs.ReaderLaws.{none-left, first-refused, first-passes}
 use Rattle.picture.proofs.SoundLaws.{taken-kept, taken-ends, start-within}
+use Rattle.picture.proofs.SymbolLaws.{madeOf, made-of-symbols}
 use Rattle.picture_laws.specs.Applies.{Reached, afterRecord, verdictAt, Passing, none, one-more}
 
 module _ (file : List ℕ) (h : Header) (end : ℕ) where
@@ -47,11 +49,11 @@ module _ (file : List ℕ) (h : Header) (end : ℕ) where
   record Behind (r : Reached) : Type 0 where
     fuel : ℕ
     enough : length file - r .offset ≤ fuel
-    answer : recordsOf file end (startState h) .answer ≡ recordsFrom file fuel (r .offset) (r .state) (r .matrices) .answer
-    macroblocks : recordsOf file end (startState h) .macroblocks ≡ r .macroblocks ++ recordsFrom file fuel (r .offset) (r .state) (r .matrices) .macroblocks
+    answer : recordsOf file h end .answer ≡ recordsFrom file fuel (r .offset) (r .state) (r .matrices) .answer
+    macroblocks : macroblocksOf h (symbolsOf file h end) ≡ r .macroblocks ++ madeOf (r .state) (recordsFrom file fuel (r .offset) (r .state) (r .matrices) .gathered)
 
   behind : {r : Reached} → Passing file h end r → Behind r
-  behind none = record { fuel = length file; enough = omega arith; answer = refl; macroblocks = refl }
+  behind none = record { fuel = length file; enough = omega arith; answer = refl; macroblocks = made-of-symbols file h end }
   behind (one-more {r} passing v) =
       let b = behind passing in
       let ends = taken-ends file (r .offset) (r .state) (r .matrices) v in
@@ -67,18 +69,18 @@ module _ (file : List ℕ) (h : Header) (end : ℕ) where
   answerAt {r} (at-record inside refusal v) = refusedAt refusal (r .offset) (r .state .made)
   answerAt {r} (at-end past) = endAnswer (length file) (r .state)
 
-  same-answered : {a b : Answered} → a .answer ≡ b .answer → a .macroblocks ≡ b .macroblocks → a ≡ b
-  same-answered p q = λ i. record { answer = p i; macroblocks = q i }
+  -- what the records come to there
+  pub record Ended (r : Reached) (a : Answer) : Type 0 where
+    pub answer : recordsOf file h end .answer ≡ a
+    pub macroblocks : macroblocksOf h (symbolsOf file h end) ≡ r .macroblocks
 
-  pub stops : {r : Reached} → Passing file h end r → (s : Stop r) → recordsOf file end (startState h) ≡ record { answer = answerAt s; macroblocks = r .macroblocks }
-  stops {r} passing (at-record inside refusal v) =
-      let b = behind passing in
-      let e = first-refused file (r .offset) (r .state) (r .matrices) (b .fuel) (b .enough) inside v in
-      same-answered (b .answer ∙ ap (λ (a : Answered). a .answer) e) (b .macroblocks ∙ rw (e, append-nil))
-  stops {r} passing (at-end past) =
-      let b = behind passing in
-      let e = none-left file (r .offset) (r .state) (r .matrices) (b .fuel) past in
-      same-answered (b .answer ∙ ap (λ (a : Answered). a .answer) e) (b .macroblocks ∙ rw (e, append-nil))
+  ended : {r : Reached} {a : Answer} (b : Behind r) → recordsFrom file (b .fuel) (r .offset) (r .state) (r .matrices) ≡ answeredBy a (r .matrices) → Ended r a
+  unfolding madeFrom joined
+  ended {r} b e = record { answer = b .answer ∙ ap (λ (a : Answered). a .answer) e; macroblocks = b .macroblocks ∙ rw (e, append-nil (r .macroblocks)) }
+
+  pub stops : {r : Reached} → Passing file h end r → (s : Stop r) → Ended r (answerAt s)
+  stops {r} passing (at-record inside refusal v) = let b = behind passing in ended b (first-refused file (r .offset) (r .state) (r .matrices) (b .fuel) (b .enough) inside v)
+  stops {r} passing (at-end past) = let b = behind passing in ended b (none-left file (r .offset) (r .state) (r .matrices) (b .fuel) past)
 
   -- and there is such a place
   pub record Stopped : Type 0 where

@@ -8,8 +8,8 @@ use lib.Dec.{leb}
 use lib.IntN.{ℤ}
 use lib.ListN.{length, getD}
 use Rattle.accuracy.specs.ExactSum.{Coefficients}
-use Rattle.blocks.specs.Blocks.{isCoded}
-use Rattle.picture_header.specs.declared.header.Header.{Header}
+use Rattle.symbols.specs.Pattern.{isCoded}
+use Rattle.symbols.specs.declared.header.Header.{Header}
 use Rattle.picture_header.specs.declared.opening.Opened.the-variants as Opened
 use Rattle.macroblock.specs.Block.{coefficientsOf}
 use Rattle.macroblock.specs.Byte.{byteAmong}

@@ -7,8 +7,8 @@ use lib.IntN.{ℤ}
 use lib.ListN.{length}
 use Rattle.refusals.specs.Refusal.{accepted, numberOf}
 use Rattle.refusals.specs.declared.Refusal.the-variants.{FileEnds}
-use Rattle.picture_header.specs.Size.{count}
-use Rattle.picture_header.specs.declared.header.Header.{Header}
+use Rattle.symbols.specs.Size.{count}
+use Rattle.symbols.specs.declared.header.Header.{Header}
 use Rattle.picture_header.specs.declared.opening.Opened.the-variants as Opened
 use Rattle.picture.specs.Picture.{Picture, pictureOf, answerOf}
 use Rattle.picture_laws.specs.Applies.{opening, Applies, given}

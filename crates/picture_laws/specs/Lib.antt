@@ -1,5 +1,5 @@
 pub mod Applies
 pub mod Demand1
 pub mod Demand2
-pub mod Alone
 pub mod Worked
+pub mod Symbols

@@ -9,7 +9,7 @@ use Rattle.picture.specs.declared.reader.Answer.{Answer}
 
 -- ---- files of one macroblock
 -- a record of fewer than 256 bytes: the length of kind and body, the kind, and the body
-abbrev laidOut : ℕ → List ℕ → List ℕ
+abbrev pub laidOut : ℕ → List ℕ → List ℕ
 laidOut kind body = 0 ∷ suc (length body) ∷ kind ∷ body
 
 -- the header, by type and forward f_code
@@ -28,7 +28,7 @@ abbrev slice : List ℕ
 slice = laidOut 3 (8 ∷ 0 ∷ 0 ∷ [])
 
 -- an intra macroblock: six blocks of a DC difference of 0 and no pair
-abbrev grey : List ℕ
+abbrev pub grey : List ℕ
 grey = laidOut 4 (16 ∷ 0 ∷ 1 ∷ replicate 18 0)
 
 -- a reference and an output of its length

@@ -14,12 +14,12 @@ use denote.Memory.{cellAt, partAt, partOf}
 use denote.Steps.{only, owned, peeks}
 use denote.Struct.Steps.{spelt}
 use denote.Struct.Laws as LL
+use Rattle.symbols.specs.declared.header.Header.{Header}
+use Rattle.symbols.proofs.header.Header as header
+use Rattle.symbols.proofs.header.Header.Laws as header′
 use Rattle.macroblock_symbols.specs.declared.DecodedMacroblock.{DecodedMacroblock}
 use Rattle.macroblock_symbols.proofs.DecodedMacroblock as symbols
 use Rattle.macroblock_symbols.proofs.DecodedMacroblock.Laws as symbols′
-use Rattle.picture_header.specs.declared.header.Header.{Header}
-use Rattle.picture_header.proofs.header.Header as header
-use Rattle.picture_header.proofs.header.Header.Laws as header′
 use Rattle.picture_state.specs.declared.state.SliceState.{SliceState}
 use Rattle.picture_state.proofs.state.SliceState as state
 use Rattle.picture_state.proofs.state.SliceState.Laws as state′

@@ -7,27 +7,27 @@ use native.Mathlib.Omega.{arith}
 use borrow.Author.Tests.{ltb-true, ltb-false, eqb-true, lt-ltb, le-leb}
 use lib.Dec.{T, ltb, leb, eqb}
 use lib.IntN.{ℤ}
-use Rattle.integers.specs.Bound.{Within}
-use Rattle.lists.proofs.Test.{and-left, and-right, at-below₂}
 use Rattle.lists.specs.Test.{allBelow}
-use Rattle.macroblock.specs.Compensation.{VectorWithin, MotionWithin}
-use Rattle.motion.proofs.VectorLaws.{vector-within, used-within, factor-most}
+use Rattle.lists.proofs.Test.{and-left, and-right, at-below₂}
+use Rattle.integers.specs.Bound.{Within}
 use Rattle.motion.specs.Vector.{factorOf, vectorOf}
-use Rattle.picture_header.specs.Header.{typeI, typeP, typeB, usesForward, usesBackward}
+use Rattle.motion.proofs.VectorLaws.{vector-within, used-within, factor-most}
+use Rattle.symbols.specs.Header.{typeI, typeP, typeB, usesForward, usesBackward}
+use Rattle.symbols.specs.MacroblockType.{givesForward, givesBackward, isIntra, legalType}
+use Rattle.symbols.specs.declared.header.Header.{Header}
+use Rattle.symbols.specs.declared.header.VectorCoding.{VectorCoding}
+use Rattle.symbols.specs.declared.vector_codes.VectorCode.{VectorCode}
+use Rattle.symbols.specs.declared.vector_codes.VectorCodes.{VectorCodes}
+use Rattle.symbols.specs.declared.macroblock.MacroblockSymbols.{MacroblockSymbols}
+use Rattle.symbols.proofs.Laws.MacroblockType.{types-above}
+use Rattle.macroblock_symbols.specs.declared.DecodedMacroblock.{DecodedMacroblock}
+use Rattle.macroblock.specs.Compensation.{VectorWithin, MotionWithin}
+use Rattle.macroblock.specs.declared.compensation.Motion.{Motion}
+use Rattle.macroblock.specs.declared.compensation.Vector.{Vector}
 use Rattle.picture_state.specs.Vectors.{decodedVector, pastsBefore, forwardAfter, backwardAfter, pastsAfter, usedOf, predictsForward, predictsBackward, ownMotion, nextPasts, CodeWithin, Decodable, PastsWithin, SymbolsWithin}
 use Rattle.picture_state.specs.Plan.{skipMotion}
 use Rattle.picture_state.specs.Slice.{Updatable}
 use Rattle.picture_state.specs.State.{zeroVector, zeroPasts, noMotion, stillMotion}
-use Rattle.symbols.proofs.Laws.MacroblockType.{types-above}
-use Rattle.symbols.specs.MacroblockType.{givesForward, givesBackward, isIntra, legalType}
-use Rattle.picture_header.specs.declared.header.Header.{Header}
-use Rattle.picture_header.specs.declared.header.VectorCoding.{VectorCoding}
-use Rattle.symbols.specs.declared.vector_codes.VectorCode.{VectorCode}
-use Rattle.symbols.specs.declared.vector_codes.VectorCodes.{VectorCodes}
-use Rattle.macroblock_symbols.specs.declared.DecodedMacroblock.{DecodedMacroblock}
-use Rattle.macroblock_symbols.specs.declared.MacroblockSymbols.{MacroblockSymbols}
-use Rattle.macroblock.specs.declared.compensation.Motion.{Motion}
-use Rattle.macroblock.specs.declared.compensation.Vector.{Vector}
 use Rattle.picture_state.specs.declared.state.VectorPasts.{VectorPasts}
 use Rattle.picture_state.specs.declared.state.SliceState.{SliceState}
 

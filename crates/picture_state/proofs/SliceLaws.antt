@@ -4,11 +4,11 @@ use mathlib.Core.Path.{_≡_, refl}
 use Prim.Native.Nat.{ℕ}
 use lib.Dec.{ltb, eqb}
 use lib.IntN.{pos}
+use Rattle.symbols.specs.MacroblockType.{givesForward, givesBackward, isIntra}
+use Rattle.symbols.specs.Header.{typeP, typeB}
+use Rattle.symbols.specs.declared.header.Header.{Header}
 use Rattle.macroblock_symbols.specs.Macroblock.{startingPasts}
 use Rattle.macroblock_symbols.specs.declared.DecodedMacroblock.{DecodedMacroblock}
-use Rattle.symbols.specs.MacroblockType.{givesForward, givesBackward, isIntra}
-use Rattle.picture_header.specs.Header.{typeP, typeB}
-use Rattle.picture_header.specs.declared.header.Header.{Header}
 use Rattle.picture_state.specs.State.{noMotion, resetSlice}
 use Rattle.picture_state.specs.Slice.{sliceAfter}
 use Rattle.picture_state.specs.Vectors.{pastsBefore, forwardAfter, backwardAfter, pastsAfter, nextPasts}

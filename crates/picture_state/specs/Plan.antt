@@ -4,13 +4,15 @@ use mathlib.Core.List.{List, [], _∷_, _++_}
 use Prim.Native.Nat.{ℕ, _+_, _-_, _≤_}
 use lib.Dec.{eqb}
 use lib.IntN.{ℤ}
-use Rattle.picture_header.specs.Header.{typeP}
+use Rattle.symbols.specs.Header.{typeP}
+use Rattle.symbols.specs.declared.header.Header.{Header}
 use Rattle.blocks.specs.declared.dc.DcPasts.{DcPasts}
 use Rattle.macroblock_symbols.specs.declared.DecodedMacroblock.{DecodedMacroblock}
 use Rattle.macroblock.specs.Macroblock.{Made, uncodedFrom}
 use Rattle.macroblock.specs.declared.compensation.Motion.{Motion}
 use Rattle.picture_state.specs.State.{stillMotion}
 use Rattle.picture_state.specs.Slice.{sliceAfter, Updatable}
+use Rattle.picture_state.specs.declared.state.SliceState.{SliceState}
 use Rattle.picture_state.specs.declared.state.PictureState.{PictureState}
 use Rattle.picture_state.specs.declared.plan.Plan.{Plan}
 
@@ -18,16 +20,16 @@ use Rattle.picture_state.specs.declared.plan.Plan.{Plan}
 unfoldable pub skipMotion : ℕ → Motion → Motion
 skipMotion coding last = cond (eqb coding typeP) stillMotion last
 
--- all that the record's symbols come to
-unfoldable pub planOf : PictureState → DecodedMacroblock → Plan
-planOf s m = record {
-  first = s .next;
+-- all that a macroblock's symbols come to, with the next address and the slice's state before it
+unfoldable pub planOf : Header → ℕ → SliceState → DecodedMacroblock → Plan
+planOf h next slice m = record {
+  first = next;
   skipped = m .symbols .increment - 1;
-  «skip_motion» = skipMotion (s .header .«coding_type») (s .slice .motion);
-  address = s .next + (m .symbols .increment - 1);
-  motion = sliceAfter (s .header) m (s .slice) .motion;
+  «skip_motion» = skipMotion (h .«coding_type») (slice .motion);
+  address = next + (m .symbols .increment - 1);
+  motion = sliceAfter h m slice .motion;
   pattern = m .symbols .pattern;
-  slice = sliceAfter (s .header) m (s .slice);
+  slice = sliceAfter h m slice;
 }
 
 -- the same with other DC pasts

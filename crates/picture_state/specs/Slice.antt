@@ -1,6 +1,6 @@
 -- The state of a slice after a macroblock record (document 01, "Coefficients" and "Vectors and prediction").
 use mathlib.Core.Bool.{false}
-use Rattle.picture_header.specs.declared.header.Header.{Header}
+use Rattle.symbols.specs.declared.header.Header.{Header}
 use Rattle.symbols.specs.MacroblockType.{isIntra}
 use Rattle.macroblock_symbols.specs.Decoding.{scaleAfter}
 use Rattle.macroblock_symbols.specs.declared.DecodedMacroblock.{DecodedMacroblock}

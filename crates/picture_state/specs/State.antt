@@ -2,11 +2,11 @@
 use mathlib.Core.Bool.{true, false}
 use Prim.Native.Nat.{ℕ}
 use lib.IntN.{pos}
+use Rattle.symbols.specs.declared.header.Header.{Header}
 use Rattle.format3.specs.declared.turn.Turn.the-variants as Turn
+use Rattle.macroblock_symbols.specs.Macroblock.{resetPasts}
 use Rattle.macroblock.specs.declared.compensation.Motion.{Motion}
 use Rattle.macroblock.specs.declared.compensation.Vector.{Vector}
-use Rattle.macroblock_symbols.specs.Macroblock.{resetPasts}
-use Rattle.picture_header.specs.declared.header.Header.{Header}
 use Rattle.picture_state.specs.declared.state.VectorPasts.{VectorPasts}
 use Rattle.picture_state.specs.declared.state.SliceState.{SliceState}
 use Rattle.picture_state.specs.declared.state.PictureState.{PictureState}

@@ -4,13 +4,13 @@ use Prim.Native.Nat.{ℕ, _≤_, _<_}
 use lib.Dec.{eqb, ltb}
 use Rattle.integers.specs.Bound.{Within}
 use Rattle.motion.specs.Vector.{factorOf, vectorOf, usedVector}
-use Rattle.picture_header.specs.Header.{typeP}
-use Rattle.picture_header.specs.declared.header.Header.{Header}
-use Rattle.picture_header.specs.declared.header.VectorCoding.{VectorCoding}
+use Rattle.symbols.specs.Header.{typeP}
+use Rattle.symbols.specs.declared.header.Header.{Header}
+use Rattle.symbols.specs.declared.header.VectorCoding.{VectorCoding}
 use Rattle.symbols.specs.MacroblockType.{givesForward, givesBackward, isIntra}
 use Rattle.symbols.specs.declared.vector_codes.VectorCode.{VectorCode}
 use Rattle.symbols.specs.declared.vector_codes.VectorCodes.{VectorCodes}
-use Rattle.macroblock_symbols.specs.declared.MacroblockSymbols.{MacroblockSymbols}
+use Rattle.symbols.specs.declared.macroblock.MacroblockSymbols.{MacroblockSymbols}
 use Rattle.macroblock.specs.Compensation.{VectorWithin}
 use Rattle.macroblock.specs.declared.compensation.Motion.{Motion}
 use Rattle.macroblock.specs.declared.compensation.Vector.{Vector}

@@ -8,7 +8,7 @@ use crate::state::SliceState;
 use blocks::dc::DcPasts;
 use macroblock::compensation::Motion;
 use macroblock_symbols::DecodedMacroblock;
-use picture_header::header::P_PICTURE;
+use symbols::header::P_PICTURE;
 
 // What is written and kept, before any of it is.
 pub struct Plan {
@@ -38,7 +38,7 @@ fn skip_motion(coding: u8, last: Motion) -> Motion
 // All that a macroblock's symbols come to.
 pub fn make_plan(picture: PictureState, macroblock: DecodedMacroblock) -> Plan
     requires { ⌜ Plannable picture macroblock ⌝ }
-    ensures { λ r. ⌜ r ≡ planOf picture macroblock ⌝ }
+    ensures { λ r. ⌜ r ≡ planOf (picture .header) (picture .next) (picture .slice) macroblock ⌝ }
 {
     let header = picture.header;
     let before = picture.slice;

@@ -6,7 +6,7 @@ use crate::state;
 use crate::state::SliceState;
 use crate::vectors;
 use macroblock_symbols::DecodedMacroblock;
-use picture_header::header::Header;
+use symbols::header::Header;
 use symbols::macroblock_type;
 use symbols::macroblock_type::INTRA;
 

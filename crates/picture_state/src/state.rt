@@ -6,7 +6,7 @@ use format3::turn::Turn;
 use macroblock::compensation::Motion;
 use macroblock::compensation::Vector;
 use matrices::Loaded;
-use picture_header::header::Header;
+use symbols::header::Header;
 
 // The vectors that the next differences are added to.
 pub struct VectorPasts {

@@ -9,20 +9,20 @@ use lib.ListN.{length, take, drop, replicate, length-append, length-take, length
 use lib.Seq.{take-append-seam}
 use borrow.Author.Tests.{eqb-true}
 use Rattle.refusals.specs.Refusal.{accepted}
-use Rattle.byte_layout.specs.Laid.{laid}
-use Rattle.byte_layout.proofs.Laws.Laid.{laid-length, laid-back}
-use Rattle.picture_header.specs.Header.{typeB}
+use Rattle.symbols.specs.Header.{typeB}
 use Rattle.picture_header.specs.Opening.{firstHeader}
 use Rattle.picture_header.specs.declared.opening.Opened.{Opened}
 use Rattle.picture_header.specs.declared.opening.Opened.the-variants as Opened
+use Rattle.byte_layout.specs.Laid.{laid}
+use Rattle.byte_layout.proofs.Laws.Laid.{laid-length, laid-back}
 use Rattle.picture.specs.Picture.{Picture, answerOf}
 use Rattle.picture.specs.declared.reader.Answer.{Answer}
-use Rattle.picture_laws.specs.Alone.{Alike}
+use Rattle.picture.specs.Alone.{Alike}
 use Rattle.reel.specs.Part.{partAt, partsFrom}
 use Rattle.reel.specs.declared.part.Part.{Part}
 use Rattle.reel.specs.declared.part.Part.the-variants as Part
-use Rattle.reel.proofs.PartLaws.{inside, no-parts, one-file, one-cut}
 use Rattle.reel.specs.declared.references.Kept.{Kept}
+use Rattle.reel.proofs.PartLaws.{inside, no-parts, one-file, one-cut}
 use Rattle.player.specs.Items.{Item, picture, cut, Carried, lentBytes, madeInto, madeFrom, bytesOf, carriedFrom, carriedAfter, itemsFrom}
 use Rattle.player.specs.Next.{KeptWithin, AfterNext, heldIn, keptOf, playedAs, outputAfter, nextOf}
 use Rattle.player.specs.declared.play.Next.{Next}

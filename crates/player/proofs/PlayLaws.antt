@@ -9,18 +9,18 @@ use lib.ListN.{length, take, replicate, length-replicate}
 use lib.Seq.{length-take-le}
 use borrow.Author.Tests.{eqb-true, leb-true}
 use Rattle.refusals.specs.Refusal.{accepted}
-use Rattle.byte_layout.specs.Laid.{laid}
-use Rattle.byte_layout.proofs.Laws.Laid.{laid-same}
 use Rattle.transform.specs.Transform.{inverseTransform}
-use Rattle.picture_header.proofs.Laws.Opening.{begun}
+use Rattle.symbols.specs.Size.{count}
 use Rattle.picture_header.specs.Opening.{firstHeader}
-use Rattle.picture_header.specs.Size.{count}
 use Rattle.picture_header.specs.declared.opening.Opened.{Opened}
 use Rattle.picture_header.specs.declared.opening.Opened.the-variants as Opened
+use Rattle.picture_header.proofs.Laws.Opening.{begun}
+use Rattle.byte_layout.specs.Laid.{laid}
+use Rattle.byte_layout.proofs.Laws.Laid.{laid-same}
 use Rattle.picture.specs.Picture.{Picture}
 use Rattle.picture.specs.declared.reader.Answer.{Answer}
-use Rattle.picture_laws.proofs.Alone.{picture-alone}
-use Rattle.picture_laws.specs.Alone.{Alike}
+use Rattle.picture.specs.Alone.{Alike}
+use Rattle.picture.proofs.Alone.{picture-alone}
 use Rattle.reel.specs.References.{forwardFor, backwardFor}
 use Rattle.reel.specs.declared.references.Kept.{Kept}
 use Rattle.player.specs.Items.{Carried, lentBytes, madeInto, madeFrom}

@@ -6,9 +6,9 @@ use lib.Dec.{eqb, leb}
 use lib.ListN.{replicate}
 use Rattle.refusals.specs.Refusal.{accepted}
 use Rattle.transform.specs.Transform.{inverseTransform}
-use Rattle.picture_header.specs.Header.{typeB}
+use Rattle.symbols.specs.Header.{typeB}
+use Rattle.symbols.specs.Size.{count, bytes}
 use Rattle.picture_header.specs.Opening.{firstHeader}
-use Rattle.picture_header.specs.Size.{count, bytes}
 use Rattle.picture_header.specs.declared.opening.Opened.{Opened}
 use Rattle.picture_header.specs.declared.opening.Opened.the-variants as Opened
 use Rattle.picture.specs.Picture.{Picture, answerOf, pictureOf}

@@ -3,12 +3,12 @@ use mathlib.Core.List.{List, _++_}
 use mathlib.Core.Path.{_≡_}
 use Prim.Native.Nat.{ℕ, _+_, _≤_}
 use lib.ListN.{length, take, drop}
-use Rattle.byte_layout.specs.Laid.{laid}
+use Rattle.symbols.specs.Size.{SizeWithin}
+use Rattle.symbols.specs.declared.header.Header.{Header}
 use Rattle.picture_header.specs.Opening.{firstHeader}
-use Rattle.picture_header.specs.Size.{SizeWithin}
-use Rattle.picture_header.specs.declared.header.Header.{Header}
 use Rattle.picture_header.specs.declared.opening.Opened.{Opened}
 use Rattle.picture_header.specs.declared.opening.Opened.the-variants as Opened
+use Rattle.byte_layout.specs.Laid.{laid}
 use Rattle.picture.specs.Picture.{Picture, answerOf}
 use Rattle.reel.specs.Part.{partAt}
 use Rattle.reel.specs.declared.part.Part.{Part}

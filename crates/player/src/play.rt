@@ -8,13 +8,13 @@ ghost use Rattle.player.specs.Items.{lentBytes, madeInto, carriedFrom};
 ghost use Rattle.player.specs.Next.{StartWithin, firstPosition, heldIn, keptOf, KeptWithin, playedInto, playedFile, outputAfter, nextOf};
 use picture::reader;
 use picture::reader::Answer;
-use picture_header::header::B_PICTURE;
 use picture_header::opening;
 use picture_header::opening::Opened;
 use reel::part;
 use reel::part::Part;
 use reel::references;
 use reel::references::Kept;
+use symbols::header::B_PICTURE;
 
 // The most macroblocks for which an output is lent.
 const MOST_LENT: usize = 40;

@@ -6,14 +6,17 @@ use lib.ListN.{length, drop}
 use Rattle.refusals.specs.Refusal.{accepted, numberOf}
 use Rattle.refusals.specs.declared.Refusal.{Refusal}
 use Rattle.refusals.specs.declared.Refusal.the-variants as Refusal
-use Rattle.parsed.specs.Guard.{need_else_then_}
-use Rattle.picture_header.specs.Header.{headerWith}
-use Rattle.picture_header.specs.declared.header.HeaderFields.{HeaderFields}
-use Rattle.picture_header.specs.declared.header.HeaderAnswer.{HeaderAnswer}
-use Rattle.picture_header.specs.declared.header.HeaderAnswer.the-variants as Header
+use Rattle.symbols.specs.Guard.{need_else_then_}
+use Rattle.symbols.specs.Parsed.{parsed, refused}
+use Rattle.symbols.specs.Header.{headerWith}
+use Rattle.symbols.specs.declared.header.HeaderFields.{HeaderFields}
+use Rattle.symbols.specs.declared.header.HeaderAnswer.{HeaderAnswer}
+use Rattle.symbols.specs.declared.header.HeaderAnswer.the-variants as Header
+use Rattle.symbols.specs.Slice.{Slice}
+use Rattle.record_layout.specs.Records.{recordsOf}
 use Rattle.bits.specs.declared.Position.{Position}
-use Rattle.slice_syntax.specs.Read.{Read, read, refused}
-use Rattle.slice_syntax.specs.Slice.{SliceFields, firstBit, rawSliceOf, recordsOf}
+use Rattle.slice_syntax.specs.Read.{Read, stop}
+use Rattle.slice_syntax.specs.Slice.{firstBit, rawSliceOf}
 use Rattle.raw_slice.specs.declared.entry.RawSliceAnswer.{RawSliceAnswer}
 
 -- "Five given numbers; the full-pel flags don't matter to reading": a header's numbers, its flags 0
@@ -51,9 +54,9 @@ acceptedWith records p buffer = record { answer = acceptedAnswer (length records
 unfoldable pub fitted : List ℕ → Position → List ℕ → Outcome
 fitted records p buffer = need leb (length records) (length buffer) else refusedOutcome Refusal.RecordsLength firstBit buffer then acceptedWith records p buffer
 
-abbrev pub readOutcome : Read SliceFields → List ℕ → Outcome
-readOutcome (read slice p) buffer = fitted (recordsOf slice) p buffer
-readOutcome (refused refusal p) buffer = refusedOutcome refusal p buffer
+abbrev pub readOutcome : Read Slice → List ℕ → Outcome
+readOutcome (parsed slice p) buffer = fitted (recordsOf slice) p buffer
+readOutcome (refused (stop refusal p)) buffer = refusedOutcome refusal p buffer
 
 -- "A wrong one is 8 (the header's own predicate, over numbers), tested first: written, byte, bit 0"
 abbrev pub headerOutcome : HeaderAnswer → List ℕ → List ℕ → Outcome

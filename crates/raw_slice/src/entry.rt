@@ -1,15 +1,15 @@
 // The entry: a slice's bytes into records.
 use bits::Position;
-use picture_header::header::Header;
-use picture_header::header::HeaderAnswer;
-use picture_header::header::HeaderFields;
 use refusals::Refusal;
 use slice_records::laying::Laying;
+use symbols::header::Header;
+use symbols::header::HeaderAnswer;
+use symbols::header::HeaderFields;
 ghost use mathlib.Core.Path.{_≡_};
 ghost use Prim.Native.Nat.{_≤_};
 ghost use lib.Dec.{leb};
 ghost use lib.ListN.{length, take};
-ghost use Rattle.picture_header.specs.Header.{headerWith, HeaderWithin};
+ghost use Rattle.symbols.specs.Header.{headerWith, HeaderWithin};
 ghost use Rattle.slice_syntax.specs.Slice.{rawSliceOf};
 ghost use Rattle.raw_slice.specs.Laying.{withFront};
 ghost use Rattle.raw_slice.specs.Answer.{given, refusedAnswer, acceptedAnswer, readOutcome, rawSliceOutcome};
@@ -117,7 +117,7 @@ fn header_given(
     if LARGEST < backward {
         return HeaderAnswer::Refused(Refusal::Header);
     }
-    picture_header::header::header_with(HeaderFields {
+    symbols::header::header_with(HeaderFields {
         width: width as u8,
         height: height as u8,
         coding_type: coding_type as u8,

@@ -4,7 +4,7 @@ use refusals::Refusal;
 use slice_syntax::extra::Skipped;
 use slice_syntax::step::Step;
 ghost use mathlib.Core.Path.{_≡_};
-ghost use Rattle.slice_syntax.specs.Slice.{sliceHeadOf};
+ghost use Rattle.slice_syntax.specs.Slice.{sliceHeadAt, firstBit};
 ghost use Rattle.raw_slice.specs.Laying.{sliceHeadAnswer};
 
 pub enum SliceHeadAnswer {
@@ -13,7 +13,7 @@ pub enum SliceHeadAnswer {
 }
 
 pub fn read_slice_head(bytes: &[u8], height: u8) -> SliceHeadAnswer
-    ensures { λ r. ⌜ r ≡ sliceHeadAnswer (sliceHeadOf height (now (bytes .entry))) ⌝ }
+    ensures { λ r. ⌜ r ≡ sliceHeadAnswer (sliceHeadAt height (now (bytes .entry)) firstBit) ⌝ }
 {
     match slice_syntax::step::next_start(bytes, height) {
         Step::Refused(refusal, refused) => SliceHeadAnswer::Refused(refusal, refused),

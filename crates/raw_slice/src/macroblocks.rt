@@ -1,16 +1,16 @@
 // The macroblocks of a slice after its first one.
 use bits::Position;
-use picture_header::header::Header;
 use slice_records::laying::Laying;
 use slice_syntax::step::Step;
+use symbols::header::Header;
 ghost use mathlib.Core.Path.{_≡_};
 ghost use Prim.Native.Nat.{_≤_};
 ghost use Rattle.lists.specs.Joined.{joined};
-ghost use Rattle.picture_header.specs.Header.{HeaderWithin};
-ghost use Rattle.bits.specs.Bits.{InBytes};
+ghost use Rattle.symbols.specs.Header.{HeaderWithin};
 ghost use Rattle.byte_layout.specs.Laid.{farthest};
-ghost use Rattle.code_tables.specs.Table.{codeTable};
 ghost use Rattle.record_layout.specs.Records.{macroblockRecord};
+ghost use Rattle.bits.specs.Bits.{InBytes};
+ghost use Rattle.code_tables.specs.Table.{codeTable};
 ghost use Rattle.slice_syntax.specs.Slice.{nextAt, macroblocksAt};
 ghost use Rattle.slice_records.specs.Laying.{layingOf, LaidAt};
 ghost use Rattle.raw_slice.specs.Laying.{endOf};

@@ -1,15 +1,16 @@
 // A slice's records, laid.
 use crate::head::SliceHeadAnswer;
 use bits::Position;
-use picture_header::header::Header;
 use slice_records::laying::Laying;
 use slice_syntax::step::Step;
+use symbols::header::Header;
 ghost use mathlib.Core.Path.{_≡_};
 ghost use Prim.Native.Nat.{_≤_};
-ghost use Rattle.picture_header.specs.Header.{HeaderWithin};
+ghost use Rattle.symbols.specs.Header.{HeaderWithin};
+ghost use Rattle.record_layout.specs.Records.{recordsOf};
 ghost use Rattle.bits.specs.Bits.{InBytes};
 ghost use Rattle.code_tables.specs.Table.{codeTable};
-ghost use Rattle.slice_syntax.specs.Slice.{startAddress, recordsOf, afterHeadAt, rawSliceOf};
+ghost use Rattle.slice_syntax.specs.Slice.{startAddress, afterHeadAt, rawSliceOf};
 ghost use Rattle.slice_records.specs.Laying.{LaidAt};
 ghost use Rattle.raw_slice.specs.Laying.{endOf};
 

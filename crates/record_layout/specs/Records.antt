@@ -5,12 +5,14 @@ use Prim.Native.Nat.{ℕ, _+_}
 use lib.IntN.{ℤ}
 use lib.ListN.{length}
 use Rattle.lists.specs.Joined.{joined}
-use Rattle.format3.specs.Record.{slice, macroblock}
-use Rattle.symbols.specs.MacroblockType.{givesScale, givesForward, givesBackward, isIntra, codedPattern}
+use Rattle.symbols.specs.MacroblockType.{givesScale, givesForward, givesBackward, isIntra}
+use Rattle.symbols.specs.Pattern.{codedPattern}
 use Rattle.symbols.specs.declared.vector_codes.VectorCodes.{VectorCodes}
-use Rattle.pairs.specs.declared.Pair.{Pair}
-use Rattle.blocks.specs.Blocks.{Block, uncoded, coded}
-use Rattle.macroblock_symbols.specs.Macroblock.{Macroblock}
+use Rattle.symbols.specs.declared.pair.Pair.{Pair}
+use Rattle.symbols.specs.Block.{Block, uncoded, coded}
+use Rattle.symbols.specs.Macroblock.{Macroblock}
+use Rattle.symbols.specs.Slice.{Slice}
+use Rattle.format3.specs.Record.{slice, macroblock}
 use Rattle.byte_layout.specs.Bytes.{signedByte, wordBytes, signedWordBytes}
 
 -- "Each is a 2-byte length (of what comes after it), a kind byte and a body"
@@ -89,3 +91,7 @@ macroblockRecord m = recordBytes macroblock (macroblockBody m)
 -- a slice's record and those of its macroblocks
 unfoldable pub sliceRecords : ℕ → ℕ → List Macroblock → List ℕ
 sliceRecords scale start macroblocks = sliceRecord scale start ++ joined macroblockRecord macroblocks
+
+-- of a slice's symbols
+abbrev pub recordsOf : Slice → List ℕ
+recordsOf symbols = sliceRecords (symbols .scale) (symbols .start) (symbols .macroblocks)

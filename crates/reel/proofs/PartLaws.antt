@@ -5,7 +5,7 @@ use Prim.Native.Nat.{ℕ, zero, suc, _+_, _≤_, _<_}
 use native.Mathlib.Omega.{arith}
 use lib.ListN.{length, take, drop}
 use borrow.Author.Tests.{leb-true, le-leb, lt-leb}
-use Rattle.parsed.proofs.Guard.{need-all}
+use Rattle.symbols.proofs.Guard.{need-all}
 use Rattle.reel.specs.Part.{partAt, lengthAt, file, cut, partsFrom}
 use Rattle.reel.specs.declared.part.Part.{Part}
 use Rattle.reel.specs.declared.part.Part.the-variants as Part

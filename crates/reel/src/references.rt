@@ -3,9 +3,9 @@ ghost use mathlib.Core.Path.{_≡_};
 ghost use lib.ListN.{length, take};
 ghost use Rattle.byte_layout.specs.Laid.{laid};
 ghost use Rattle.reel.specs.References.{forwardFor, backwardFor};
-use picture_header::header::B_PICTURE;
-use picture_header::header::P_PICTURE;
 use picture_header::opening::Opened;
+use symbols::header::B_PICTURE;
+use symbols::header::P_PICTURE;
 
 // The lengths of the references, which lie at the start of two buffers; 0 where there is none.
 pub struct Kept {

@@ -4,12 +4,12 @@ use mathlib.Core.List.{List, [], _∷_, _++_}
 use Prim.Native.Nat.{ℕ}
 use lib.Dec.{eqb}
 use Rattle.refusals.specs.Refusal.{accepted}
-use Rattle.text.specs.Number.{field}
-use Rattle.picture_header.specs.Header.{typeI, typeP}
+use Rattle.symbols.specs.Header.{typeI, typeP}
 use Rattle.picture_header.specs.declared.opening.Opened.{Opened}
 use Rattle.picture_header.specs.declared.opening.Opened.the-variants as Opened
 use Rattle.picture.specs.declared.reader.Answer.{Answer}
 use Rattle.player.specs.Items.{Item, picture, cut}
+use Rattle.text.specs.Number.{field}
 use Rattle.report.specs.Planes.{sumsOf}
 use Rattle.report.specs.declared.planes.Sums.{Sums}
 

@@ -8,10 +8,10 @@ ghost use Rattle.report.specs.Text.{letterOf, answerText, sumsText, plan
 use crate::planes;
 use crate::planes::Sums;
 use picture::reader::Answer;
-use picture_header::header::I_PICTURE;
-use picture_header::header::P_PICTURE;
 use picture_header::opening::Opened;
 use player::play::Played;
+use symbols::header::I_PICTURE;
+use symbols::header::P_PICTURE;
 
 const SPACE: u8 = b' ';
 

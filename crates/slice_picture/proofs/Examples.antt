@@ -5,25 +5,25 @@ use Prim.Native.Nat.{ℕ}
 use lib.ListN.{replicate}
 use Rattle.lists.specs.Joined.{joined}
 use Rattle.lists.specs.Tab.{tab}
-use Rattle.parsed.specs.Guard.{need_else_then_}
-use Rattle.picture_header.specs.Size.{legalSize}
-use Rattle.picture_header.specs.Header.{legalCodings, legalHeader, headerWith}
-use Rattle.picture_header.specs.declared.header.HeaderFields.{HeaderFields}
-use Rattle.bits.specs.Bits.{bitsOf, bits, leadingNumber, allZeros, bitsFrom}
-use Rattle.pairs.specs.Pairs.{firstPosition}
-use Rattle.blocks.specs.Blocks.{isCoded}
+use Rattle.symbols.specs.Guard.{need_else_then_}
+use Rattle.symbols.specs.Size.{legalSize}
+use Rattle.symbols.specs.Header.{legalCodings, legalHeader, headerWith}
+use Rattle.symbols.specs.declared.header.HeaderFields.{HeaderFields}
+use Rattle.symbols.specs.Pair.{firstPosition}
+use Rattle.symbols.specs.Pattern.{isCoded}
 use Rattle.byte_layout.specs.Bytes.{complement, wordBytes}
 use Rattle.record_layout.specs.Records.{recordHead, recordBytes, sliceBody, sliceRecords, pairBytes, levelsBytes, blockBytes, headBytes, codeBytes, codesBytes, patternBytes, macroblockBody}
+use Rattle.bits.specs.Bits.{bitsOf, bits, leadingNumber, allZeros, bitsFrom}
 use Rattle.code_tables.specs.Code.{digitsOf, word, isPrefix, codeOf, fieldOf}
 use Rattle.code_tables.specs.AnnexB.{incrementWords, increments, incrementsAfterEscape, intraTypes, predictedTypes, bidirectionalTypes, typesOf, patterns, motionCodes, luminanceSizes, chrominanceSizes, sharedWords, firstCoefficients, nextCoefficients, byteWords, largePositive, largeNegative}
-use Rattle.coefficient_codes.specs.Coefficient.{signedOf, largeOf, levelOf, escapedOf, finishedOf, wordsOf, coefficientOf}
 use Rattle.codes.specs.Difference.{dcDifferenceOf}
 use Rattle.codes.specs.SliceStart.{startPrefix, sliceStartOf}
+use Rattle.coefficient_codes.specs.Coefficient.{signedOf, largeOf, levelOf, escapedOf, finishedOf, wordsOf, coefficientOf}
 use Rattle.slice_syntax.specs.Increment.{afterStuffing, amountOf, afterEscape, incrementAt}
 use Rattle.slice_syntax.specs.Vectors.{residualAt, motionAt, vectorAt, givenVectorAt}
 use Rattle.slice_syntax.specs.Blocks.{sizeWords, differenceAt, nextPairOf, pairsFrom, pairsAt, givenDifferenceAt, blockAt, givenBlockAt, blocksFrom}
 use Rattle.slice_syntax.specs.Macroblock.{scaleAt, headAt, vectorsAt, patternAt, residueAt, restAt, macroblockAt}
-use Rattle.slice_syntax.specs.Slice.{afterExtra, nextAt, macroblocksFrom, startAddress, sliceHeadOf, afterHeadAt, rawSliceOf}
+use Rattle.slice_syntax.specs.Slice.{afterExtra, nextAt, macroblocksFrom, startAddress, sliceHeadAt, afterHeadAt, rawSliceOf}
 use Rattle.raw_slice.specs.Answer.{Outcome, given, fitted, rawSliceOutcome}
 
 -- given numbers, bytes and a buffer, and what they come to: number, bytes written, byte, bit and buffer
@@ -88,5 +88,5 @@ expectations [] = []
 expectations (c ∷ cs) = c .expected ∷ expectations cs
 
 worked : outcomes cases ≡ expectations cases
-unfolding rawSliceOutcome headerWith legalHeader legalSize legalCodings need_else_then_ fitted rawSliceOf sliceHeadOf afterHeadAt sliceStartOf startPrefix tab bits bitsFrom bitsOf isPrefix codeOf fieldOf leadingNumber allZeros afterExtra nextAt macroblocksFrom startAddress incrementAt afterStuffing amountOf afterEscape increments incrementWords incrementsAfterEscape word digitsOf headAt typesOf intraTypes predictedTypes bidirectionalTypes scaleAt vectorsAt givenVectorAt vectorAt motionAt residualAt motionCodes restAt residueAt patternAt patterns blocksFrom givenBlockAt blockAt givenDifferenceAt isCoded firstPosition differenceAt sizeWords luminanceSizes chrominanceSizes dcDifferenceOf pairsAt pairsFrom nextPairOf wordsOf firstCoefficients nextCoefficients sharedWords coefficientOf finishedOf signedOf escapedOf levelOf largeOf largePositive largeNegative byteWords macroblockAt joined recordHead recordBytes sliceBody sliceRecords pairBytes levelsBytes blockBytes headBytes codeBytes codesBytes patternBytes macroblockBody complement wordBytes
+unfolding rawSliceOutcome headerWith legalHeader legalSize legalCodings need_else_then_ fitted rawSliceOf sliceHeadAt afterHeadAt sliceStartOf startPrefix tab bits bitsFrom bitsOf isPrefix codeOf fieldOf leadingNumber allZeros afterExtra nextAt macroblocksFrom startAddress incrementAt afterStuffing amountOf afterEscape increments incrementWords incrementsAfterEscape word digitsOf headAt typesOf intraTypes predictedTypes bidirectionalTypes scaleAt vectorsAt givenVectorAt vectorAt motionAt residualAt motionCodes restAt residueAt patternAt patterns blocksFrom givenBlockAt blockAt givenDifferenceAt isCoded firstPosition differenceAt sizeWords luminanceSizes chrominanceSizes dcDifferenceOf pairsAt pairsFrom nextPairOf wordsOf firstCoefficients nextCoefficients sharedWords coefficientOf finishedOf signedOf escapedOf levelOf largeOf largePositive largeNegative byteWords macroblockAt joined recordHead recordBytes sliceBody sliceRecords pairBytes levelsBytes blockBytes headBytes codeBytes codesBytes patternBytes macroblockBody complement wordBytes
 worked = refl

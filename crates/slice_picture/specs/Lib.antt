@@ -1,1 +1,3 @@
 pub mod Ended
+pub mod Framed
+pub mod Read

@@ -1,1 +1,1 @@
-// Laws of the entry that reads raw slices, and what the strict reader says of the records of an accepted one (proofs/). No code.
+// Laws of the entry that reads raw slices, and what the strict reader reads from their records (specs/) and says of them (proofs/). No code.

@@ -3,12 +3,12 @@ use mathlib.Core.List.{List, _++_}
 use mathlib.Core.Path.{_≡_}
 use Prim.Native.Nat.{ℕ, _+_}
 use lib.ListN.{length}
+use Rattle.symbols.specs.Parsed.{parsed, refused, All}
 use Rattle.symbols.specs.declared.vector_codes.VectorCode.{VectorCode}
-use Rattle.macroblock_symbols.specs.declared.vectors.Vectors.{Vectors}
+use Rattle.symbols.specs.declared.vector_codes.Vectors.{Vectors}
 use Rattle.byte_layout.specs.Laid.{laid, farthest}
 use Rattle.record_layout.specs.Records.{codeBytes, vectorsBytes, residueBytes}
-use Rattle.bits.specs.declared.Position.{Position}
-use Rattle.slice_syntax.specs.Read.{Read, read, refused}
+use Rattle.slice_syntax.specs.Read.{Read, stop}
 use Rattle.slice_syntax.specs.Macroblock.{HeadFields, ResidueFields, RestFields}
 use Rattle.slice_records.specs.declared.laying.Laying.{Laying}
 use Rattle.slice_records.specs.declared.laying.Laying.the-variants.{Done, Refused}
@@ -17,12 +17,12 @@ use Rattle.slice_records.specs.declared.head.Head.the-variants as Head
 
 -- the position after the part and the length of its bytes, or the refusal and its place
 abbrev pub layingOf : {A : Type 0} → (A → List ℕ) → Read A → Laying
-layingOf bytes (read a p) = Done p (length (bytes a))
-layingOf bytes (refused refusal p) = Refused refusal p
+layingOf bytes (parsed a p) = Done p (length (bytes a))
+layingOf bytes (refused (stop refusal p)) = Refused refusal p
 
 -- where the part is read, its bytes are laid from a place on. Of a part that is refused, nothing is said
-pub record LaidAt {A : Type 0} (bytes : A → List ℕ) (place : ℕ) (before after : List ℕ) (part : Read A) : Type 0 where
-  pub whole : (a : A) (p : Position) → part ≡ read a p → after ≡ laid place (bytes a) before
+abbrev pub LaidAt : {A : Type 0} → (A → List ℕ) → ℕ → List ℕ → List ℕ → Read A → Type 0
+LaidAt bytes place before after = All (λ a p. after ≡ laid place (bytes a) before)
 
 -- The farthest places of a macroblock's parts, whose record starts no farther than an offset past every buffer's end.
 -- Before what follows its head there are a length, a kind, a type, an increment and a scale: 7 bytes
@@ -63,5 +63,5 @@ abbrev pub restBytes : ℕ → RestFields → List ℕ
 restBytes flags rest = bothBytes flags (rest .vectors) ++ patternAndBlocks flags (rest .residue)
 
 abbrev pub headAnswer : Read HeadFields → Head
-headAnswer (read head p) = Head.Read (head .flags) (head .scale) p
-headAnswer (refused refusal p) = Head.Refused refusal p
+headAnswer (parsed head p) = Head.Read (head .flags) (head .scale) p
+headAnswer (refused (stop refusal p)) = Head.Refused refusal p

@@ -4,10 +4,10 @@ use bits::Position;
 use slice_syntax::difference::Difference;
 ghost use mathlib.Core.Path.{_≡_};
 ghost use Prim.Native.Nat.{_<_, _≤_};
-ghost use Rattle.bits.specs.Bits.{InBytes};
-ghost use Rattle.blocks.specs.Blocks.{isCoded};
-ghost use Rattle.code_tables.specs.Table.{codeTable};
+ghost use Rattle.symbols.specs.Pattern.{isCoded};
 ghost use Rattle.record_layout.specs.Records.{differenceBytes, blockBytes, blocksBytes};
+ghost use Rattle.bits.specs.Bits.{InBytes};
+ghost use Rattle.code_tables.specs.Table.{codeTable};
 ghost use Rattle.slice_syntax.specs.Blocks.{givenDifferenceAt, blockAt, givenBlockAt, blocksFrom};
 ghost use Rattle.slice_records.specs.Laying.{layingOf, LaidAt, farthestBlocks, farthestBlock};
 
@@ -79,7 +79,7 @@ fn lay_given_block(
     ensures { λ r. ⌜ r ≡ layingOf (blockBytes intra) (givenBlockAt (isCoded pattern block) intra block (now (bytes .entry)) at) ⌝ }
     ensures { λ _. ⌜ LaidAt (blockBytes intra) place (now (buffer .entry)) (now (buffer .exit)) (givenBlockAt (isCoded pattern block) intra block (now (bytes .entry)) at) ⌝ }
 {
-    if blocks::blocks::is_coded(pattern, block) {
+    if symbols::pattern::is_coded(pattern, block) {
         return lay_block(codes, bytes, at, intra, block, buffer, place);
     }
     Laying::Done(at, 0)

@@ -4,9 +4,9 @@ use bits::Position;
 use slice_syntax::coefficient::NextPair;
 ghost use mathlib.Core.Path.{_≡_};
 ghost use Prim.Native.Nat.{_≤_};
+ghost use Rattle.record_layout.specs.Records.{levelsBytes};
 ghost use Rattle.bits.specs.Bits.{InBytes};
 ghost use Rattle.code_tables.specs.Table.{codeTable};
-ghost use Rattle.record_layout.specs.Records.{levelsBytes};
 ghost use Rattle.slice_syntax.specs.Blocks.{pairsAt};
 ghost use Rattle.slice_records.specs.Laying.{layingOf, LaidAt, farthestPairs};
 
@@ -24,7 +24,7 @@ pub fn lay_pairs(
 {
     let mut at = from;
     let mut first = !intra;
-    let mut next = blocks::levels::first_position(intra);
+    let mut next = symbols::pair::first_position(intra);
     let mut count: u8 = 0;
     let mut end = place + 1;
     loop {

@@ -2,13 +2,13 @@
 use bits::Position;
 use coefficient_codes::coefficient::Coefficient;
 use refusals::Refusal;
+use symbols::pair::LAST_POSITION;
 ghost use mathlib.Core.Path.{_≡_};
 ghost use Prim.Native.Nat.{_≤_};
 ghost use Rattle.bits.specs.Bits.{InBytes};
 ghost use Rattle.code_tables.specs.Table.{codeTable};
 ghost use Rattle.slice_syntax.specs.Blocks.{nextPairAt};
-
-const LAST_POSITION: usize = 63;
+ghost use Rattle.slice_syntax.specs.Answers.{nextPairAnswer};
 
 pub enum NextPair {
     Pair(u8, i16, Position),
@@ -25,7 +25,7 @@ pub fn read_next_pair(
     next: usize,
 ) -> NextPair
     requires { ⌜ (now codes ≡ codeTable) × InBytes (now bytes) at × (next ≤ 64) ⌝ }
-    ensures { λ r. ⌜ r ≡ nextPairAt first next (now (bytes .entry)) at ⌝ }
+    ensures { λ r. ⌜ r ≡ nextPairAnswer (nextPairAt first next (now (bytes .entry)) at) ⌝ }
 {
     match coefficient_codes::coefficient::read_coefficient(codes, bytes, at, first) {
         Coefficient::Pair(run, level, length) => {

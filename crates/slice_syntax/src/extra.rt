@@ -3,10 +3,8 @@ use crate::step::Step;
 use bits::Position;
 use refusals::Refusal;
 ghost use mathlib.Core.Path.{_≡_};
-ghost use Prim.Native.Nat.{_+_};
-ghost use lib.ListN.{length};
-ghost use Rattle.bits.specs.Bits.{InBytes, bitsFrom};
-ghost use Rattle.slice_syntax.specs.Slice.{afterExtra};
+ghost use Rattle.bits.specs.Bits.{InBytes};
+ghost use Rattle.slice_syntax.specs.Slice.{extraAt};
 ghost use Rattle.slice_syntax.specs.Answers.{skippedOf};
 
 pub enum Skipped {
@@ -16,7 +14,7 @@ pub enum Skipped {
 
 pub fn skip_extra(bytes: &[u8], from: Position) -> Skipped
     requires { ⌜ InBytes (now bytes) from ⌝ }
-    ensures { λ r. ⌜ r ≡ skippedOf (afterExtra (1 + length (bitsFrom (now (bytes .entry)) from)) (now (bytes .entry)) from) ⌝ }
+    ensures { λ r. ⌜ r ≡ skippedOf (extraAt (now (bytes .entry)) from) ⌝ }
 {
     let mut at = from;
     loop {

@@ -3,11 +3,9 @@ use crate::step::Step;
 use bits::Position;
 use refusals::Refusal;
 ghost use mathlib.Core.Path.{_≡_};
-ghost use Prim.Native.Nat.{_+_};
-ghost use lib.ListN.{length};
-ghost use Rattle.bits.specs.Bits.{InBytes, bitsFrom};
+ghost use Rattle.bits.specs.Bits.{InBytes};
 ghost use Rattle.code_tables.specs.Table.{codeTable};
-ghost use Rattle.slice_syntax.specs.Increment.{afterStuffing, amountOf, afterEscape, incrementAt};
+ghost use Rattle.slice_syntax.specs.Increment.{firstCodeAt, amountOf, afterEscape, incrementAt};
 ghost use Rattle.slice_syntax.specs.Answers.{stepOf};
 
 // What the code tables have for these two.
@@ -20,7 +18,7 @@ const MOST: u16 = 396;
 // The first code that is no stuffing.
 fn after_stuffing(codes: &[u16; 4608], bytes: &[u8], from: Position) -> Step
     requires { ⌜ (now codes ≡ codeTable) × InBytes (now bytes) from ⌝ }
-    ensures { λ r. ⌜ r ≡ stepOf (afterStuffing (1 + length (bitsFrom (now (bytes .entry)) from)) (now (bytes .entry)) from) ⌝ }
+    ensures { λ r. ⌜ r ≡ stepOf (firstCodeAt (now (bytes .entry)) from) ⌝ }
 {
     let mut at = from;
     loop {

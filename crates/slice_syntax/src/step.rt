@@ -4,11 +4,10 @@ use code_tables::code::Code;
 use refusals::Refusal;
 ghost use mathlib.Core.Path.{_≡_};
 ghost use Prim.Native.Nat.{_<_, _≤_};
-ghost use Rattle.bits.specs.Bits.{InBytes, bitsFrom};
+ghost use Rattle.bits.specs.Bits.{InBytes};
 ghost use Rattle.code_tables.specs.Table.{codeTable};
 ghost use Rattle.code_tables.specs.AnnexB.{increments, incrementsAfterEscape, typesOf, patterns, motionCodes};
-ghost use Rattle.codes.specs.SliceStart.{sliceStartOf};
-ghost use Rattle.slice_syntax.specs.Slice.{firstBit};
+ghost use Rattle.slice_syntax.specs.Slice.{sliceStartAt, firstBit};
 ghost use Rattle.slice_syntax.specs.Read.{readCode, wordAt, fieldAt};
 ghost use Rattle.slice_syntax.specs.Blocks.{sizeWords};
 ghost use Rattle.slice_syntax.specs.Answers.{CodeFits, stepOf};
@@ -93,7 +92,7 @@ pub fn next_size(codes: &[u16; 4608], block: usize, bytes: &[u8], at: Position) 
 
 // The start code: its row.
 pub fn next_start(bytes: &[u8], height: u8) -> Step
-    ensures { λ r. ⌜ r ≡ stepOf (readCode (sliceStartOf height (bitsFrom (now (bytes .entry)) firstBit)) firstBit) ⌝ }
+    ensures { λ r. ⌜ r ≡ stepOf (sliceStartAt height (now (bytes .entry)) firstBit) ⌝ }
 {
     let first = Position { byte: 0, bit: 0 };
     step_over(

@@ -1,4 +1,3 @@
-pub mod Slice
+pub mod Size
+pub mod Header
 pub mod MacroblockType
-pub mod VectorCodes
-pub mod MacroblockHead

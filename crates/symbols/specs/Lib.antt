@@ -1,4 +1,11 @@
-pub mod Slice
+pub mod Guard
+pub mod Parsed
+pub mod Size
+pub mod Header
 pub mod MacroblockType
+pub mod Pattern
 pub mod VectorCodes
-pub mod MacroblockHead
+pub mod Pair
+pub mod Block
+pub mod Macroblock
+pub mod Slice

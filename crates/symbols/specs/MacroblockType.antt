@@ -3,31 +3,42 @@ use mathlib.Core.Bool.{Bool, false, cond, _||_}
 use mathlib.Core.List.{List, [], _∷_}
 use Prim.Native.Nat.{ℕ, _/_, _%_}
 use lib.Dec.{eqb}
-use Rattle.picture_header.specs.Header.{typeI, typeP}
+use Rattle.symbols.specs.Header.{typeI, typeP}
 
--- "Type is a sum of 1 scale given, 2 forward, 4 backward, 8 pattern, 16 intra": whether a part is in the sum
+-- "Type is a sum of 1 scale given, 2 forward, 4 backward, 8 pattern, 16 intra"
+abbrev pub scaleGiven : ℕ
+scaleGiven = 1
+
+abbrev pub forward : ℕ
+forward = 2
+
+abbrev pub backward : ℕ
+backward = 4
+
+abbrev pub pattern : ℕ
+pattern = 8
+
+abbrev pub intra : ℕ
+intra = 16
+
+-- whether a part is in the sum
 abbrev pub gives : ℕ → ℕ → Bool
 gives flags part = eqb (flags / part % 2) 1
 
 abbrev pub givesScale : ℕ → Bool
-givesScale flags = gives flags 1
+givesScale flags = gives flags scaleGiven
 
 abbrev pub givesForward : ℕ → Bool
-givesForward flags = gives flags 2
+givesForward flags = gives flags forward
 
 abbrev pub givesBackward : ℕ → Bool
-givesBackward flags = gives flags 4
+givesBackward flags = gives flags backward
 
 abbrev pub givesPattern : ℕ → Bool
-givesPattern flags = gives flags 8
+givesPattern flags = gives flags pattern
 
 abbrev pub isIntra : ℕ → Bool
-isIntra flags = gives flags 16
-
--- the pattern of the coded blocks, known from the type or read: "An intra macroblock has all six blocks"; another has those of its pattern, and none
--- where no pattern is given
-abbrev pub codedPattern : {A : Type 0} → ℕ → (ℕ → A) → A → A
-codedPattern flags known read = cond (isIntra flags) (known 63) (cond (givesPattern flags) read (known 0))
+isIntra flags = gives flags intra
 
 -- whether a number stands in a list
 abbrev pub among : ℕ → List ℕ → Bool

@@ -2,8 +2,8 @@
 ghost use mathlib.Core.Path.{_≡_};
 ghost use Prim.Native.Nat.{_<_};
 ghost use Rattle.symbols.specs.MacroblockType.{gives, legalType};
-use picture_header::header::I_PICTURE;
-use picture_header::header::P_PICTURE;
+use crate::header::I_PICTURE;
+use crate::header::P_PICTURE;
 
 // What a macroblock's type is the sum of.
 pub const SCALE_GIVEN: u8 = 1;

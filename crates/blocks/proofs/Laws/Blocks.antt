@@ -11,16 +11,18 @@ use Rattle.integers.specs.Bound.{Within, AllBetween}
 use Rattle.integers.proofs.Bound.{within-literal}
 use Rattle.integers.proofs.Difference.{le-of, of-le}
 use Rattle.integers.proofs.Limit.{range-between, between-within}
-use Rattle.coefficient.specs.Scaling.{intraDc}
 use Rattle.refusals.specs.declared.Refusal.the-variants.{DcCoefficient}
-use Rattle.parsed.specs.Parsed.{give}
-use Rattle.parsed.proofs.Parsed.{All, here, all-then, all-need, all-more, all-any}
+use Rattle.coefficient.specs.Scaling.{intraDc}
+use Rattle.symbols.specs.Parsed.{give}
+use Rattle.symbols.specs.Pair.{firstPosition}
+use Rattle.symbols.specs.Block.{Block, uncoded, coded}
+use Rattle.symbols.specs.Pattern.{isCoded}
+use Rattle.symbols.proofs.Parsed.{All, here, all-then, all-need, all-more, all-any}
 use Rattle.format3.specs.Field.{signedWord}
 use Rattle.pairs.specs.declared.BlockCoding.{BlockCoding}
-use Rattle.pairs.specs.Pairs.{firstPosition}
 use Rattle.pairs.proofs.Laws.Range.{zeros-between, block-between}
 use Rattle.blocks.specs.declared.dc.DcPasts.{DcPasts}
-use Rattle.blocks.specs.Blocks.{Block, uncoded, coded, legalDifference, legalDc, differenceOf, levelsOf, givenDifferenceOf, blockOf, pastOf, withPast, dcOf, pastsAfter, isCoded, givenBlockOf, blocksOf, LegalPasts}
+use Rattle.blocks.specs.Blocks.{legalDifference, legalDc, differenceOf, levelsOf, givenDifferenceOf, blockOf, pastOf, withPast, dcOf, pastsAfter, givenBlockOf, blocksOf, LegalPasts}
 use Rattle.blocks.specs.Coefficients.{coefficientsOf, coefficientsFrom, pastsThrough, InRange}
 
 pub difference-within : (difference : ℤ) → legalDifference difference ≡ true → Within 255 difference

@@ -1,7 +1,7 @@
 -- A loop over the six blocks, each of which is put into the array of 384, as the definitions take them. Assumes nothing.
 use mathlib.Core.Path.{_≡_, refl, sym, ap, subst, _∙_}
 use mathlib.Core.Bool.{Bool, true, false}
-use mathlib.Core.List.{List, [], _∷_, _++_, append-assoc, append-nil}
+use mathlib.Core.List.{List, [], _∷_, _++_, append-nil}
 use Prim.Native.Nat.{ℕ, zero, suc, _+_, _-_, _*_, _<_, _≤_}
 use native.Mathlib.Numerals.{sub-one}
 use native.Mathlib.Omega.{arith}
@@ -12,14 +12,16 @@ use Rattle.lists.proofs.Tab.{tab-ext, tab-self}
 use Rattle.lists.proofs.Scatter.{scatter-length, scatter-at, scatter-other}
 use Rattle.integers.specs.Bound.{at}
 use Rattle.refusals.specs.declared.Refusal.{Refusal}
-use Rattle.parsed.specs.Parsed.{Parsed, parsed, refused, bind, give, value, stopped, Finds}
-use Rattle.parsed.proofs.Parsed.{all-at, made-of, stopped-before}
+use Rattle.symbols.specs.Parsed.{parsed, refused, bind, give, value, stopped, Finds}
+use Rattle.symbols.specs.Pair.{firstPosition}
+use Rattle.symbols.specs.Block.{Block, uncoded, coded}
+use Rattle.symbols.specs.Pattern.{isCoded}
+use Rattle.symbols.proofs.Parsed.{all-at, after, nothing-after, after-after, made-of, stopped-before}
 use Rattle.pairs.specs.declared.BlockCoding.{BlockCoding}
-use Rattle.pairs.specs.Pairs.{firstPosition}
 use Rattle.pairs.specs.Coefficients.{Placed, placed, landed, dcAlone, blockCoefficients}
 use Rattle.blocks.specs.declared.dc.DcPasts.{DcPasts}
 use Rattle.blocks.specs.declared.blocks.BlocksCoding.{BlocksCoding}
-use Rattle.blocks.specs.Blocks.{Block, uncoded, coded, levelsOf, givenDifferenceOf, blockOf, pastOf, pastsWith, pastsAfter, isCoded, givenBlockOf, blocksOf, LegalPasts}
+use Rattle.blocks.specs.Blocks.{levelsOf, givenDifferenceOf, blockOf, pastOf, pastsWith, pastsAfter, givenBlockOf, blocksOf, LegalPasts}
 use Rattle.blocks.specs.Coefficients.{coefficientsOf, coefficientsFrom, pastsThrough}
 use Rattle.blocks.specs.Stored.{sixBlocks, blockIn, putBlock, codingOf, readDcOf, landingLevelsOf, Progress, stored, storingOf, decodingOf}
 use Rattle.blocks.proofs.Laws.Blocks.{pasts-legal}
@@ -176,15 +178,11 @@ module _ (c : BlocksCoding) (matrix : List ℕ) (start : Progress) (body : List 
     pub blocks : List Block
     pub count : length blocks ≡ block
     pub holds : s ≡ storedThrough c matrix 0 start blocks
-    pub goes-on : blocksOf (c .intra) (c .pattern) 6 (start .pasts) 0 body ≡ bind (blocksOf (c .intra) (c .pattern) (6 - block) (s .pasts) block (drop at body)) (λ more. give (blocks ++ more))
+    pub goes-on : blocksOf (c .intra) (c .pattern) 6 (start .pasts) 0 body ≡ after blocks (blocksOf (c .intra) (c .pattern) (6 - block) (s .pasts) block (drop at body))
 
   pub at-start : LegalPasts (start .pasts) → SoFar 0 0 start
   unfolding storedThrough
-  at-start p = record { below = omega arith; inside = omega arith; legal = p; blocks = []; count = refl; holds = refl; goes-on = whole (blocksOf (c .intra) (c .pattern) 6 (start .pasts) 0 body) }
-    where
-      whole : (x : Parsed (List Block)) → x ≡ bind x (λ more. give ([] ++ more))
-      whole (parsed blocks rest) = refl
-      whole (refused refusal) = refl
+  at-start p = record { below = omega arith; inside = omega arith; legal = p; blocks = []; count = refl; holds = refl; goes-on = sym (nothing-after (blocksOf (c .intra) (c .pattern) 6 (start .pasts) 0 body)) }
 
   module _ {block at : ℕ} {s : Progress} (p : SoFar block at s) where
     pub ends : 6 ≤ block → start .coefficients ≡ replicate 384 (pos 0) → Finds (decodingOf c matrix (start .pasts)) body (value (record { pasts = s .pasts; coefficients = sixBlocks (s .coefficients) }) at)
@@ -216,9 +214,5 @@ module _ (c : BlocksCoding) (matrix : List ℕ) (start : Progress) (body : List 
             blocks = p .blocks ++ (b .source ∷ []);
             count = simp length-append (omega (arith, p .count));
             holds = sym (b .is) ∙ ap (λ (t : Progress). stored c matrix block t (b .source)) (p .holds) ∙ sym (through-more c matrix 0 start (p .blocks) (b .source) block (omega (arith, p .count)));
-            goes-on = rw (p .goes-on, one-read (c .intra) (c .pattern) (6 - block) block (s .pasts) (drop at body) some read, drop-drop n at body, less, pasts) (more (b .source) (blocksOf (c .intra) (c .pattern) (6 - (block + 1)) (next .pasts) (block + 1) (drop (at + n) body)));
+            goes-on = rw (p .goes-on, one-read (c .intra) (c .pattern) (6 - block) block (s .pasts) (drop at body) some read, drop-drop n at body, less, pasts) (after-after (p .blocks) (b .source ∷ []) (blocksOf (c .intra) (c .pattern) (6 - (block + 1)) (next .pasts) (block + 1) (drop (at + n) body)));
           }
-        where
-          more : (b : Block) (x : Parsed (List Block)) → bind (bind x (λ blocks. give (b ∷ blocks))) (λ rest. give (p .blocks ++ rest)) ≡ bind x (λ rest. give ((p .blocks ++ (b ∷ [])) ++ rest))
-          more b (parsed blocks rest) = rw append-assoc
-          more b (refused refusal) = refl

@@ -1,17 +1,23 @@
--- What is known of a coefficient that was read: its run is below 64, and its length at most 28 and no more than the bits left. Assumes nothing.
+-- What is known of a coefficient that was read: its run is below 64, its level fits, and its length at most 28 and no more than the bits left. Assumes nothing.
 use mathlib.Core.Path.{_≡_, refl}
 use mathlib.Core.Bool.{Bool, true, false, cond}
 use mathlib.Core.List.{List}
-use Prim.Native.Nat.{ℕ, _+_, _-_, _<_, _≤_}
+use Prim.Native.Nat.{ℕ, _+_, _-_, _%_, _<_, _≤_}
 use native.Mathlib.Omega.{arith}
-use lib.Dec.{T, eqb, leb, leb→le}
+use lib.Dec.{T, eqb, ltb, leb, leb→le}
+use lib.IntN.{ℤ, pos, negℤ, _-ℤ_}
 use lib.ListN.{length, drop, length-drop}
 use borrow.Author.Tests.{eqb-true}
+use Rattle.lists.specs.Tab.{tab}
+use Rattle.integers.specs.Bound.{Within}
+use Rattle.integers.proofs.Bound.{abs-le, within-cond}
+use Rattle.integers.proofs.Difference.{parts-add, parts-neg}
+use Rattle.bits.specs.Bits.{bitsOf}
 use Rattle.bits.proofs.Number.{Binary, binary-drop}
 use Rattle.code_tables.specs.declared.code.Code.{Code}
 use Rattle.code_tables.specs.declared.code.Code.the-variants as C
 use Rattle.code_tables.specs.Code.{Word, codeOf, fieldOf}
-use Rattle.code_tables.specs.AnnexB.{coefficientEscape, endOfBlock, firstCoefficients, nextCoefficients, largePositive, largeNegative}
+use Rattle.code_tables.specs.AnnexB.{coefficientEscape, endOfBlock, firstCoefficients, nextCoefficients, byteWords, largePositive, largeNegative}
 use Rattle.code_tables.proofs.Laws.Prefix.{everyWord, noLonger, code-inside, code-tested}
 use Rattle.code_tables.proofs.Laws.Table.{sized, row-sized, sized-length, sized-value}
 use Rattle.coefficient_codes.specs.declared.coefficient.Coefficient.{Coefficient}
@@ -22,8 +28,9 @@ use Rattle.coefficient_codes.proofs.Laws.Coefficient.{escape-length, es
 use Rattle.coefficient_codes.proofs.Laws.CoefficientRest.{positive-eight, negative-eight, first-sized, first-escapes}
 
 -- a coefficient that ends within m bits
-pub record PairRead (m run n : ℕ) : Type 0 where
+pub record PairRead (m run : ℕ) (level : ℤ) (n : ℕ) : Type 0 where
   pub near : run < 64
+  pub small : Within 256 level
   pub few : n ≤ 28
   pub inside : n ≤ m
 
@@ -32,7 +39,7 @@ pub record EndRead (m n : ℕ) : Type 0 where
   pub inside : n ≤ m
 
 abbrev pub Sound : ℕ → Coefficient → Type 0
-Sound m (Pair run level n) = PairRead m run n
+Sound m (Pair run level n) = PairRead m run level n
 Sound m (EndOfBlock n) = EndRead m n
 Sound m NoCode = Unit {0}
 Sound m Short = Unit {0}
@@ -46,15 +53,43 @@ pick-sound : (m : ℕ) (t : Bool) (x y : Coefficient) → (t ≡ true → Sound 
 pick-sound m true x y p q = p refl
 pick-sound m false x y p q = q refl
 
+-- ---- levels
+below-within : (v : ℕ) → v ≤ 256 → Within 256 (pos v)
+below-within v h = record { within = h }
+
+-- the difference of two numbers
+pub less-within : {most : ℕ} (v w : ℕ) → v ≤ most → w ≤ most → Within most (pos v -ℤ pos w)
+less-within v w h k =
+    let sum = parts-add (pos v) (negℤ (pos w)) in
+    let neg = parts-neg (pos w) in
+    record { within = abs-le (pos v -ℤ pos w) (omega (arith, sum, neg)) (omega (arith, sum, neg)) }
+
+-- a level's second eight bits
+abbrev byteValues : List Word → Bool
+byteValues = everyWord (λ v n. leb v 255)
+
+positive-bytes : T (byteValues largePositive)
+unfolding everyWord byteWords largePositive tab bitsOf
+positive-bytes = tt
+
+negative-bytes : T (byteValues largeNegative)
+unfolding everyWord byteWords largeNegative tab bitsOf
+negative-bytes = tt
+
 -- after n bits, with l the bits left of m
 module _ (m n : ℕ) {l : List ℕ} (p : Binary l) (left : n + length l ≤ m) where
   signed-sound : (v : ℕ) → v < 2048 → n ≤ 16 → Sound m (signedOf v n l)
   unfolding signedOf
-  signed-sound v s h = after-sound m (fieldOf 1 l) l _ (λ x k e. let r = field-read 1 x k p e in record { near = omega arith; few = omega (arith, r .long); inside = omega (arith, r .long, r .inside) })
+  signed-sound v s h = after-sound m (fieldOf 1 l) l _ (λ x k e. let r = field-read 1 x k p e in record { near = omega arith; small = within-cond (eqb x 0) (below-within (v % 64) (omega arith)) (less-within 0 (v % 64) (omega arith) (omega arith)); few = omega (arith, r .long); inside = omega (arith, r .long, r .inside) })
 
-  large-sound : (words : List Word) (less run : ℕ) → T (noLonger 8 words) → run < 64 → n ≤ 20 → Sound m (largeOf words less run n l)
+  large-sound : (words : List Word) (less run : ℕ) → T (noLonger 8 words) → T (byteValues words) → less ≤ 256 → run < 64 → n ≤ 20 → Sound m (largeOf words less run n l)
   unfolding largeOf
-  large-sound words less run t s h = after-sound m (codeOf words l) l _ (λ x k e. let c = code-inside words l x k e in let d = leb→le k 8 (code-tested (λ v n. leb n 8) words l x k t e) in record { near = s; few = omega arith; inside = omega arith })
+  large-sound words less run t u below s h =
+      after-sound m (codeOf words l) l _ (λ x k e.
+      let c = code-inside words l x k e in
+      let d = leb→le k 8 (code-tested (λ v n. leb n 8) words l x k t e) in
+      let v = leb→le x 255 (code-tested (λ v n. leb v 255) words l x k u e) in
+      record { near = s; small = less-within x less (omega arith) below; few = omega arith; inside = omega arith })
 
 level-sound : (m n run : ℕ) {l : List ℕ} → Binary l → n + length l ≤ m → run < 64 → n ≤ 12 → Sound m (levelOf run n l)
 unfolding levelOf
@@ -64,10 +99,15 @@ level-sound m n run {l} p left s h =
     let on : n + k + length (drop k l) ≤ m = rw length-drop (omega (arith, r .long, r .inside)) in
     let at : n + k ≤ 20 = omega (arith, r .long) in
     pick-sound m (eqb x 0) _ _
-    (λ t. large-sound m (n + k) (binary-drop k p) on largePositive 0 run positive-eight s at)
+    (λ t. large-sound m (n + k) (binary-drop k p) on largePositive 0 run positive-eight positive-bytes (omega arith) s at)
     (λ t. pick-sound m (eqb x 128) _ _
-    (λ u. large-sound m (n + k) (binary-drop k p) on largeNegative 256 run negative-eight s at)
-    (λ u. record { near = s; few = omega arith; inside = omega (arith, r .long, r .inside) })))
+    (λ u. large-sound m (n + k) (binary-drop k p) on largeNegative 256 run negative-eight negative-bytes (omega arith) s at)
+    (λ u. record {
+      near = s;
+      small = within-cond (ltb x 128) (below-within x (omega (arith, r .small))) (less-within x 256 (omega (arith, r .small)) (omega arith));
+      few = omega arith;
+      inside = omega (arith, r .long, r .inside);
+    })))
 
 escaped-sound : (m n : ℕ) {l : List ℕ} → Binary l → n + length l ≤ m → n ≤ 6 → Sound m (escapedOf n l)
 unfolding escapedOf

@@ -12,7 +12,7 @@ use lib.Seq.{take-all, drop-length}
 use mir.Syntax.{w16}
 use mir.Val.{SFits}
 use Rattle.integers.proofs.Difference.{up, dn, same-of, parts-add, parts-neg}
-use Rattle.parsed.specs.Parsed.{value, stopped, Finds}
+use Rattle.symbols.specs.Parsed.{value, stopped, Finds}
 use Rattle.format3.specs.Field.{notInside, bigEndian, twosComplement, byte, word}
 
 pub byte-short : (l : List ℕ) → length l < 1 → Finds byte l (stopped notInside)

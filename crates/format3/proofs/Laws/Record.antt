@@ -8,7 +8,7 @@ use lib.Dec.{leb}
 use lib.ListN.{length}
 use borrow.Author.Tests.{le-leb, lt-leb, leb-true}
 use Rattle.refusals.specs.declared.Refusal.{Refusal}
-use Rattle.parsed.proofs.Guard.{need-all}
+use Rattle.symbols.proofs.Guard.{need-all}
 use Rattle.format3.specs.declared.record.Record.{Record}
 use Rattle.format3.specs.declared.record.Record.the-variants.{Refused}
 use Rattle.format3.specs.Record.{recordOf, startOf, bodyLengthOf}

@@ -11,26 +11,29 @@ use lib.Dec.{leb, ltb}
 use lib.ListN.{length, drop, replicate, length-drop, drop-of-length-le}
 use Rattle.refusals.specs.declared.Refusal.{Refusal}
 use Rattle.refusals.specs.declared.Refusal.the-variants.{BodyLength}
-use Rattle.parsed.specs.Parsed.{Parsed, Parser, parsed, refused, bind, give, value, stopped, Finds}
-use Rattle.parsed.proofs.Guard.{both}
-use Rattle.parsed.proofs.Parsed.{All, here, none, all-then, made-of, stopped-before}
+use Rattle.symbols.specs.Parsed.{Parsed, Parser, parsed, refused, bind, give, value, stopped, Finds}
+use Rattle.symbols.specs.MacroblockType.{givesScale, isIntra, legalType}
+use Rattle.symbols.specs.Block.{Block, uncoded}
+use Rattle.symbols.specs.Pattern.{isCoded}
+use Rattle.symbols.specs.declared.macroblock.MacroblockSymbols.{MacroblockSymbols}
+use Rattle.symbols.specs.Macroblock.{Macroblock}
+use Rattle.symbols.proofs.Guard.{both}
+use Rattle.symbols.proofs.Parsed.{All, here, none, all-then, made-of, stopped-before}
 use Rattle.matrices.specs.Matrix.{matrixFor}
 use Rattle.matrices.specs.declared.Matrices.{Matrices}
-use Rattle.symbols.specs.declared.macroblock_head.HeadContext.{HeadContext}
-use Rattle.symbols.specs.MacroblockType.{givesScale, isIntra, legalType}
-use Rattle.symbols.specs.MacroblockHead.{mustFollow, legalIncrement}
-use Rattle.symbols.specs.Slice.{legalScale}
-use Rattle.symbols.proofs.Laws.MacroblockHead.{head-legal}
 use Rattle.blocks.specs.declared.dc.DcPasts.{DcPasts}
 use Rattle.blocks.specs.declared.blocks.BlocksCoding.{BlocksCoding}
-use Rattle.blocks.specs.Blocks.{Block, uncoded, legalDc, isCoded, blocksOf, sixBlocksOf, LegalPasts}
+use Rattle.blocks.specs.Blocks.{legalDc, blocksOf, sixBlocksOf, LegalPasts}
 use Rattle.blocks.specs.Stored.{Decoded, decodedOf, decodingOf}
 use Rattle.blocks.specs.Coefficients.{pastsThrough, InRange}
 use Rattle.blocks.proofs.Laws.Blocks.{LegalBlocks, blocks-legal, through-legal, in-range}
+use Rattle.macroblock_symbols.specs.declared.macroblock_head.HeadContext.{HeadContext}
+use Rattle.macroblock_symbols.specs.MacroblockHead.{mustFollow, legalIncrement}
+use Rattle.macroblock_symbols.specs.Slice.{legalScale}
 use Rattle.macroblock_symbols.specs.declared.MacroblockContext.{MacroblockContext}
-use Rattle.macroblock_symbols.specs.declared.MacroblockSymbols.{MacroblockSymbols}
-use Rattle.macroblock_symbols.specs.Macroblock.{Macroblock, codedPatternOf, symbolsOf, resetPasts, startingPasts, atEnd, wholeBlocksOf, macroblockOf}
+use Rattle.macroblock_symbols.specs.Macroblock.{codedPatternOf, symbolsOf, resetPasts, startingPasts, atEnd, wholeBlocksOf, macroblockOf}
 use Rattle.macroblock_symbols.specs.Decoding.{scaleAfter, blockCoding, macroblockCoefficients, pastsLeft, decoded, decodingBlocksOf}
+use Rattle.macroblock_symbols.proofs.Laws.MacroblockHead.{head-legal}
 use Rattle.macroblock_symbols.proofs.Laws.Vectors.{CodesKnown, vectors-known}
 
 -- ---- the symbols before the blocks

@@ -6,13 +6,14 @@ use Prim.Native.Nat.{ℕ, _≤_, _<_}
 use Rattle.integers.specs.Bound.{Within}
 use Rattle.motion.specs.Vector.{codeInRange, residualInRange}
 use Rattle.motion.proofs.VectorLaws.{code-known, residual-known}
-use Rattle.parsed.proofs.Parsed.{All, here, all-then, all-more}
 use Rattle.symbols.specs.declared.vector_codes.VectorCode.{VectorCode}
 use Rattle.symbols.specs.declared.vector_codes.VectorCodes.{VectorCodes}
 use Rattle.symbols.specs.MacroblockType.{givesForward, givesBackward}
-use Rattle.symbols.proofs.Laws.VectorCodes.{LegalCode, codes-legal}
-use Rattle.macroblock_symbols.specs.declared.vectors.Vectors.{Vectors}
-use Rattle.macroblock_symbols.specs.Vectors.{noCode, givenCodesOf, vectorsOf}
+use Rattle.symbols.specs.declared.vector_codes.Vectors.{Vectors}
+use Rattle.symbols.specs.VectorCodes.{noCode}
+use Rattle.symbols.proofs.Parsed.{All, here, all-then, all-more}
+use Rattle.macroblock_symbols.specs.Vectors.{givenCodesOf, vectorsOf}
+use Rattle.macroblock_symbols.proofs.Laws.VectorCodes.{LegalCode, codes-legal}
 
 -- a code is -16..16, and its residual is below f, where f is not 0
 pub record CodeKnown (f : ℕ) (c : VectorCode) : Type 0 where

@@ -1,8 +1,8 @@
 -- `read_pattern` meets its contract: its test is that of `patternOf`. Assumes nothing.
 use borrow.Author.Needs.{needs}
 use borrow.Author.Tests.{not-true, not-false}
-use Rattle.parsed.specs.Guard.{need_else_then_}
-use Rattle.parsed.specs.Parsed.{value, Finds}
+use Rattle.symbols.specs.Guard.{need_else_then_}
+use Rattle.symbols.specs.Parsed.{value, Finds}
 use Rattle.format3.specs.Field.{byte}
 use Rattle.macroblock_symbols.specs.Macroblock.{patternOf}
 use Rattle.macroblock_symbols.proofs.read_pattern.Statement.{statement}

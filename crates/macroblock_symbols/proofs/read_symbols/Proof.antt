@@ -4,10 +4,10 @@ use Prim.Native.Nat.{ℕ, _+_, _≤_}
 use native.Mathlib.Omega.{arith}
 use borrow.Author.Needs.{needs}
 use lib.ListN.{length, drop, length-drop}
-use Rattle.parsed.specs.Parsed.{value, Finds}
-use Rattle.parsed.proofs.Parsed.{second-finds, last-finds}
+use Rattle.symbols.specs.Parsed.{value, Finds}
+use Rattle.symbols.proofs.Parsed.{second-finds, last-finds}
 use Rattle.format3.proofs.Laws.Field.{rest-from}
-use Rattle.symbols.specs.MacroblockHead.{headOf}
+use Rattle.macroblock_symbols.specs.MacroblockHead.{headOf}
 use Rattle.macroblock_symbols.specs.Vectors.{vectorsOf}
 use Rattle.macroblock_symbols.specs.Macroblock.{codedPatternOf, symbolsOf}
 use Rattle.macroblock_symbols.proofs.read_symbols.Statement.{statement}

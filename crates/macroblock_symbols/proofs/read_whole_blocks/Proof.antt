@@ -1,8 +1,8 @@
 -- `read_whole_blocks` meets its contract: the six blocks, with the matrix of the macroblock's kind, and then no byte. Assumes nothing.
 use borrow.Author.Needs.{needs}
-use Rattle.parsed.specs.Parsed.{value, Finds}
-use Rattle.blocks.specs.Stored.{sixBlocks, decodedFound}
+use Rattle.symbols.specs.Parsed.{value, Finds}
 use Rattle.matrices.specs.declared.Matrices.{Matrices}
+use Rattle.blocks.specs.Stored.{sixBlocks, decodedFound}
 use Rattle.macroblock_symbols.proofs.Laws.Macroblock.{six, six-stop, bytes-left, no-byte-left}
 use Rattle.macroblock_symbols.proofs.read_whole_blocks.Statement.{statement}
 use Rattle.macroblock_symbols.proofs.read_whole_blocks.Tie as tie

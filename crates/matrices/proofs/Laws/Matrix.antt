@@ -8,9 +8,9 @@ use lib.Dec.{leb, eqb}
 use lib.ListN.{length, drop, length-drop}
 use borrow.Author.Tests.{le-leb, lt-leb, eqb-true}
 use Rattle.refusals.specs.declared.Refusal.the-variants.{BodyLength}
+use Rattle.symbols.proofs.Guard.{need-all}
 use Rattle.format3.specs.declared.verdict.Verdict.{Verdict}
 use Rattle.format3.specs.declared.verdict.Verdict.the-variants.{Passed, Refused}
-use Rattle.parsed.proofs.Guard.{need-all}
 use Rattle.matrices.specs.declared.Loaded.{Loaded}
 use Rattle.matrices.specs.Matrix.{verdictOf}
 

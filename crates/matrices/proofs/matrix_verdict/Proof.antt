@@ -7,7 +7,7 @@ use lib.Dec.{leb, eqb}
 use lib.ListN.{length}
 use borrow.Author.Tests.{le-leb, lt-leb, eq-eqb, ne-eqb, not-true, not-false}
 use borrow.Author.Needs.{needs}
-use Rattle.parsed.specs.Guard.{need_else_then_}
+use Rattle.symbols.specs.Guard.{need_else_then_}
 use Rattle.matrices.specs.Matrix.{whichOf, weightsOf, positive, loadedAlready, verdictOf}
 use Rattle.matrices.proofs.Laws.Matrix.{weights-long}
 use Rattle.matrices.proofs.matrix_verdict.Statement.{statement}

@@ -1,17 +1,18 @@
 -- A loop over the pairs of a block, which land in it one by one, as the definitions take them. Assumes nothing.
-use mathlib.Core.Path.{_≡_, refl, ap}
-use mathlib.Core.List.{List, [], _∷_, _++_, append-assoc, append-nil}
+use mathlib.Core.Path.{_≡_, refl, sym, ap}
+use mathlib.Core.List.{List, [], _∷_, _++_, append-nil}
 use Prim.Native.Nat.{ℕ, _+_, _-_, _<_, _≤_}
 use native.Mathlib.Omega.{arith}
 use lib.IntN.{ℤ}
 use lib.ListN.{length, drop, set, length-drop}
 use lib.Seq.{drop-drop}
 use Rattle.refusals.specs.declared.Refusal.{Refusal}
-use Rattle.parsed.specs.Parsed.{Parsed, parsed, refused, bind, give, value, stopped, Finds}
-use Rattle.parsed.proofs.Parsed.{all-at}
+use Rattle.symbols.specs.Parsed.{value, stopped, Finds}
+use Rattle.symbols.specs.declared.pair.Pair.{Pair}
+use Rattle.symbols.specs.Pair.{positionOf, afterPair}
+use Rattle.symbols.proofs.Parsed.{all-at, after, nothing-after, after-after}
 use Rattle.pairs.specs.declared.BlockCoding.{BlockCoding}
-use Rattle.pairs.specs.declared.Pair.{Pair}
-use Rattle.pairs.specs.Pairs.{pairOf, positionOf, afterPair, pairsOf}
+use Rattle.pairs.specs.Pairs.{pairOf, pairsOf}
 use Rattle.pairs.specs.Coefficients.{Placed, placed, placeOf, scaledLevel, landed, landingOf}
 use Rattle.pairs.proofs.Laws.Pairs.{pair-legal, none-left, one-refused, one-read}
 
@@ -48,16 +49,12 @@ module _ (c : BlockCoding) (matrix : List ℕ) where
     pub pairs : List Pair
     pub next-is : next ≡ afterPairs first pairs
     pub holds : now ≡ landed c matrix (placed first pairs) before
-    pub goes-on : pairsOf count first body ≡ bind (pairsOf left next (drop at body)) (λ more. give (pairs ++ more))
+    pub goes-on : pairsOf count first body ≡ after pairs (pairsOf left next (drop at body))
 
   module _ {count first : ℕ} {body : List ℕ} {before : List ℤ} where
     pub at-start : first ≤ 64 → SoFar count first body before before count first 0
     unfolding landed placed afterPairs
-    at-start h = record { near = h; inside = omega arith; pairs = []; next-is = refl; holds = refl; goes-on = whole (pairsOf count first body) }
-      where
-        whole : (x : Parsed (List Pair)) → x ≡ bind x (λ more. give ([] ++ more))
-        whole (parsed pairs rest) = refl
-        whole (refused refusal) = refl
+    at-start h = record { near = h; inside = omega arith; pairs = []; next-is = refl; holds = refl; goes-on = sym (nothing-after (pairsOf count first body)) }
 
     module _ {now : List ℤ} {left next at : ℕ} (p : SoFar count first body before now left next at) where
       pub stops : {refusal : Refusal} → 0 < left → Finds (pairOf next) (drop at body) (stopped refusal) → Finds (landingOf c matrix count first before) body (stopped refusal)
@@ -75,9 +72,5 @@ module _ (c : BlockCoding) (matrix : List ℕ) where
             pairs = p .pairs ++ (pair ∷ []);
             next-is = rw (after-more first (p .pairs) pair, ← p .next-is);
             holds = rw (placed-more first (p .pairs) pair, ← p .next-is, landed-more (placed first (p .pairs)) (at-position next pair) before, ← p .holds);
-            goes-on = rw (p .goes-on, one-read left next (drop at body) h (r .0), drop-drop n at body) (more (pairsOf (left - 1) (afterPair next pair) (drop (at + n) body)));
+            goes-on = rw (p .goes-on, one-read left next (drop at body) h (r .0), drop-drop n at body) (after-after (p .pairs) (pair ∷ []) (pairsOf (left - 1) (afterPair next pair) (drop (at + n) body)));
           }
-        where
-          more : (x : Parsed (List Pair)) → bind (bind x (λ pairs. give (pair ∷ pairs))) (λ rest. give (p .pairs ++ rest)) ≡ bind x (λ rest. give ((p .pairs ++ (pair ∷ [])) ++ rest))
-          more (parsed pairs rest) = rw append-assoc
-          more (refused refusal) = refl

@@ -14,14 +14,15 @@ use Rattle.integers.proofs.Bound.{within-literal}
 use Rattle.integers.proofs.Limit.{range-between, between-within}
 use Rattle.refusals.specs.declared.Refusal.{Refusal}
 use Rattle.refusals.specs.declared.Refusal.the-variants.{Coefficient}
-use Rattle.parsed.specs.Parsed.{parsed, refused, bind, give}
-use Rattle.parsed.proofs.Guard.{both}
-use Rattle.parsed.proofs.Parsed.{All, here, all-then, all-need, all-any}
+use Rattle.symbols.specs.Parsed.{parsed, refused, bind, give}
+use Rattle.symbols.specs.declared.pair.Pair.{Pair}
+use Rattle.symbols.specs.Pair.{positionOf, afterPair}
+use Rattle.symbols.proofs.Guard.{both}
+use Rattle.symbols.proofs.Parsed.{All, here, all-then, all-need, all-any}
 use Rattle.format3.specs.Field.{byte, signedWord}
-use Rattle.pairs.specs.declared.Pair.{Pair}
-use Rattle.pairs.specs.Pairs.{legalLevel, pairOf, positionOf, afterPair, pairsOf}
+use Rattle.pairs.specs.Pairs.{legalLevel, pairOf, pairsOf}
 
-level-within : (level : ℤ) → legalLevel level ≡ true → Within 255 level
+pub level-within : (level : ℤ) → legalLevel level ≡ true → Within 255 level
 unfolding legalLevel
 level-within level e =
     between-within (range-between (negsuc 254) (pos 255) level (both (inRange (negsuc 254) (pos 255) level) (not (eqZ level (pos 0))) e .0)) (within-literal tt) (within-literal tt)

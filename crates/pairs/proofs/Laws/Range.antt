@@ -6,8 +6,8 @@ use lib.ListN.{replicate}
 use Rattle.integers.specs.Bound.{Between, AllBetween, at}
 use Rattle.integers.proofs.Limit.{set-between}
 use Rattle.coefficient.proofs.Ranges.{coefficient-between}
+use Rattle.symbols.specs.declared.pair.Pair.{Pair}
 use Rattle.pairs.specs.declared.BlockCoding.{BlockCoding}
-use Rattle.pairs.specs.declared.Pair.{Pair}
 use Rattle.pairs.specs.Coefficients.{Placed, placed, landed, dcAlone, blockCoefficients}
 
 pub zeros-between : (n : ℕ) → AllBetween (negsuc 2047) (pos 2047) (replicate n (pos 0))

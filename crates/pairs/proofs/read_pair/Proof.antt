@@ -11,10 +11,10 @@ use lib.Seq.{drop-drop}
 use mir.Syntax.{w16}
 use mir.Val.{toZ, ofZ}
 use mir.ValLaws.{toZ-ofZ}
-use Rattle.parsed.specs.Guard.{need_else_then_}
-use Rattle.parsed.specs.Parsed.{value, Finds}
-use Rattle.format3.proofs.Laws.Field.{rest-from}
+use Rattle.symbols.specs.Guard.{need_else_then_}
+use Rattle.symbols.specs.Parsed.{value, Finds}
 use Rattle.format3.specs.Field.{byte, signedWord}
+use Rattle.format3.proofs.Laws.Field.{rest-from}
 use Rattle.pairs.specs.Pairs.{legalLevel, pairOf}
 use Rattle.pairs.proofs.read_pair.Statement.{statement}
 use Rattle.pairs.proofs.read_pair.Tie as tie

@@ -9,10 +9,10 @@ use mir.Syntax.{w16}
 use mir.Val.{toZ, ofZ}
 use Rattle.integers.proofs.Bound.{within-eq}
 use Rattle.integers.proofs.Machine.{returned}
-use Rattle.format3.proofs.Laws.Field.{rest-from}
-use Rattle.parsed.specs.Parsed.{value, Finds}
-use Rattle.parsed.proofs.Parsed.{all-at}
 use Rattle.tables.proofs.Zigzag.{place-below}
+use Rattle.symbols.specs.Parsed.{value, Finds}
+use Rattle.symbols.proofs.Parsed.{all-at}
+use Rattle.format3.proofs.Laws.Field.{rest-from}
 use Rattle.pairs.specs.Pairs.{pairOf, pairFound}
 use Rattle.pairs.proofs.Laws.Pairs.{Legal, pair-legal}
 use Rattle.pairs.proofs.Laws.Coefficients.{SoFar, at-start, stops, ends, one-more}

@@ -7,18 +7,19 @@ use lib.Dec.{leb, eqb}
 use lib.ListN.{length, getD, take, drop}
 use Rattle.refusals.specs.declared.Refusal.{Refusal}
 use Rattle.refusals.specs.declared.Refusal.the-variants.{FileEmpty, Version, FileEnds}
-use Rattle.parsed.proofs.Guard.{need-all}
-use Rattle.format3.proofs.Laws.Record.{Inside, inside}
-use Rattle.parsed.specs.Guard.{need_else_then_}
+use Rattle.symbols.specs.Guard.{need_else_then_}
+use Rattle.symbols.specs.declared.header.Header.{Header}
+use Rattle.symbols.specs.declared.header.HeaderAnswer.{HeaderAnswer}
+use Rattle.symbols.specs.declared.header.HeaderAnswer.the-variants as Answer
+use Rattle.symbols.specs.Header.{HeaderWithin}
+use Rattle.symbols.proofs.Guard.{need-all}
 use Rattle.format3.specs.Record.{recordOf}
 use Rattle.format3.specs.declared.record.Record.{Record}
 use Rattle.format3.specs.declared.record.Record.the-variants as Record
-use Rattle.picture_header.specs.declared.header.Header.{Header}
-use Rattle.picture_header.specs.declared.header.HeaderAnswer.{HeaderAnswer}
-use Rattle.picture_header.specs.declared.header.HeaderAnswer.the-variants as Answer
+use Rattle.format3.proofs.Laws.Record.{Inside, inside}
 use Rattle.picture_header.specs.declared.opening.Opened.{Opened}
 use Rattle.picture_header.specs.declared.opening.Opened.the-variants as Opened
-use Rattle.picture_header.specs.Header.{headerOf, HeaderWithin}
+use Rattle.picture_header.specs.Header.{headerOf}
 use Rattle.picture_header.specs.Opening.{version, firstHeader}
 use Rattle.picture_header.proofs.Laws.Header.{read-within}
 

@@ -10,20 +10,24 @@ use lib.Seq.{take-append-seam}
 use borrow.Author.Tests.{leb-true, le-leb, lt-leb}
 use Rattle.refusals.specs.declared.Refusal.{Refusal}
 use Rattle.refusals.specs.declared.Refusal.the-variants as Refusal
-use Rattle.parsed.specs.Guard.{need_else_then_}
-use Rattle.parsed.proofs.Guard.{both}
-use Rattle.picture_header.specs.Size.{legalSize}
-use Rattle.picture_header.specs.Header.{legalHeader, headerValue, headerWith}
-use Rattle.picture_header.specs.declared.header.Header.{Header}
-use Rattle.picture_header.specs.declared.header.HeaderFields.{HeaderFields}
-use Rattle.picture_header.specs.declared.header.HeaderAnswer.the-variants as Header
-use Rattle.picture_header.proofs.Laws.Header.{made-within}
-use Rattle.bits.specs.declared.Position.{Position}
+use Rattle.symbols.specs.Guard.{need_else_then_}
+use Rattle.symbols.specs.Parsed.{parsed, refused}
+use Rattle.symbols.specs.Size.{legalSize}
+use Rattle.symbols.specs.Header.{legalHeader, headerValue, headerWith}
+use Rattle.symbols.specs.declared.header.Header.{Header}
+use Rattle.symbols.specs.declared.header.HeaderFields.{HeaderFields}
+use Rattle.symbols.specs.declared.header.HeaderAnswer.the-variants as Header
+use Rattle.symbols.specs.Slice.{Slice}
+use Rattle.symbols.proofs.Guard.{both}
+use Rattle.symbols.proofs.Parsed.{all-at}
+use Rattle.symbols.proofs.Laws.Header.{made-within}
 use Rattle.byte_layout.specs.Laid.{farthest, offsetAfter}
 use Rattle.byte_layout.proofs.Laws.Laid.{laid-length, laid-whole}
+use Rattle.record_layout.specs.Records.{recordsOf}
+use Rattle.bits.specs.declared.Position.{Position}
 use Rattle.code_tables.proofs.Laws.Prefix.{case}
-use Rattle.slice_syntax.specs.Read.{Read, read, refused}
-use Rattle.slice_syntax.specs.Slice.{SliceFields, firstBit, recordsOf}
+use Rattle.slice_syntax.specs.Read.{Read, stop}
+use Rattle.slice_syntax.specs.Slice.{firstBit}
 use Rattle.slice_records.specs.Laying.{LaidAt}
 use Rattle.slice_records.specs.declared.laying.Laying.{Laying}
 use Rattle.slice_records.specs.declared.laying.Laying.the-variants.{Done, Refused}
@@ -31,21 +35,21 @@ use Rattle.raw_slice.specs.Laying.{endOf, withFront}
 use Rattle.raw_slice.specs.Answer.{refusedOutcome, acceptedWith, fitted, readOutcome}
 
 -- ---- what is measured
-pub record Measured (x : Read SliceFields) (p : Position) (n : ℕ) : Type 0 where
-  pub slice : SliceFields
-  pub is : x ≡ read slice p
+pub record Measured (x : Read Slice) (p : Position) (n : ℕ) : Type 0 where
+  pub slice : Slice
+  pub is : x ≡ parsed slice p
   pub size : n ≡ offsetAfter 0 (length (recordsOf slice))
 
-pub measured : (x : Read SliceFields) {r : Laying} {p : Position} {n : ℕ} → r ≡ endOf recordsOf 0 x → r ≡ Done p n → Measured x p n
-measured (read a q) {r} {p} {n} e f =
+pub measured : (x : Read Slice) {r : Laying} {p : Position} {n : ℕ} → r ≡ endOf recordsOf 0 x → r ≡ Done p n → Measured x p n
+measured (parsed a q) {r} {p} {n} e f =
     let end : q ≡ p = cc in
     let size : n ≡ offsetAfter 0 (length (recordsOf a)) = cc in
-    record { slice = a; is = ap (λ (y : Position). read a y) end; size = size }
-measured (refused refusal q) e f = let z : _≡_ {A = ℕ} 0 1 = cc in absurd (omega arith)
+    record { slice = a; is = ap (λ (y : Position). parsed a y) end; size = size }
+measured (refused (stop refusal q)) e f = let z : _≡_ {A = ℕ} 0 1 = cc in absurd (omega arith)
 
-pub unmeasured : (x : Read SliceFields) {r : Laying} {refusal : Refusal} {p : Position} → r ≡ endOf recordsOf 0 x → r ≡ Refused refusal p → x ≡ refused refusal p
-unmeasured (read a q) e f = let z : _≡_ {A = ℕ} 0 1 = cc in absurd (omega arith)
-unmeasured (refused refusal q) e f = cc
+pub unmeasured : (x : Read Slice) {r : Laying} {refusal : Refusal} {p : Position} → r ≡ endOf recordsOf 0 x → r ≡ Refused refusal p → x ≡ refused (stop refusal p)
+unmeasured (parsed a q) e f = let z : _≡_ {A = ℕ} 0 1 = cc in absurd (omega arith)
+unmeasured (refused (stop refusal q)) e f = cc
 
 past : {n k room : ℕ} → n ≡ offsetAfter 0 k → room < n → room < k
 unfolding offsetAfter
@@ -59,7 +63,7 @@ whole : {n k room : ℕ} → n ≡ offsetAfter 0 k → n ≤ room → room < far
 unfolding offsetAfter
 whole e h r = omega (arith, e)
 
-module _ (x : Read SliceFields) {p : Position} {n : ℕ} (m : Measured x p n) (buffer : List ℕ) (room : length buffer < farthest) where
+module _ (x : Read Slice) {p : Position} {n : ℕ} (m : Measured x p n) (buffer : List ℕ) (room : length buffer < farthest) where
   pub too-long : length buffer < n → readOutcome x buffer ≡ refusedOutcome Refusal.RecordsLength firstBit buffer
   unfolding fitted need_else_then_
   too-long h = rw (m .is, lt-leb (length (recordsOf (m .slice))) (length buffer) longer)
@@ -78,10 +82,10 @@ module _ (x : Read SliceFields) {p : Position} {n : ℕ} (m : Measured x p n) (b
   it-fits h = rw (m .is, le-leb (length (recordsOf (m .slice))) (length buffer) (short-enough h))
 
   pub laid-there : {after : List ℕ} → n ≤ length buffer → LaidAt recordsOf 0 buffer after x → after ≡ recordsOf (m .slice) ++ drop (length (recordsOf (m .slice))) buffer
-  laid-there h l = l .whole (m .slice) p (m .is) ∙ laid-whole (recordsOf (m .slice)) buffer (short-enough h)
+  laid-there h l = all-at l (m .is) ∙ laid-whole (recordsOf (m .slice)) buffer (short-enough h)
 
 -- where records lie whole at the start of some room, its front is the records
-pub front-there : (x : Read SliceFields) {p : Position} {n : ℕ} (m : Measured x p n) (before : List ℕ) {after : List ℕ} → length before < farthest → LaidAt recordsOf 0 before after x
+pub front-there : (x : Read Slice) {p : Position} {n : ℕ} (m : Measured x p n) (before : List ℕ) {after : List ℕ} → length before < farthest → LaidAt recordsOf 0 before after x
     → leb n (length after) ≡ true → (buffer : List ℕ) → withFront n after buffer ≡ recordsOf (m .slice) ++ drop (length (recordsOf (m .slice))) buffer
 unfolding withFront
 front-there x {p} {n} m before {after} room l t buffer = rw t (rw (size, there) (ap (λ (b : List ℕ). b ++ drop (length records) buffer) (take-append-seam records (drop (length records) before))))
@@ -90,7 +94,7 @@ front-there x {p} {n} m before {after} room l t buffer = rw t (rw (size, there) 
     records = recordsOf (m .slice)
 
     same : length after ≡ length before
-    same = ap length (l .whole (m .slice) p (m .is)) ∙ laid-length 0 records before
+    same = ap length (all-at l (m .is)) ∙ laid-length 0 records before
 
     fits : n ≤ length before
     fits = omega (arith, leb-true n (length after) t, same)

@@ -6,21 +6,22 @@ use Prim.Native.Nat.{ℕ, zero, suc, _+_, _-_, _<_, _≤_}
 use native.Mathlib.Omega.{arith}
 use lib.ListN.{length, length-append}
 use Rattle.lists.specs.Joined.{joined}
-use Rattle.refusals.specs.declared.Refusal.{Refusal}
-use Rattle.picture_header.specs.declared.header.Header.{Header}
-use Rattle.bits.specs.Bits.{InBytes, allZeros, bitsFrom}
-use Rattle.bits.specs.declared.Position.{Position}
-use Rattle.bits.proofs.Rest.{rest-length}
+use Rattle.symbols.specs.Parsed.{parsed, refused}
+use Rattle.symbols.specs.declared.header.Header.{Header}
+use Rattle.symbols.specs.Macroblock.{Macroblock}
+use Rattle.symbols.proofs.Parsed.{all-at, after, nothing-after, after-after}
 use Rattle.byte_layout.specs.Laid.{laid, farthest, offsetAfter}
 use Rattle.byte_layout.proofs.Laws.Laid.{laid-length, laid-farthest}
-use Rattle.macroblock_symbols.specs.Macroblock.{Macroblock}
 use Rattle.record_layout.specs.Records.{macroblockRecord}
 use Rattle.record_layout.proofs.Laws.Laying.{joined-append, laid-more}
-use Rattle.slice_syntax.specs.Read.{Read, read, refused}
+use Rattle.bits.specs.Bits.{offset, InBytes, allZeros, bitsFrom}
+use Rattle.bits.specs.declared.Position.{Position}
+use Rattle.bits.proofs.Rest.{rest-length}
+use Rattle.slice_syntax.specs.Read.{Stop, Read}
 use Rattle.slice_syntax.specs.Increment.{incrementAt}
 use Rattle.slice_syntax.specs.Slice.{nextAt, macroblocksFrom, macroblocksAt}
-use Rattle.slice_syntax.proofs.Laws.Read.{Ahead, reached, after, nothing-after, after-after}
-use Rattle.slice_syntax.proofs.Laws.Onward.{next-onward}
+use Rattle.slice_syntax.proofs.Laws.Read.{Ahead, standing}
+use Rattle.slice_syntax.proofs.Laws.Onward as Onward
 use Rattle.slice_records.specs.Laying.{LaidAt}
 use Rattle.slice_records.proofs.Laws.Laying.{Part}
 
@@ -70,31 +71,31 @@ module _ (bytes : List ℕ) (h : Header) (at : Position) where
     same = nothing-after (macroblocksAt h bytes at);
   }
 
-  from-end : (n : ℕ) → length (bitsFrom bytes at) < n → allZeros (bitsFrom bytes at) ≡ true → macroblocksFrom n h bytes at ≡ read [] at
+  from-end : (n : ℕ) → length (bitsFrom bytes at) < n → allZeros (bitsFrom bytes at) ≡ true → macroblocksFrom n h bytes at ≡ parsed [] at
   unfolding macroblocksFrom
   from-end zero k z = absurd (omega arith)
   from-end (suc n) k z = rw z
 
-  from-refused : (n : ℕ) {refusal : Refusal} {p : Position} → length (bitsFrom bytes at) < n → allZeros (bitsFrom bytes at) ≡ false → nextAt h bytes at ≡ refused refusal p
-      → macroblocksFrom n h bytes at ≡ refused refusal p
+  from-refused : (n : ℕ) {reason : Stop} → length (bitsFrom bytes at) < n → allZeros (bitsFrom bytes at) ≡ false → nextAt h bytes at ≡ refused reason
+      → macroblocksFrom n h bytes at ≡ refused reason
   unfolding macroblocksFrom
   from-refused zero k z e = absurd (omega arith)
   from-refused (suc n) k z e = rw (z, e)
 
-  from-read : (n : ℕ) {m : Macroblock} {p : Position} → allZeros (bitsFrom bytes at) ≡ false → nextAt h bytes at ≡ read m p
+  from-read : (n : ℕ) {m : Macroblock} {p : Position} → allZeros (bitsFrom bytes at) ≡ false → nextAt h bytes at ≡ parsed m p
       → macroblocksFrom (suc n) h bytes at ≡ after (m ∷ []) (macroblocksFrom n h bytes p)
   unfolding macroblocksFrom
   from-read n z e = rw (z, e)
 
   module _ {whole : Read (List Macroblock)} {place : ℕ} {before now : List ℕ} {end : ℕ} (s : Passed bytes h whole place before now at end) where
-    pub passed-end : allZeros (bitsFrom bytes at) ≡ true → whole ≡ read (s .some) at
-    passed-end z = sym (s .same) ∙ rw (from-end (s .fuel) (s .enough) z) (ap (λ (l : List Macroblock). read l at) (append-nil (s .some)))
+    pub passed-end : allZeros (bitsFrom bytes at) ≡ true → whole ≡ parsed (s .some) at
+    passed-end z = sym (s .same) ∙ rw (from-end (s .fuel) (s .enough) z) (ap (λ (l : List Macroblock). parsed l at) (append-nil (s .some)))
 
-    pub passed-refused : {refusal : Refusal} {p : Position} → allZeros (bitsFrom bytes at) ≡ false → nextAt h bytes at ≡ refused refusal p → whole ≡ refused refusal p
+    pub passed-refused : {reason : Stop} → allZeros (bitsFrom bytes at) ≡ false → nextAt h bytes at ≡ refused reason → whole ≡ refused reason
     passed-refused z e = sym (s .same) ∙ rw (from-refused (s .fuel) (s .enough) z e)
 
-    pub next-ahead : {m : Macroblock} {p : Position} → nextAt h bytes at ≡ read m p → Ahead bytes 1 at p
-    next-ahead e = reached (next-onward bytes h at (s .inside)) e
+    pub next-ahead : {m : Macroblock} {p : Position} → nextAt h bytes at ≡ parsed m p → Ahead bytes (1 + offset at) p
+    next-ahead e = all-at (Onward.next-ahead bytes (standing (s .inside)) h) e
 
     pub passed-more : {p : Position} {n : ℕ} {later : List ℕ} → length before ≤ farthest → allZeros (bitsFrom bytes at) ≡ false → (one : Part macroblockRecord (nextAt h bytes at) p n)
         → LaidAt macroblockRecord end now later (nextAt h bytes at) → Passed bytes h whole place before later p (offsetAfter end n)
@@ -110,7 +111,7 @@ module _ (bytes : List ℕ) (h : Header) (at : Position) where
       same = sym (after-after (s .some) (one .value ∷ []) (macroblocksFrom (s .fuel - 1) h bytes p)) ∙ rw (sym step) (s .same);
     }
       where
-        ahead : Ahead bytes 1 at p
+        ahead : Ahead bytes (1 + offset at) p
         ahead = next-ahead (one .is)
 
         single : records (one .value ∷ []) ≡ macroblockRecord (one .value)
@@ -126,7 +127,7 @@ module _ (bytes : List ℕ) (h : Header) (at : Position) where
         joined-there = rw (s .there) (laid-more macroblockRecord place (s .some) (one .value) before)
 
         there-now : later ≡ laid place (records (s .some ++ (one .value ∷ []))) before
-        there-now = f .whole (one .value) p (one .is) ∙ behind ∙ joined-there
+        there-now = all-at f (one .is) ∙ behind ∙ joined-there
 
         more-fuel : s .fuel ≡ suc (s .fuel - 1)
         more-fuel = omega (arith, s .enough)
@@ -135,6 +136,6 @@ module _ (bytes : List ℕ) (h : Header) (at : Position) where
         step = ap (λ (k : ℕ). macroblocksFrom k h bytes at) more-fuel ∙ from-read (s .fuel - 1) z (one .is)
 
 -- a macroblock whose increment is refused
-pub no-increment : (h : Header) (bytes : List ℕ) (at : Position) {refusal : Refusal} {p : Position} → incrementAt bytes at ≡ refused refusal p → nextAt h bytes at ≡ refused refusal p
+pub no-increment : (h : Header) (bytes : List ℕ) (at : Position) {reason : Stop} → incrementAt bytes at ≡ refused reason → nextAt h bytes at ≡ refused reason
 unfolding nextAt
 no-increment h bytes at e = rw e

@@ -5,9 +5,9 @@ use Prim.Native.Nat.{ℕ}
 use lib.IntN.{pos}
 use lib.ListN.{replicate}
 use Rattle.lists.specs.Joined.{joined}
-use Rattle.blocks.specs.Blocks.{Block, uncoded, coded}
-use Rattle.macroblock_symbols.specs.Vectors.{noCodes}
-use Rattle.macroblock_symbols.specs.Macroblock.{Macroblock}
+use Rattle.symbols.specs.Block.{Block, uncoded, coded}
+use Rattle.symbols.specs.VectorCodes.{noCodes}
+use Rattle.symbols.specs.Macroblock.{Macroblock}
 use Rattle.byte_layout.specs.Bytes.{complement, wordBytes}
 use Rattle.record_layout.specs.Records.{recordHead, recordBytes, sliceBody, sliceRecord, levelsBytes, blockBytes, headBytes, codeBytes, codesBytes, patternBytes, macroblockBody, macroblockRecord}
 

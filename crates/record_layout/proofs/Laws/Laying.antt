@@ -4,7 +4,7 @@ use mathlib.Core.Path.{_≡_, refl, sym}
 use Prim.Native.Nat.{ℕ, _+_}
 use lib.ListN.{length}
 use Rattle.lists.specs.Joined.{joined}
-use Rattle.pairs.specs.declared.Pair.{Pair}
+use Rattle.symbols.specs.declared.pair.Pair.{Pair}
 use Rattle.byte_layout.specs.Laid.{laid}
 use Rattle.byte_layout.specs.Bytes.{wordBytes}
 use Rattle.byte_layout.proofs.Laws.Laid.{laid-append, laid-before}

@@ -9,9 +9,9 @@ use lib.ListN.{length, length-append}
 use Rattle.lists.specs.Joined.{joined}
 use Rattle.symbols.specs.declared.vector_codes.VectorCodes.{VectorCodes}
 use Rattle.symbols.specs.MacroblockType.{givesScale, givesForward, givesBackward, givesPattern, isIntra}
-use Rattle.pairs.specs.declared.Pair.{Pair}
-use Rattle.blocks.specs.Blocks.{Block, uncoded, coded}
-use Rattle.macroblock_symbols.specs.Macroblock.{Macroblock}
+use Rattle.symbols.specs.declared.pair.Pair.{Pair}
+use Rattle.symbols.specs.Block.{Block, uncoded, coded}
+use Rattle.symbols.specs.Macroblock.{Macroblock}
 use Rattle.byte_layout.specs.Bytes.{wordBytes}
 use Rattle.record_layout.specs.Records.{recordHead, recordBytes, pairBytes, pairsBytes, levelsBytes, blockBytes, blocksBytes, headBytes, codeBytes, codesBytes, givenCodesBytes, patternBytes, macroblockBody}
 

@@ -6,28 +6,29 @@ use Prim.Native.Nat.{ℕ, zero, suc, _+_, _-_, _*_, _<_, _≤_}
 use native.Mathlib.Omega.{arith}
 use lib.ListN.{length, length-append}
 use Rattle.lists.specs.Joined.{joined}
-use Rattle.refusals.specs.declared.Refusal.{Refusal}
-use Rattle.bits.specs.Bits.{InBytes}
-use Rattle.bits.specs.declared.Position.{Position}
-use Rattle.blocks.specs.Blocks.{Block, isCoded}
+use Rattle.symbols.specs.Parsed.{parsed, refused}
+use Rattle.symbols.specs.Block.{Block}
+use Rattle.symbols.specs.Pattern.{isCoded}
+use Rattle.symbols.proofs.Parsed.{all-at, after, nothing-after, after-after}
 use Rattle.byte_layout.specs.Laid.{laid}
 use Rattle.byte_layout.proofs.Laws.Laid.{laid-length}
 use Rattle.record_layout.specs.Records.{blockBytes, blocksBytes}
 use Rattle.record_layout.proofs.Laws.Laying.{joined-append, laid-more}
 use Rattle.record_layout.proofs.Laws.Lengths.{block-short}
-use Rattle.slice_syntax.specs.Read.{Read, read, refused}
+use Rattle.bits.specs.Bits.{InBytes}
+use Rattle.bits.specs.declared.Position.{Position}
+use Rattle.slice_syntax.specs.Read.{Stop, Read}
 use Rattle.slice_syntax.specs.Blocks.{givenBlockAt, blocksFrom}
-use Rattle.slice_syntax.proofs.Laws.Read.{after, nothing-after, after-after}
 use Rattle.slice_records.specs.Laying.{layingOf, LaidAt}
 use Rattle.slice_records.specs.declared.laying.Laying.{Laying}
 use Rattle.slice_records.proofs.Laws.Laying.{Part}
-use Rattle.slice_records.proofs.Laws.Few.{of-read, given-few}
+use Rattle.slice_records.proofs.Laws.Few.{given-few}
 
 -- the same blocks, where it is known whether they are intra
-pub blocks-as : (bytes : List ℕ) (at : Position) (a b : Bool) (pattern : ℕ) {r : Laying} {place : ℕ} {before now : List ℕ} → a ≡ b
+pub blocks-as : (bytes : List ℕ) (at : Position) (a b : Bool) (pattern place : ℕ) (before : List ℕ) {r : Laying} {now : List ℕ} → a ≡ b
     → (r ≡ layingOf (blocksBytes a) (blocksFrom a pattern 6 0 bytes at)) × LaidAt (blocksBytes a) place before now (blocksFrom a pattern 6 0 bytes at)
     → (r ≡ layingOf (blocksBytes b) (blocksFrom b pattern 6 0 bytes at)) × LaidAt (blocksBytes b) place before now (blocksFrom b pattern 6 0 bytes at)
-blocks-as bytes at a b pattern {r} {place} {before} {now} e h =
+blocks-as bytes at a b pattern place before {r} {now} e h =
     subst (λ (x : Bool). (r ≡ layingOf (blocksBytes x) (blocksFrom x pattern 6 0 bytes at)) × LaidAt (blocksBytes x) place before now (blocksFrom x pattern 6 0 bytes at)) e h
 
 -- ---- the blocks so far: those that are laid, and what is still to be read behind them
@@ -58,28 +59,28 @@ module _ (bytes : List ℕ) (intra : Bool) (pattern : ℕ) (at : Position) where
   }
 
   module _ (block : ℕ) where
-    from-refused : (n : ℕ) {refusal : Refusal} {p : Position} → n + block ≡ 6 → block < 6 → givenBlockAt (isCoded pattern block) intra block bytes at ≡ refused refusal p
-        → blocksFrom intra pattern n block bytes at ≡ refused refusal p
+    from-refused : (n : ℕ) {reason : Stop} → n + block ≡ 6 → block < 6 → givenBlockAt (isCoded pattern block) intra block bytes at ≡ refused reason
+        → blocksFrom intra pattern n block bytes at ≡ refused reason
     unfolding blocksFrom
     from-refused zero h k e = absurd (omega arith)
     from-refused (suc n) h k e = rw e
 
-    from-read : (n : ℕ) {b : Block} {p : Position} → givenBlockAt (isCoded pattern block) intra block bytes at ≡ read b p
+    from-read : (n : ℕ) {b : Block} {p : Position} → givenBlockAt (isCoded pattern block) intra block bytes at ≡ parsed b p
         → blocksFrom intra pattern (suc n) block bytes at ≡ after (b ∷ []) (blocksFrom intra pattern n (block + 1) bytes p)
     unfolding blocksFrom
     from-read n e = rw e
 
-    from-end : (n : ℕ) → n + block ≡ 6 → 6 ≤ block → blocksFrom intra pattern n block bytes at ≡ read [] at
+    from-end : (n : ℕ) → n + block ≡ 6 → 6 ≤ block → blocksFrom intra pattern n block bytes at ≡ parsed [] at
     unfolding blocksFrom
     from-end zero h k = refl
     from-end (suc n) h k = absurd (omega arith)
 
     module _ {whole : Read (List Block)} {place : ℕ} {before now : List ℕ} {size : ℕ} (s : Passed bytes intra pattern whole place before now at size block) where
-      pub passed-refused : {refusal : Refusal} {p : Position} → block < 6 → givenBlockAt (isCoded pattern block) intra block bytes at ≡ refused refusal p → whole ≡ refused refusal p
+      pub passed-refused : {reason : Stop} → block < 6 → givenBlockAt (isCoded pattern block) intra block bytes at ≡ refused reason → whole ≡ refused reason
       passed-refused h e = sym (s .same) ∙ rw (from-refused (s .fuel) (s .left) h e)
 
-      pub passed-end : 6 ≤ block → whole ≡ read (s .blocks) at
-      passed-end h = sym (s .same) ∙ rw (from-end (s .fuel) (s .left) h) (ap (λ (l : List Block). read l at) (append-nil (s .blocks)))
+      pub passed-end : 6 ≤ block → whole ≡ parsed (s .blocks) at
+      passed-end h = sym (s .same) ∙ rw (from-end (s .fuel) (s .left) h) (ap (λ (l : List Block). parsed l at) (append-nil (s .blocks)))
 
       pub passed-more : {p : Position} {n : ℕ} {later : List ℕ} → block < 6 → (some : Part (blockBytes intra) (givenBlockAt (isCoded pattern block) intra block bytes at) p n)
           → LaidAt (blockBytes intra) (place + size) now later (givenBlockAt (isCoded pattern block) intra block bytes at) → InBytes bytes p
@@ -90,7 +91,7 @@ module _ (bytes : List ℕ) (intra : Bool) (pattern : ℕ) (at : Position) where
         fuel = s .fuel - 1;
         left = omega (arith, s .left);
         counted = rw (bytes-of, length-append (blocksBytes intra (s .blocks)) (blockBytes intra (some .value))) (omega (arith, s .counted, some .size));
-        few = omega (arith, s .few, some .size, block-short intra (some .value) (of-read (given-few (isCoded pattern block) intra block bytes at) (some .is)));
+        few = omega (arith, s .few, some .size, block-short intra (some .value) (all-at (given-few (isCoded pattern block) intra block bytes at) (some .is)));
         inside = within;
         there = there-now;
         long = ap length there-now ∙ laid-length place (blocksBytes intra (s .blocks ++ (some .value ∷ []))) before;
@@ -101,7 +102,7 @@ module _ (bytes : List ℕ) (intra : Bool) (pattern : ℕ) (at : Position) where
           bytes-of = rw (joined-append (blockBytes intra) (s .blocks) (some .value ∷ []), append-nil (blockBytes intra (some .value)))
 
           there-now : later ≡ laid place (blocksBytes intra (s .blocks ++ (some .value ∷ []))) before
-          there-now = f .whole (some .value) p (some .is) ∙ rw (s .there, s .counted) (laid-more (blockBytes intra) place (s .blocks) (some .value) before)
+          there-now = all-at f (some .is) ∙ rw (s .there, s .counted) (laid-more (blockBytes intra) place (s .blocks) (some .value) before)
 
           more-fuel : s .fuel ≡ suc (s .fuel - 1)
           more-fuel = omega (arith, s .left, h)

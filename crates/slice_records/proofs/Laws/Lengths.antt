@@ -7,19 +7,16 @@ use native.Mathlib.Omega.{arith}
 use lib.IntN.{ℤ}
 use lib.ListN.{length, length-append}
 use Rattle.symbols.specs.declared.vector_codes.VectorCode.{VectorCode}
-use Rattle.macroblock_symbols.specs.declared.vectors.Vectors.{Vectors}
+use Rattle.symbols.specs.declared.vector_codes.Vectors.{Vectors}
 use Rattle.symbols.specs.MacroblockType.{givesScale, givesForward, givesBackward, givesPattern, isIntra}
+use Rattle.symbols.proofs.Parsed.{All, here, all-cond, all-more}
 use Rattle.byte_layout.specs.Bytes.{wordBytes}
 use Rattle.record_layout.specs.Records.{codeBytes, givenCodesBytes, differenceBytes}
 use Rattle.record_layout.proofs.Laws.Lengths.{given-short}
-use Rattle.bits.specs.Bits.{bitsFrom}
 use Rattle.bits.specs.declared.Position.{Position}
-use Rattle.code_tables.specs.AnnexB.{patterns}
-use Rattle.code_tables.proofs.Laws.Prefix.{case}
 use Rattle.codes.proofs.Laws.Range.{pattern-read}
-use Rattle.slice_syntax.specs.Read.{read, wordAt, fieldAt}
 use Rattle.slice_syntax.specs.Macroblock.{scaleAt, patternAt}
-use Rattle.slice_syntax.proofs.Laws.Read.{word-below, field-below}
+use Rattle.slice_syntax.proofs.Laws.Read.{word-between, field-below}
 use Rattle.slice_records.specs.Laying.{componentBytes, bothBytes}
 
 pub component-length : (component : VectorCode) → length (componentBytes component) ≡ 2
@@ -41,19 +38,13 @@ difference-short true difference = omega arith
 difference-short false difference = omega arith
 
 -- ---- values that are read fit a byte
-pub scale-small : (flags : ℕ) (bytes : List ℕ) (at : Position) {v : ℕ} {p : Position} → scaleAt flags bytes at ≡ read v p → v < 256
+pub scale-small : (flags : ℕ) (bytes : List ℕ) (at : Position) → All (λ v p. v < 256) (scaleAt flags bytes at)
 unfolding scaleAt
-scale-small flags bytes at {v} {p} e =
-    case (givesScale flags)
-    (λ g. let given : fieldAt 5 bytes at ≡ read v p = rw g at e in omega (arith, field-below bytes at 5 given))
-    (λ g. let none : v ≡ 0 = cc (rw g at e) in omega (arith, none))
+scale-small flags bytes at = all-cond (givesScale flags) _ _ _ (λ t. all-more (field-below bytes at 5) λ v p h. omega (arith, h)) (λ t. here (omega arith))
 
-pub pattern-small : (flags : ℕ) (bytes : List ℕ) (at : Position) {v : ℕ} {p : Position} → patternAt flags bytes at ≡ read v p → v ≤ 63
+pub pattern-small : (flags : ℕ) (bytes : List ℕ) (at : Position) → All (λ v p. v ≤ 63) (patternAt flags bytes at)
 unfolding patternAt
-pattern-small flags bytes at {v} {p} e =
-    case (isIntra flags)
-    (λ i. let all : v ≡ 63 = cc (rw i at e) in omega (arith, all))
-    (λ i.
-    case (givesPattern flags)
-    (λ g. let given : wordAt patterns bytes at ≡ read v p = rw (i, g) at e in word-below bytes at patterns (pattern-read (bitsFrom bytes at)) given)
-    (λ g. let none : v ≡ 0 = cc (rw (i, g) at e) in omega (arith, none)))
+pattern-small flags bytes at =
+    all-cond (isIntra flags) _ _ _
+    (λ t. here (omega arith))
+    (λ t. all-cond (givesPattern flags) _ _ _ (λ t. all-more (word-between bytes at _ pattern-read) λ v p h. h .1) (λ t. here (omega arith)))

@@ -4,15 +4,15 @@ use mathlib.Core.Path.{_≡_, refl, sym, _∙_}
 use Prim.Native.Nat.{ℕ, _+_}
 use native.Mathlib.Omega.{arith}
 use lib.ListN.{length, length-append}
-use Rattle.picture_header.specs.declared.header.Header.{Header}
-use Rattle.refusals.specs.declared.Refusal.{Refusal}
-use Rattle.bits.specs.declared.Position.{Position}
+use Rattle.symbols.specs.Parsed.{parsed, refused}
+use Rattle.symbols.specs.declared.header.Header.{Header}
 use Rattle.byte_layout.specs.Laid.{laid}
 use Rattle.byte_layout.proofs.Laws.Laid.{laid-append}
 use Rattle.record_layout.specs.Records.{recordHead, recordBytes, headBytes, macroblockBody}
 use Rattle.record_layout.proofs.Laws.Laying.{laid-record}
 use Rattle.record_layout.proofs.Laws.Lengths.{record-length}
-use Rattle.slice_syntax.specs.Read.{read, refused}
+use Rattle.bits.specs.declared.Position.{Position}
+use Rattle.slice_syntax.specs.Read.{Stop}
 use Rattle.slice_syntax.specs.Macroblock.{HeadFields, RestFields, headAt, restAt, macroblockWith, macroblockAt}
 use Rattle.slice_records.specs.Laying.{restBytes}
 
@@ -37,17 +37,17 @@ unfolding macroblockBody
 body-of increment head rest = refl
 
 module _ (h : Header) (increment : ℕ) (bytes : List ℕ) (at : Position) where
-  pub head-refused : {refusal : Refusal} {p : Position} → headAt (h .«coding_type») bytes at ≡ refused refusal p → macroblockAt h increment bytes at ≡ refused refusal p
+  pub head-refused : {reason : Stop} → headAt (h .«coding_type») bytes at ≡ refused reason → macroblockAt h increment bytes at ≡ refused reason
   unfolding macroblockAt
   head-refused e = rw e
 
-  module _ {head : HeadFields} {p : Position} (e : headAt (h .«coding_type») bytes at ≡ read head p) where
-    pub rest-refused : {refusal : Refusal} {q : Position} → restAt (head .flags) (h .forward .«f_code») (h .backward .«f_code») bytes p ≡ refused refusal q
-        → macroblockAt h increment bytes at ≡ refused refusal q
+  module _ {head : HeadFields} {p : Position} (e : headAt (h .«coding_type») bytes at ≡ parsed head p) where
+    pub rest-refused : {reason : Stop} → restAt (head .flags) (h .forward .«f_code») (h .backward .«f_code») bytes p ≡ refused reason
+        → macroblockAt h increment bytes at ≡ refused reason
     unfolding macroblockAt
     rest-refused f = rw (e, f)
 
-    pub macroblock-read : {rest : RestFields} {q : Position} → restAt (head .flags) (h .forward .«f_code») (h .backward .«f_code») bytes p ≡ read rest q
-        → macroblockAt h increment bytes at ≡ read (macroblockWith increment head rest) q
+    pub macroblock-read : {rest : RestFields} {q : Position} → restAt (head .flags) (h .forward .«f_code») (h .backward .«f_code») bytes p ≡ parsed rest q
+        → macroblockAt h increment bytes at ≡ parsed (macroblockWith increment head rest) q
     unfolding macroblockAt
     macroblock-read f = rw (e, f)

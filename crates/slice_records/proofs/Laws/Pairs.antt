@@ -1,28 +1,26 @@
 -- The pairs of a block, one at a time: what is still to be read comes after those that are laid. Assumes nothing.
 use mathlib.Core.Bool.{Bool, true, false, not}
 use mathlib.Core.List.{List, [], _∷_, _++_, append-nil}
-use mathlib.Core.Path.{_≡_, refl, sym, ap, subst, _∙_}
+use mathlib.Core.Path.{_≡_, refl, sym, ap, _∙_}
 use Prim.Native.Nat.{ℕ, zero, suc, _+_, _-_, _*_, _≤_}
 use native.Mathlib.Omega.{arith}
-use lib.IntN.{ℤ}
 use lib.ListN.{length, length-append}
 use Rattle.lists.specs.Joined.{joined}
-use Rattle.refusals.specs.declared.Refusal.{Refusal}
-use Rattle.bits.specs.Bits.{InBytes}
-use Rattle.bits.specs.declared.Position.{Position}
-use Rattle.pairs.specs.declared.Pair.{Pair}
-use Rattle.pairs.specs.Pairs.{firstPosition}
+use Rattle.symbols.specs.Parsed.{parsed, refused}
+use Rattle.symbols.specs.declared.pair.Pair.{Pair}
+use Rattle.symbols.specs.Pair.{firstPosition}
+use Rattle.symbols.proofs.Parsed.{all-at, after, nothing-after, after-after}
 use Rattle.byte_layout.specs.Laid.{laid}
 use Rattle.byte_layout.proofs.Laws.Laid.{laid-length}
 use Rattle.record_layout.specs.Records.{pairBytes, pairsBytes, levelsBytes}
 use Rattle.record_layout.proofs.Laws.Laying.{laid-count, laid-more}
 use Rattle.record_layout.proofs.Laws.Lengths.{pairs-length, levels-length}
-use Rattle.slice_syntax.specs.Read.{Read, read, refused}
-use Rattle.slice_syntax.specs.Blocks.{nextPairAt, pairsFrom, pairsAt}
-use Rattle.slice_syntax.specs.declared.coefficient.NextPair.{NextPair}
-use Rattle.slice_syntax.specs.declared.coefficient.NextPair.the-variants as NextPair
-use Rattle.slice_syntax.proofs.Laws.Read.{after, nothing-after, after-after}
-use Rattle.slice_syntax.proofs.Laws.Coefficient.{PairWithin, Within, pair-within}
+use Rattle.bits.specs.Bits.{InBytes}
+use Rattle.bits.specs.declared.Position.{Position}
+use Rattle.slice_syntax.specs.Read.{Stop, Read}
+use Rattle.slice_syntax.specs.Blocks.{nextPair, blockEnd, nextPairAt, pairsFrom, pairsAt}
+use Rattle.slice_syntax.proofs.Laws.Read.{standing}
+use Rattle.slice_syntax.proofs.Laws.Coefficient.{position, next-lands, next-onward}
 
 -- ---- the block so far: the pairs that are laid, and what is still to be read after them
 pub record Begun (bytes : List ℕ) (whole : Read (List Pair)) (place : ℕ) (before now : List ℕ) (at : Position) (first : Bool) (next count end : ℕ) : Type 0 where
@@ -59,18 +57,18 @@ module _ (bytes : List ℕ) (intra : Bool) (place : ℕ) (buffer : List ℕ) (at
   }
 
 module _ (bytes : List ℕ) (at : Position) (first : Bool) (next : ℕ) where
-  from-refused : (n : ℕ) {refusal : Refusal} {p : Position} → 65 ≤ n + next → next ≤ 64 → nextPairAt first next bytes at ≡ NextPair.Refused refusal p → pairsFrom n first next bytes at ≡ refused refusal p
+  from-refused : (n : ℕ) {reason : Stop} → 65 ≤ n + next → next ≤ 64 → nextPairAt first next bytes at ≡ refused reason → pairsFrom n first next bytes at ≡ refused reason
   unfolding pairsFrom
   from-refused zero h k e = absurd (omega arith)
   from-refused (suc n) h k e = rw e
 
-  from-end : (n : ℕ) {p : Position} → 65 ≤ n + next → next ≤ 64 → nextPairAt first next bytes at ≡ NextPair.End p → pairsFrom n first next bytes at ≡ read [] p
+  from-end : (n : ℕ) {p : Position} → 65 ≤ n + next → next ≤ 64 → nextPairAt first next bytes at ≡ parsed blockEnd p → pairsFrom n first next bytes at ≡ parsed [] p
   unfolding pairsFrom
   from-end zero h k e = absurd (omega arith)
   from-end (suc n) h k e = rw e
 
-  from-pair : (n : ℕ) {run : ℕ} {level : ℤ} {p : Position} → nextPairAt first next bytes at ≡ NextPair.Pair run level p
-      → pairsFrom (suc n) first next bytes at ≡ after (record { run = run; level = level } ∷ []) (pairsFrom n false (next + run + 1) bytes p)
+  from-pair : (n : ℕ) {pair : Pair} {p : Position} → nextPairAt first next bytes at ≡ parsed (nextPair pair) p
+      → pairsFrom (suc n) first next bytes at ≡ after (pair ∷ []) (pairsFrom n false (next + pair .run + 1) bytes p)
   unfolding pairsFrom
   from-pair n e = rw e
 
@@ -79,12 +77,12 @@ module _ (bytes : List ℕ) (at : Position) (first : Bool) (next : ℕ) where
     pub begun-same : length now ≡ length before
     begun-same = ap length (s .there) ∙ laid-length (place + 1) (pairsBytes (s .pairs)) before
 
-    pub begun-refused : {refusal : Refusal} {p : Position} → nextPairAt first next bytes at ≡ NextPair.Refused refusal p → whole ≡ refused refusal p
+    pub begun-refused : {reason : Stop} → nextPairAt first next bytes at ≡ refused reason → whole ≡ refused reason
     begun-refused e = sym (s .same) ∙ rw (from-refused (s .fuel) (s .enough) (s .near) e)
 
     -- at the end, the count is laid before the pairs
-    pub begun-end : {p : Position} → nextPairAt first next bytes at ≡ NextPair.End p → whole ≡ read (s .pairs) p
-    begun-end {p} e = sym (s .same) ∙ rw (from-end (s .fuel) (s .enough) (s .near) e) (ap (λ (l : List Pair). read l p) (append-nil (s .pairs)))
+    pub begun-end : {p : Position} → nextPairAt first next bytes at ≡ parsed blockEnd p → whole ≡ parsed (s .pairs) p
+    begun-end {p} e = sym (s .same) ∙ rw (from-end (s .fuel) (s .enough) (s .near) e) (ap (λ (l : List Pair). parsed l p) (append-nil (s .pairs)))
 
     pub begun-length : end ≡ place + length (levelsBytes (s .pairs))
     begun-length = omega (arith, s .behindThem, s .counted, levels-length (s .pairs))
@@ -92,33 +90,37 @@ module _ (bytes : List ℕ) (at : Position) (first : Bool) (next : ℕ) where
     pub begun-laid : {last : List ℕ} → last ≡ laid place (count ∷ []) now → last ≡ laid place (levelsBytes (s .pairs)) before
     begun-laid e = e ∙ rw (← s .counted, s .there) (laid-count place (s .pairs) before)
 
-    pub begun-pair : {run : ℕ} {level : ℤ} {p : Position} → nextPairAt first next bytes at ≡ NextPair.Pair run level p → PairWithin bytes next run at p
-    begun-pair e = subst (λ (x : NextPair). Within bytes next at x) e (pair-within bytes at (s .inside) next first)
+    module _ {pair : Pair} {p : Position} (e : nextPairAt first next bytes at ≡ parsed (nextPair pair) p) where
+      pub begun-lands : next + pair .run ≤ 63
+      begun-lands = position (all-at (next-lands first next bytes at) e)
+
+      begun-inside : InBytes bytes p
+      begun-inside = all-at (next-onward first next (standing (s .inside))) e .inside
 
     more-fuel : (n : ℕ) → 65 ≤ n + next → n ≡ suc (n - 1)
     more-fuel n h = omega (arith, s .near)
 
-    pub begun-more : {run : ℕ} {level : ℤ} {p : Position} {later : List ℕ} → nextPairAt first next bytes at ≡ NextPair.Pair run level p → later ≡ laid end (pairBytes run level) now
-        → Begun bytes whole place before later p false (next + run + 1) (count + 1) (end + 3)
-    begun-more {run} {level} {p} {later} e f =
+    pub begun-more : {pair : Pair} {p : Position} {later : List ℕ} → nextPairAt first next bytes at ≡ parsed (nextPair pair) p → later ≡ laid end (pairBytes (pair .run) (pair .level)) now
+        → Begun bytes whole place before later p false (next + pair .run + 1) (count + 1) (end + 3)
+    begun-more {pair} {p} {later} e f =
         let n = s .fuel in
         record {
-          pairs = s .pairs ++ (record { run = run; level = level } ∷ []);
+          pairs = s .pairs ++ (pair ∷ []);
           fuel = n - 1;
           enough = omega (arith, s .enough, s .near);
-          near = omega (arith, begun-pair e .lands);
-          counted = rw (length-append (s .pairs) (record { run = run; level = level } ∷ [])) (omega (arith, s .counted));
+          near = omega (arith, begun-lands e);
+          counted = rw (length-append (s .pairs) (pair ∷ [])) (omega (arith, s .counted));
           few = omega (arith, s .few);
           behindThem = omega (arith, s .behindThem);
-          inside = begun-pair e .ahead .inside;
-          there = f ∙ rw (s .there, place-of) (laid-more (λ pair. pairBytes (pair .run) (pair .level)) (place + 1) (s .pairs) (record { run = run; level = level }) before);
-          same = sym (after-after (s .pairs) (record { run = run; level = level } ∷ []) (pairsFrom (n - 1) false (next + run + 1) bytes p)) ∙ rw (sym step) (s .same);
+          inside = begun-inside e;
+          there = f ∙ rw (s .there, place-of) (laid-more (λ pair. pairBytes (pair .run) (pair .level)) (place + 1) (s .pairs) pair before);
+          same = sym (after-after (s .pairs) (pair ∷ []) (pairsFrom (n - 1) false (next + pair .run + 1) bytes p)) ∙ rw (sym step) (s .same);
         }
       where
         place-of : end ≡ place + 1 + length (pairsBytes (s .pairs))
         place-of = omega (arith, s .behindThem, s .counted, pairs-length (s .pairs))
 
-        step : pairsFrom (s .fuel) first next bytes at ≡ after (record { run = run; level = level } ∷ []) (pairsFrom (s .fuel - 1) false (next + run + 1) bytes p)
+        step : pairsFrom (s .fuel) first next bytes at ≡ after (pair ∷ []) (pairsFrom (s .fuel - 1) false (next + pair .run + 1) bytes p)
         step =
             ap (λ (k : ℕ). pairsFrom k first next bytes at) (more-fuel (s .fuel) (s .enough))
             ∙ from-pair (s .fuel - 1) e

@@ -5,13 +5,14 @@ use Prim.Native.Nat.{ℕ, zero, suc, _+_, _<_}
 use native.Mathlib.Omega.{arith}
 use lib.ListN.{length}
 use borrow.Author.Tests.{eq-eqb, ne-eqb}
-use Rattle.refusals.specs.declared.Refusal.{Refusal}
-use Rattle.bits.specs.Bits.{InBytes, bitsFrom}
+use Rattle.symbols.specs.Parsed.{parsed, refused}
+use Rattle.symbols.proofs.Parsed.{all-at}
+use Rattle.bits.specs.Bits.{offset, InBytes, bitsFrom}
 use Rattle.bits.specs.declared.Position.{Position}
 use Rattle.bits.proofs.Rest.{rest-length}
-use Rattle.slice_syntax.specs.Read.{Read, read, refused, fieldAt}
+use Rattle.slice_syntax.specs.Read.{Stop, Read, fieldAt}
 use Rattle.slice_syntax.specs.Slice.{afterExtra}
-use Rattle.slice_syntax.proofs.Laws.Read.{Ahead, reached, field-onward}
+use Rattle.slice_syntax.proofs.Laws.Read.{Ahead, standing, field-ahead}
 
 -- from here on, the same is read as from the start on
 pub record Extra (bytes : List ℕ) (whole : Read (Unit {0})) (at : Position) : Type 0 where
@@ -25,26 +26,26 @@ module _ (bytes : List ℕ) (at : Position) where
   extra-start within = record { fuel = 1 + length (bitsFrom bytes at); enough = omega arith; inside = within; same = refl }
 
   module _ {whole : Read (Unit {0})} where
-    refused-from : (n : ℕ) {refusal : Refusal} {p : Position} → length (bitsFrom bytes at) < n → afterExtra n bytes at ≡ whole
-        → fieldAt 1 bytes at ≡ refused refusal p → whole ≡ refused refusal p
+    refused-from : (n : ℕ) {reason : Stop} → length (bitsFrom bytes at) < n → afterExtra n bytes at ≡ whole
+        → fieldAt 1 bytes at ≡ refused reason → whole ≡ refused reason
     unfolding afterExtra
     refused-from zero h f e = absurd (omega arith)
     refused-from (suc n) h f e = sym (rw e at f)
 
     read-from : (n : ℕ) {v : ℕ} {p : Position} → length (bitsFrom bytes at) < n → afterExtra n bytes at ≡ whole
-        → fieldAt 1 bytes at ≡ read v p → v ≡ 0 → whole ≡ read tt p
+        → fieldAt 1 bytes at ≡ parsed v p → v ≡ 0 → whole ≡ parsed tt p
     unfolding afterExtra
     read-from zero h f e g = absurd (omega arith)
     read-from (suc n) {v} h f e g = sym (rw (e, eq-eqb v 0 g) at f)
 
-    cut-from : (n : ℕ) {v : ℕ} {p q : Position} {refusal : Refusal} → length (bitsFrom bytes at) < n → afterExtra n bytes at ≡ whole
-        → fieldAt 1 bytes at ≡ read v p → (v ≡ 0 → ⊥) → fieldAt 8 bytes p ≡ refused refusal q → whole ≡ refused refusal q
+    cut-from : (n : ℕ) {v : ℕ} {p : Position} {reason : Stop} → length (bitsFrom bytes at) < n → afterExtra n bytes at ≡ whole
+        → fieldAt 1 bytes at ≡ parsed v p → (v ≡ 0 → ⊥) → fieldAt 8 bytes p ≡ refused reason → whole ≡ refused reason
     unfolding afterExtra
     cut-from zero h f e g k = absurd (omega arith)
     cut-from (suc n) {v} h f e g k = sym (rw (e, ne-eqb v 0 g, k) at f)
 
     again-from : (n : ℕ) {v w : ℕ} {p q : Position} → length (bitsFrom bytes at) < n → afterExtra n bytes at ≡ whole
-        → fieldAt 1 bytes at ≡ read v p → (v ≡ 0 → ⊥) → fieldAt 8 bytes p ≡ read w q → Ahead bytes 1 at p → Ahead bytes 8 p q → Extra bytes whole q
+        → fieldAt 1 bytes at ≡ parsed v p → (v ≡ 0 → ⊥) → fieldAt 8 bytes p ≡ parsed w q → Ahead bytes (1 + offset at) p → Ahead bytes (8 + offset p) q → Extra bytes whole q
     unfolding afterExtra
     again-from zero h f e g k a b = absurd (omega arith)
     again-from (suc n) {v} {q = q} h f e g k a b = record {
@@ -55,20 +56,20 @@ module _ (bytes : List ℕ) (at : Position) where
     }
 
     module _ (s : Extra bytes whole at) where
-      pub extra-refused : {refusal : Refusal} {p : Position} → fieldAt 1 bytes at ≡ refused refusal p → whole ≡ refused refusal p
+      pub extra-refused : {reason : Stop} → fieldAt 1 bytes at ≡ refused reason → whole ≡ refused reason
       extra-refused e = refused-from (s .fuel) (s .enough) (s .same) e
 
-      pub extra-read : {v : ℕ} {p : Position} → fieldAt 1 bytes at ≡ read v p → v ≡ 0 → whole ≡ read tt p
+      pub extra-read : {v : ℕ} {p : Position} → fieldAt 1 bytes at ≡ parsed v p → v ≡ 0 → whole ≡ parsed tt p
       extra-read e g = read-from (s .fuel) (s .enough) (s .same) e g
 
-      pub extra-cut : {v : ℕ} {p q : Position} {refusal : Refusal} → fieldAt 1 bytes at ≡ read v p → (v ≡ 0 → ⊥) → fieldAt 8 bytes p ≡ refused refusal q → whole ≡ refused refusal q
+      pub extra-cut : {v : ℕ} {p : Position} {reason : Stop} → fieldAt 1 bytes at ≡ parsed v p → (v ≡ 0 → ⊥) → fieldAt 8 bytes p ≡ refused reason → whole ≡ refused reason
       extra-cut e g k = cut-from (s .fuel) (s .enough) (s .same) e g k
 
-      pub bit-ahead : {v : ℕ} {p : Position} → fieldAt 1 bytes at ≡ read v p → Ahead bytes 1 at p
-      bit-ahead e = reached (field-onward bytes at (s .inside) 1) e
+      pub bit-ahead : {v : ℕ} {p : Position} → fieldAt 1 bytes at ≡ parsed v p → Ahead bytes (1 + offset at) p
+      bit-ahead e = all-at (field-ahead (standing (s .inside)) 1) e
 
-      pub byte-ahead : {v w : ℕ} {p q : Position} → fieldAt 1 bytes at ≡ read v p → fieldAt 8 bytes p ≡ read w q → Ahead bytes 8 p q
-      byte-ahead {p = p} e k = reached (field-onward bytes p (bit-ahead e .inside) 8) k
+      pub byte-ahead : {v w : ℕ} {p q : Position} → fieldAt 1 bytes at ≡ parsed v p → fieldAt 8 bytes p ≡ parsed w q → Ahead bytes (8 + offset p) q
+      byte-ahead e k = all-at (field-ahead (standing (bit-ahead e .inside)) 8) k
 
-      pub extra-again : {v w : ℕ} {p q : Position} → fieldAt 1 bytes at ≡ read v p → (v ≡ 0 → ⊥) → fieldAt 8 bytes p ≡ read w q → Extra bytes whole q
+      pub extra-again : {v w : ℕ} {p q : Position} → fieldAt 1 bytes at ≡ parsed v p → (v ≡ 0 → ⊥) → fieldAt 8 bytes p ≡ parsed w q → Extra bytes whole q
       extra-again e g k = again-from (s .fuel) (s .enough) (s .same) e g k (bit-ahead e) (byte-ahead e k)

@@ -5,17 +5,18 @@ use Prim.Native.Nat.{ℕ, zero, suc, _+_, _*_, _<_, _≤_}
 use native.Mathlib.Omega.{arith}
 use lib.ListN.{length}
 use borrow.Author.Tests.{eq-eqb, ne-eqb, le-leb, lt-leb}
-use Rattle.refusals.specs.declared.Refusal.{Refusal}
 use Rattle.refusals.specs.declared.Refusal.the-variants.{SliceCode}
-use Rattle.parsed.specs.Guard.{need_else_then_}
-use Rattle.bits.specs.Bits.{InBytes, bitsFrom}
+use Rattle.symbols.specs.Guard.{need_else_then_}
+use Rattle.symbols.specs.Parsed.{parsed, refused}
+use Rattle.symbols.proofs.Parsed.{all-at}
+use Rattle.bits.specs.Bits.{offset, InBytes, bitsFrom}
 use Rattle.bits.specs.declared.Position.{Position}
 use Rattle.bits.proofs.Rest.{rest-length}
 use Rattle.code_tables.specs.AnnexB.{increments, incrementsAfterEscape, stuffing, incrementEscape}
 use Rattle.codes.proofs.Laws.Range.{increment-read, increment-after-escape-read}
-use Rattle.slice_syntax.specs.Read.{Read, read, refused, wordAt}
+use Rattle.slice_syntax.specs.Read.{Stop, stop, Read, wordAt}
 use Rattle.slice_syntax.specs.Increment.{afterStuffing, amountOf, afterEscape}
-use Rattle.slice_syntax.proofs.Laws.Read.{Ahead, reached, word-onward}
+use Rattle.slice_syntax.proofs.Laws.Read.{Ahead, standing, word-ahead}
 
 -- ---- stuffing: from here on, the same is read as from the start on
 pub record Stuffed (bytes : List ℕ) (whole : Read ℕ) (at : Position) : Type 0 where
@@ -28,20 +29,20 @@ module _ (bytes : List ℕ) (at : Position) where
   pub stuffed-start : InBytes bytes at → Stuffed bytes (afterStuffing (1 + length (bitsFrom bytes at)) bytes at) at
   stuffed-start within = record { fuel = 1 + length (bitsFrom bytes at); enough = omega arith; inside = within; same = refl }
 
-  refused-from : (n : ℕ) {whole : Read ℕ} {refusal : Refusal} {p : Position} → length (bitsFrom bytes at) < n → afterStuffing n bytes at ≡ whole
-      → wordAt increments bytes at ≡ refused refusal p → whole ≡ refused refusal p
+  refused-from : (n : ℕ) {whole : Read ℕ} {reason : Stop} → length (bitsFrom bytes at) < n → afterStuffing n bytes at ≡ whole
+      → wordAt increments bytes at ≡ refused reason → whole ≡ refused reason
   unfolding afterStuffing
   refused-from zero h f e = absurd (omega arith)
   refused-from (suc n) h f e = sym (rw e at f)
 
   read-from : (n : ℕ) {whole : Read ℕ} {v : ℕ} {p : Position} → length (bitsFrom bytes at) < n → afterStuffing n bytes at ≡ whole
-      → wordAt increments bytes at ≡ read v p → (v ≡ stuffing → ⊥) → whole ≡ read v p
+      → wordAt increments bytes at ≡ parsed v p → (v ≡ stuffing → ⊥) → whole ≡ parsed v p
   unfolding afterStuffing
   read-from zero h f e g = absurd (omega arith)
   read-from (suc n) {v = v} h f e g = sym (rw (e, ne-eqb v stuffing g) at f)
 
   again-from : (n : ℕ) {whole : Read ℕ} {v : ℕ} {p : Position} → length (bitsFrom bytes at) < n → afterStuffing n bytes at ≡ whole
-      → wordAt increments bytes at ≡ read v p → v ≡ stuffing → Ahead bytes 1 at p → Stuffed bytes whole p
+      → wordAt increments bytes at ≡ parsed v p → v ≡ stuffing → Ahead bytes (1 + offset at) p → Stuffed bytes whole p
   unfolding afterStuffing
   again-from zero h f e g a = absurd (omega arith)
   again-from (suc n) {v = v} {p = p} h f e g a = record {
@@ -52,16 +53,16 @@ module _ (bytes : List ℕ) (at : Position) where
   }
 
   module _ {whole : Read ℕ} (s : Stuffed bytes whole at) where
-    pub stuffed-refused : {refusal : Refusal} {p : Position} → wordAt increments bytes at ≡ refused refusal p → whole ≡ refused refusal p
+    pub stuffed-refused : {reason : Stop} → wordAt increments bytes at ≡ refused reason → whole ≡ refused reason
     stuffed-refused e = refused-from (s .fuel) (s .enough) (s .same) e
 
-    pub stuffed-read : {v : ℕ} {p : Position} → wordAt increments bytes at ≡ read v p → (v ≡ stuffing → ⊥) → whole ≡ read v p
+    pub stuffed-read : {v : ℕ} {p : Position} → wordAt increments bytes at ≡ parsed v p → (v ≡ stuffing → ⊥) → whole ≡ parsed v p
     stuffed-read e g = read-from (s .fuel) (s .enough) (s .same) e g
 
-    pub increment-ahead : {v : ℕ} {p : Position} → wordAt increments bytes at ≡ read v p → Ahead bytes 1 at p
-    increment-ahead e = reached (word-onward bytes at (s .inside) increments (increment-read (bitsFrom bytes at))) e
+    pub increment-ahead : {v : ℕ} {p : Position} → wordAt increments bytes at ≡ parsed v p → Ahead bytes (1 + offset at) p
+    increment-ahead e = all-at (word-ahead (standing (s .inside)) _ increment-read) e
 
-    pub stuffed-again : {v : ℕ} {p : Position} → wordAt increments bytes at ≡ read v p → v ≡ stuffing → Stuffed bytes whole p
+    pub stuffed-again : {v : ℕ} {p : Position} → wordAt increments bytes at ≡ parsed v p → v ≡ stuffing → Stuffed bytes whole p
     stuffed-again e g = again-from (s .fuel) (s .enough) (s .same) e g (increment-ahead e)
 
 -- ---- escapes
@@ -85,26 +86,26 @@ module _ (bytes : List ℕ) (at : Position) where
   escaped-start within = record { fuel = 12; left = refl; small = omega arith; inside = within; same = refl }
 
   module _ {whole : Read ℕ} (sum : ℕ) where
-    escape-refused-from : (n : ℕ) {refusal : Refusal} {p : Position} → sum + 33 * n ≡ 429 → sum ≤ 396 → afterEscape n sum bytes at ≡ whole
-        → wordAt incrementsAfterEscape bytes at ≡ refused refusal p → whole ≡ refused refusal p
+    escape-refused-from : (n : ℕ) {reason : Stop} → sum + 33 * n ≡ 429 → sum ≤ 396 → afterEscape n sum bytes at ≡ whole
+        → wordAt incrementsAfterEscape bytes at ≡ refused reason → whole ≡ refused reason
     unfolding afterEscape
     escape-refused-from zero h k f e = absurd (omega arith)
     escape-refused-from (suc n) h k f e = sym (rw e at f)
 
     escape-past-from : (n : ℕ) {v : ℕ} {p : Position} → sum + 33 * n ≡ 429 → sum ≤ 396 → afterEscape n sum bytes at ≡ whole
-        → wordAt incrementsAfterEscape bytes at ≡ read v p → 396 < sum + amountOf v → whole ≡ refused SliceCode at
+        → wordAt incrementsAfterEscape bytes at ≡ parsed v p → 396 < sum + amountOf v → whole ≡ refused (stop SliceCode at)
     unfolding afterEscape need_else_then_
     escape-past-from zero h k f e g = absurd (omega arith)
     escape-past-from (suc n) {v} h k f e g = sym (rw (e, lt-leb (sum + amountOf v) 396 g) at f)
 
     escape-read-from : (n : ℕ) {v : ℕ} {p : Position} → sum + 33 * n ≡ 429 → sum ≤ 396 → afterEscape n sum bytes at ≡ whole
-        → wordAt incrementsAfterEscape bytes at ≡ read v p → sum + amountOf v ≤ 396 → (v ≡ incrementEscape → ⊥) → whole ≡ read (sum + amountOf v) p
+        → wordAt incrementsAfterEscape bytes at ≡ parsed v p → sum + amountOf v ≤ 396 → (v ≡ incrementEscape → ⊥) → whole ≡ parsed (sum + amountOf v) p
     unfolding afterEscape need_else_then_
     escape-read-from zero h k f e g i = absurd (omega arith)
     escape-read-from (suc n) {v} h k f e g i = rw (plain-amount v i) (sym (rw (e, le-leb (sum + amountOf v) 396 g, ne-eqb v incrementEscape i) at f))
 
     escape-again-from : (n : ℕ) {v : ℕ} {p : Position} → sum + 33 * n ≡ 429 → sum ≤ 396 → afterEscape n sum bytes at ≡ whole
-        → wordAt incrementsAfterEscape bytes at ≡ read v p → sum + amountOf v ≤ 396 → v ≡ incrementEscape → InBytes bytes p → Escaped bytes whole (sum + amountOf v) p
+        → wordAt incrementsAfterEscape bytes at ≡ parsed v p → sum + amountOf v ≤ 396 → v ≡ incrementEscape → InBytes bytes p → Escaped bytes whole (sum + amountOf v) p
     unfolding afterEscape need_else_then_
     escape-again-from zero h k f e g i w = absurd (omega arith)
     escape-again-from (suc n) {v} h k f e g i w = record {
@@ -116,17 +117,17 @@ module _ (bytes : List ℕ) (at : Position) where
     }
 
     module _ (s : Escaped bytes whole sum at) where
-      pub escaped-refused : {refusal : Refusal} {p : Position} → wordAt incrementsAfterEscape bytes at ≡ refused refusal p → whole ≡ refused refusal p
+      pub escaped-refused : {reason : Stop} → wordAt incrementsAfterEscape bytes at ≡ refused reason → whole ≡ refused reason
       escaped-refused e = escape-refused-from (s .fuel) (s .left) (s .small) (s .same) e
 
-      pub escaped-past : {v : ℕ} {p : Position} → wordAt incrementsAfterEscape bytes at ≡ read v p → 396 < sum + amountOf v → whole ≡ refused SliceCode at
+      pub escaped-past : {v : ℕ} {p : Position} → wordAt incrementsAfterEscape bytes at ≡ parsed v p → 396 < sum + amountOf v → whole ≡ refused (stop SliceCode at)
       escaped-past e g = escape-past-from (s .fuel) (s .left) (s .small) (s .same) e g
 
-      pub escaped-read : {v : ℕ} {p : Position} → wordAt incrementsAfterEscape bytes at ≡ read v p → sum + amountOf v ≤ 396 → (v ≡ incrementEscape → ⊥) → whole ≡ read (sum + amountOf v) p
+      pub escaped-read : {v : ℕ} {p : Position} → wordAt incrementsAfterEscape bytes at ≡ parsed v p → sum + amountOf v ≤ 396 → (v ≡ incrementEscape → ⊥) → whole ≡ parsed (sum + amountOf v) p
       escaped-read e g i = escape-read-from (s .fuel) (s .left) (s .small) (s .same) e g i
 
-      pub after-escape-ahead : {v : ℕ} {p : Position} → wordAt incrementsAfterEscape bytes at ≡ read v p → Ahead bytes 1 at p
-      after-escape-ahead e = reached (word-onward bytes at (s .inside) incrementsAfterEscape (increment-after-escape-read (bitsFrom bytes at))) e
+      pub after-escape-ahead : {v : ℕ} {p : Position} → wordAt incrementsAfterEscape bytes at ≡ parsed v p → Ahead bytes (1 + offset at) p
+      after-escape-ahead e = all-at (word-ahead (standing (s .inside)) _ increment-after-escape-read) e
 
-      pub escaped-again : {v : ℕ} {p : Position} → wordAt incrementsAfterEscape bytes at ≡ read v p → sum + amountOf v ≤ 396 → v ≡ incrementEscape → Escaped bytes whole (sum + amountOf v) p
+      pub escaped-again : {v : ℕ} {p : Position} → wordAt incrementsAfterEscape bytes at ≡ parsed v p → sum + amountOf v ≤ 396 → v ≡ incrementEscape → Escaped bytes whole (sum + amountOf v) p
       escaped-again e g i = escape-again-from (s .fuel) (s .left) (s .small) (s .same) e g i (after-escape-ahead e .inside)

@@ -9,7 +9,7 @@ use lib.ListN.{length, getD}
 use borrow.Author.Tests.{ne-eqb}
 use Rattle.lists.specs.Test.{allBelow}
 use Rattle.lists.proofs.Test.{at-below}
-use Rattle.picture_header.specs.Header.{typeI, typeP}
+use Rattle.symbols.specs.Header.{typeI, typeP}
 use Rattle.symbols.specs.MacroblockType.{among, typesOfI, typesOfP, typesOfB, legalType}
 
 none-above : (n : ℕ) (l : List ℕ) → T (allBelow (length l) (λ k. leb (getD l k 0) 31)) → 31 < n → among n l ≡ false

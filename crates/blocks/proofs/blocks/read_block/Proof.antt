@@ -8,9 +8,10 @@ use lib.ListN.{drop, length-drop}
 use mir.Syntax.{w16}
 use mir.Val.{toZ, ofZ}
 use Rattle.integers.proofs.Machine.{returned}
-use Rattle.parsed.specs.Parsed.{value, Finds}
+use Rattle.symbols.specs.Parsed.{value, Finds}
+use Rattle.symbols.specs.Pattern.{isCoded}
 use Rattle.pairs.specs.Coefficients.{dcAlone, pairsFound}
-use Rattle.blocks.specs.Blocks.{pastOf, isCoded}
+use Rattle.blocks.specs.Blocks.{pastOf}
 use Rattle.blocks.specs.Stored.{codingOf, readDcOf, dcFound, landingLevelsOf}
 use Rattle.blocks.proofs.Laws.Blocks.{past-legal}
 use Rattle.blocks.proofs.Laws.Stored.{not-coded, dc-stops, levels-stop, block-found}
@@ -72,7 +73,7 @@ dc-alone-requires : tie.Need-dc-alone-requires
 dc-alone-requires c κs = search needs
 
 read-levels-requires : tie.Need-read-levels-requires
-read-levels-requires c κs = (record { scale-below = c .before .before .before .before .before .before .before .before .before .before .pre .2 .scale-below }, c .before .before .before .before .before .before .before .before .before .before .pre .3)
+read-levels-requires c κs = (c .before .before .before .before .before .before .before .before .before .before .pre .2, c .before .before .before .before .before .before .before .before .before .before .pre .3)
 
 enum-known-answer : tie.Need-enum-known-answer
 enum-known-answer c = search needs

@@ -4,8 +4,8 @@ use Prim.Native.Nat.{_-_}
 use native.Mathlib.Omega.{arith}
 use borrow.Author.Needs.{needs}
 use lib.ListN.{drop, length-drop}
+use Rattle.symbols.specs.Parsed.{value, Finds}
 use Rattle.format3.proofs.Laws.Field.{rest-from}
-use Rattle.parsed.specs.Parsed.{value, Finds}
 use Rattle.blocks.specs.Stored.{storingOf, progressFound}
 use Rattle.blocks.proofs.Laws.Stored.{SoFar, at-start, ends, stops, one-more}
 use Rattle.blocks.proofs.blocks.read_blocks.Statement.{statement}

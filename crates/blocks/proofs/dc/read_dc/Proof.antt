@@ -11,8 +11,8 @@ use mir.ValLaws.{toZ-ofZ}
 use Rattle.integers.proofs.Bound.{within-eq}
 use Rattle.integers.proofs.Machine.{returned}
 use Rattle.coefficient.specs.Scaling.{intraDc}
-use Rattle.parsed.specs.Guard.{need_else_then_}
-use Rattle.parsed.specs.Parsed.{value, Finds}
+use Rattle.symbols.specs.Guard.{need_else_then_}
+use Rattle.symbols.specs.Parsed.{value, Finds}
 use Rattle.format3.specs.Field.{signedWord}
 use Rattle.blocks.specs.Blocks.{legalDifference, legalDc, differenceOf}
 use Rattle.blocks.proofs.Laws.Blocks.{difference-within, dc-within}

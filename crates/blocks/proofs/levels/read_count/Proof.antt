@@ -1,8 +1,8 @@
 -- `read_count` meets its contract: its test is that of `countOf`. Assumes nothing.
 use borrow.Author.Needs.{needs}
 use borrow.Author.Tests.{not-true, not-false}
-use Rattle.parsed.specs.Guard.{need_else_then_}
-use Rattle.parsed.specs.Parsed.{value, Finds}
+use Rattle.symbols.specs.Guard.{need_else_then_}
+use Rattle.symbols.specs.Parsed.{value, Finds}
 use Rattle.format3.specs.Field.{byte}
 use Rattle.blocks.specs.Blocks.{countOf}
 use Rattle.blocks.proofs.levels.read_count.Statement.{statement}

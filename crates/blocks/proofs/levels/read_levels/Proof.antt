@@ -4,8 +4,8 @@ use native.Mathlib.Omega.{arith}
 use borrow.Author.Needs.{needs}
 use lib.ListN.{length, drop, length-drop}
 use lib.Seq.{drop-drop}
-use Rattle.parsed.specs.Parsed.{value, Finds}
-use Rattle.pairs.specs.Pairs.{firstPosition}
+use Rattle.symbols.specs.Parsed.{value, Finds}
+use Rattle.symbols.specs.Pair.{firstPosition}
 use Rattle.pairs.specs.Coefficients.{landingOf, pairsFound}
 use Rattle.blocks.specs.Blocks.{countOf, levelsOf}
 use Rattle.blocks.proofs.Laws.Blocks.{first-near}

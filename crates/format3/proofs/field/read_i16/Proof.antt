@@ -2,7 +2,7 @@
 use mir.Syntax.{w16}
 use borrow.Author.Needs.{needs}
 use Rattle.integers.proofs.Machine.{returned}
-use Rattle.parsed.proofs.Parsed.{first-stops, last-finds}
+use Rattle.symbols.proofs.Parsed.{first-stops, last-finds}
 use Rattle.format3.specs.Field.{twosComplement, word, signedWord}
 use Rattle.format3.proofs.field.read_i16.Statement.{statement}
 use Rattle.format3.proofs.field.read_i16.Tie as tie

@@ -2,7 +2,7 @@
 use mir.Syntax.{w16}
 use borrow.Author.Needs.{needs}
 use Rattle.integers.proofs.Machine.{returned}
-use Rattle.parsed.proofs.Parsed.{first-stops, last-finds}
+use Rattle.symbols.proofs.Parsed.{first-stops, last-finds}
 use Rattle.format3.specs.Field.{twosComplement, byte, signedByte}
 use Rattle.format3.proofs.field.read_i8.Statement.{statement}
 use Rattle.format3.proofs.field.read_i8.Tie as tie

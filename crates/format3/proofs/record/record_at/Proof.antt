@@ -8,7 +8,7 @@ use lib.Dec.{leb}
 use lib.ListN.{length}
 use borrow.Author.Tests.{le-leb, lt-leb}
 use borrow.Author.Needs.{needs}
-use Rattle.parsed.specs.Guard.{need_else_then_}
+use Rattle.symbols.specs.Guard.{need_else_then_}
 use Rattle.format3.specs.Record.{recordOf, lengthAt, kindAt}
 use Rattle.format3.proofs.Laws.Record.{none-left, few-left, head-left, past-end, before-end}
 use Rattle.format3.proofs.record.record_at.Statement.{statement}

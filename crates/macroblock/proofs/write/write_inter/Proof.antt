@@ -5,8 +5,8 @@ use Prim.Native.Nat.{ℕ, _-_, _≤_}
 use native.Mathlib.Omega.{arith}
 use lib.ListN.{length}
 use Rattle.transform.specs.Transform.{inverseTransform}
+use Rattle.symbols.specs.Size.{bytes}
 use Rattle.blocks.specs.Stored.{sixBlocks}
-use Rattle.picture_header.specs.Size.{bytes}
 use Rattle.macroblock.specs.declared.compensation.Motion.{Motion}
 use Rattle.macroblock.specs.Compensation.{references}
 use Rattle.macroblock.specs.Block.{pelsOf}

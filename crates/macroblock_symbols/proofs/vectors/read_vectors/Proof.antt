@@ -2,10 +2,10 @@
 use native.Mathlib.Omega.{arith}
 use borrow.Author.Needs.{needs}
 use lib.ListN.{drop, length-drop}
-use Rattle.parsed.specs.Parsed.{value, Finds}
-use Rattle.parsed.proofs.Parsed.{second-finds, last-finds}
+use Rattle.symbols.specs.Parsed.{value, Finds}
 use Rattle.symbols.specs.MacroblockType.{givesForward, givesBackward}
-use Rattle.symbols.specs.VectorCodes.{codesFound}
+use Rattle.symbols.proofs.Parsed.{second-finds, last-finds}
+use Rattle.macroblock_symbols.specs.VectorCodes.{codesFound}
 use Rattle.macroblock_symbols.specs.Vectors.{givenCodesOf, vectorsOf}
 use Rattle.macroblock_symbols.proofs.vectors.read_vectors.Statement.{statement}
 use Rattle.macroblock_symbols.proofs.vectors.read_vectors.Tie as tie

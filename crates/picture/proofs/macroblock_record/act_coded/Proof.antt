@@ -3,8 +3,8 @@ use mathlib.Core.Bool.{Bool}
 use mathlib.Core.Path.{_≡_, refl, sym, ap, _∙_, subst}
 use borrow.Author.Tests.{leb-true}
 use lib.Dec.{leb}
-use Rattle.parsed.specs.Parsed.{Finds}
-use Rattle.parsed.proofs.Guard.{both}
+use Rattle.symbols.specs.Parsed.{Finds}
+use Rattle.symbols.proofs.Guard.{both}
 use Rattle.matrices.specs.Matrix.{matricesOf}
 use Rattle.blocks.specs.Stored.{decodedFound, sixBlocks}
 use Rattle.blocks.specs.declared.blocks.BlocksAnswer.{BlocksAnswer}
@@ -84,7 +84,7 @@ read c =
     let a = c .before .before .before .before .before .before .before .before .before .before .before .before .args in
     blocks-read (matricesOf (a .intra .now) (a .«non-intra» .now)) (a .picture) (a .symbols) (a .rest .now) (subst (λ (x : BlocksAnswer). found-by (c .before .before) x) (c .blocks2 .given .1) (found (c .before .before)))
 
-plan-is : (c : tie.After-with-dc) → let a = c .before .before .before .before .before .before .before .before .before .before .before .before .before .before .before .before .args in c .with-dc .result ≡ planOf (a .picture) (decodedWith (a .symbols) (c .before .before .before .before .blocks2 .given .0 .0))
+plan-is : (c : tie.After-with-dc) → let a = c .before .before .before .before .before .before .before .before .before .before .before .before .before .before .before .before .args in c .with-dc .result ≡ planOf (a .picture .header) (a .picture .next) (a .picture .slice) (decodedWith (a .symbols) (c .before .before .before .before .blocks2 .given .0 .0))
 plan-is c =
     let a = c .before .before .before .before .before .before .before .before .before .before .before .before .before .before .before .before .args in
     c .with-dc .ensures

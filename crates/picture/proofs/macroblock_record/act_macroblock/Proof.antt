@@ -6,11 +6,11 @@ use Prim.Native.Nat.{ℕ, _-_}
 use native.Mathlib.Omega.{arith}
 use lib.ListN.{length, drop, length-drop}
 use Rattle.transform.specs.Transform.{inverseTransform}
-use Rattle.parsed.specs.Parsed.{Finds}
+use Rattle.symbols.specs.Parsed.{Finds}
 use Rattle.format3.proofs.Laws.Field.{rest-from}
 use Rattle.matrices.specs.Matrix.{matricesOf}
-use Rattle.macroblock_symbols.specs.Macroblock.{symbolsOf, symbolsFound, macroblockWith}
 use Rattle.blocks.specs.declared.dc.DcPasts.{DcPasts}
+use Rattle.macroblock_symbols.specs.Macroblock.{symbolsOf, symbolsFound, macroblockWith}
 use Rattle.macroblock_symbols.specs.declared.SymbolsAnswer.{SymbolsAnswer}
 use Rattle.macroblock_symbols.specs.declared.SymbolsAnswer.the-variants.{Legal}
 use Rattle.macroblock_symbols.proofs.Laws.Macroblock.{noneCoded}
@@ -75,7 +75,7 @@ make-plan-requires c κs = (plannable (c .before .before .before .before .before
 plan-is : (c : tie.After-make-plan) → c .make-plan .result ≡ startingPlan (c .before .before .before .before .before .before .before .before .before .before .before .before .before .args .picture) (c .before .before .before .before .before .answer .given .0 .0)
 plan-is c =
     let a = c .before .before .before .before .before .before .before .before .before .before .before .before .before .args in
-    c .make-plan .ensures ∙ ap (λ (dc : DcPasts). planOf (a .picture) (record { symbols = c .before .before .before .before .before .answer .given .0 .0; dc = dc })) (c .before .reset-pasts .ensures)
+    c .make-plan .ensures ∙ ap (λ (dc : DcPasts). planOf (a .picture .header) (a .picture .next) (a .picture .slice) (record { symbols = c .before .before .before .before .before .answer .given .0 .0; dc = dc })) (c .before .reset-pasts .ensures)
 
 same-pattern : (c : tie.After-make-plan) → c .make-plan .result .pattern ≡ c .before .before .before .before .before .answer .given .0 .0 .pattern
 unfolding planOf

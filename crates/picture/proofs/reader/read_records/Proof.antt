@@ -16,6 +16,7 @@ use Rattle.matrices.specs.Matrix.{loadedWith}
 use Rattle.transform.specs.Transform.{inverseTransform}
 use Rattle.macroblock.specs.Compensation.{references}
 use Rattle.macroblock.proofs.BlocksLaws.{macroblocks-none}
+use Rattle.picture_state.specs.declared.state.PictureState.{PictureState}
 use Rattle.picture.specs.MacroblockRecord.{outcomeOf, written}
 use Rattle.picture.specs.Step.{acted, Taken, takenAt}
 use Rattle.picture.specs.declared.macroblock_record.Outcome.{Outcome}
@@ -27,23 +28,32 @@ use Rattle.picture.proofs.reader.read_records.Statement.{statement}
 use Rattle.picture.proofs.reader.read_records.Tie as tie
 
 abbrev Inv-loop : tie.InvT-loop
-Inv-loop file start forward backward output₀ at₀ picture₀ matrices₀ output at picture matrices = Whole inverseTransform (references forward backward) file start picture₀ output₀ output at picture matrices
+Inv-loop file start forward backward output₀ at₀ picture₀ matrices₀ output at picture matrices = Whole inverseTransform (references forward backward) file start (picture₀ .header) output₀ output at picture matrices
 
 abbrev μ-loop : tie.MeasureT-loop
 μ-loop file start forward backward output₀ at₀ picture₀ matrices₀ output at picture matrices = length file - at
+
+start-state-requires : tie.Need-start-state-requires Inv-loop μ-loop
+start-state-requires c κs = search needs
 
 default-matrices-requires : tie.Need-default-matrices-requires Inv-loop μ-loop
 default-matrices-requires c κs = search needs
 
 loop-holds : tie.Need-loop-holds Inv-loop μ-loop
-loop-holds c = rw (c .default-matrices .ensures) (whole-start _ _ _ _ _ _ (c .before .before .before .before .before .pre .0) (c .before .before .before .before .before .pre .1))
+loop-holds c =
+    let asked = c .before .before .before .before .before .before .pre in
+    rw (c .default-matrices .ensures, c .before .start-state .ensures) (whole-start _ _ _ _ _ _ (asked .0) (asked .1) (asked .2))
+
+-- the header that the first state is made of
+same-header : (c : tie.After-start-state Inv-loop μ-loop) → c .start-state .result .header ≡ c .before .before .before .before .before .args .header
+same-header c = ap (λ (s : PictureState). s .header) (c .start-state .ensures)
 
 record-at-requires : tie.Need-record-at-requires Inv-loop μ-loop
 record-at-requires c κs = search needs
 
 -- ---- the record at the offset, by the definition
 abbrev taken : tie.In-loop Inv-loop μ-loop → Taken
-taken c = takenAt (c .before .before .before .before .before .before .before .args .file .now) (c .before .loop .at) (c .before .loop .picture) (c .before .loop .matrices)
+taken c = takenAt (c .before .before .before .before .before .before .before .before .args .file .now) (c .before .loop .at) (c .before .loop .picture) (c .before .loop .matrices)
 
 enum-known-found : tie.Need-enum-known-found Inv-loop μ-loop
 enum-known-found c = search needs
@@ -64,18 +74,18 @@ returns : tie.Need-returns Inv-loop μ-loop
 returns c =
     let e = sym (c .before .before .before .before .record-at .ensures) ∙ c .before .before .enum-told .given .1 in
     let v = ap (λ (t : Taken). t .acts .verdict) (taken-unfound _ _ _ _ e) in
-    let whole = whole-refused _ _ _ (c .before .before .before .before .before .before .loop .inv) (c .before .before .before .before .before .loop-test .taken) v in
+    let whole = rw (same-header (c .before .before .before .before .before .before .before .before)) at (whole-refused _ _ _ (c .before .before .before .before .before .before .loop .inv) (c .before .before .before .before .before .loop-test .taken) v) in
     (c .refused-at .ensures ∙ rw (c .before .record-refusal .ensures, c .before .before .enum-told .given .1) (sym (whole .0)), whole .1)
 
 -- one that is found lies within the file
-shown : (c : tie.After-found Inv-loop μ-loop) → recordOf (c .before .before .before .before .before .before .before .before .before .before .args .file .now) (c .before .before .before .before .loop .at) ≡ Record.Found (c .found .given .0 .0) (c .found .given .0 .1 .0) (c .found .given .0 .1 .1 .0)
+shown : (c : tie.After-found Inv-loop μ-loop) → recordOf (c .before .before .before .before .before .before .before .before .before .before .before .args .file .now) (c .before .before .before .before .loop .at) ≡ Record.Found (c .found .given .0 .0) (c .found .given .0 .1 .0) (c .found .given .0 .1 .1 .0)
 shown c = sym (c .before .before .record-at .ensures) ∙ c .found .given .1
 
-within : (c : tie.After-found Inv-loop μ-loop) → c .found .given .0 .1 .0 + c .found .given .0 .1 .1 .0 ≤ length (c .before .before .before .before .before .before .before .before .before .before .args .file .now)
-within c = subst (Inside (c .before .before .before .before .before .before .before .before .before .before .args .file .now)) (shown c) (inside (c .before .before .before .before .before .before .before .before .before .before .args .file .now) (c .before .before .before .before .loop .at)) .fits
+within : (c : tie.After-found Inv-loop μ-loop) → c .found .given .0 .1 .0 + c .found .given .0 .1 .1 .0 ≤ length (c .before .before .before .before .before .before .before .before .before .before .before .args .file .now)
+within c = subst (Inside (c .before .before .before .before .before .before .before .before .before .before .before .args .file .now)) (shown c) (inside (c .before .before .before .before .before .before .before .before .before .before .before .args .file .now) (c .before .before .before .before .loop .at)) .fits
 
 add-end : tie.Need-add-end Inv-loop μ-loop
-add-end c = let w = within (c .before) in omega arith
+add-end c = omega (arith, within (c .before), c .before .before .before .before .before .before .before .before .before .before .before .before .good .0 .0)
 
 sub-body : tie.Need-sub-body Inv-loop μ-loop
 sub-body c = search needs
@@ -93,10 +103,10 @@ act-requires c κs = c .before .before .before .before .before .before .before .
 outcome-is : (c : tie.After-act Inv-loop μ-loop) → c .act .result ≡ outcomeOf (taken (c .before .before .before .before .before .before .before .before .before .before) .acts)
 outcome-is c = rw add-sub-cancel-left at (c .act .ensures .0) ∙ ap (λ (t : Taken). outcomeOf (t .acts)) (sym (taken-found _ _ _ _ (shown (c .before .before .before .before .before .before .before))))
 
-output-is : (c : tie.After-act Inv-loop μ-loop) → c .act .last .1 .1 .1 .1 .1 .1 .1 .0 ≡ written inverseTransform (references (c .before .before .before .before .before .before .before .before .before .before .before .before .before .before .before .before .before .args .forward .now) (c .before .before .before .before .before .before .before .before .before .before .before .before .before .before .before .before .before .args .backward .now)) (c .before .before .before .before .before .before .before .before .before .before .before .loop .picture) (taken (c .before .before .before .before .before .before .before .before .before .before) .acts) (c .before .before .before .before .before .before .before .before .before .before .before .loop .output)
+output-is : (c : tie.After-act Inv-loop μ-loop) → c .act .last .1 .1 .1 .1 .1 .1 .1 .0 ≡ written inverseTransform (references (c .before .before .before .before .before .before .before .before .before .before .before .before .before .before .before .before .before .before .args .forward .now) (c .before .before .before .before .before .before .before .before .before .before .before .before .before .before .before .before .before .before .args .backward .now)) (c .before .before .before .before .before .before .before .before .before .before .before .loop .picture) (taken (c .before .before .before .before .before .before .before .before .before .before) .acts) (c .before .before .before .before .before .before .before .before .before .before .before .loop .output)
 output-is c =
     rw add-sub-cancel-left at (c .act .ensures .1)
-    ∙ ap (λ (t : Taken). written inverseTransform (references (c .before .before .before .before .before .before .before .before .before .before .before .before .before .before .before .before .before .args .forward .now) (c .before .before .before .before .before .before .before .before .before .before .before .before .before .before .before .before .before .args .backward .now)) (c .before .before .before .before .before .before .before .before .before .before .before .loop .picture) (t .acts) (c .before .before .before .before .before .before .before .before .before .before .before .loop .output)) (sym (taken-found _ _ _ _ (shown (c .before .before .before .before .before .before .before))))
+    ∙ ap (λ (t : Taken). written inverseTransform (references (c .before .before .before .before .before .before .before .before .before .before .before .before .before .before .before .before .before .before .args .forward .now) (c .before .before .before .before .before .before .before .before .before .before .before .before .before .before .before .before .before .before .args .backward .now)) (c .before .before .before .before .before .before .before .before .before .before .before .loop .picture) (t .acts) (c .before .before .before .before .before .before .before .before .before .before .before .loop .output)) (sym (taken-found _ _ _ _ (shown (c .before .before .before .before .before .before .before))))
 
 verdict-is : (c : tie.After-act Inv-loop μ-loop) {v : Verdict} → c .act .result .verdict ≡ v → taken (c .before .before .before .before .before .before .before .before .before .before) .acts .verdict ≡ v
 verdict-is c e = sym (ap (λ (o : Outcome). o .verdict) (outcome-is c)) ∙ e
@@ -119,8 +129,8 @@ same-length-2 c = c .before .before .before .before .before .before .act .kept .
 returns-2 : tie.Need-returns-2 Inv-loop μ-loop
 returns-2 c =
     let v = verdict-is (c .before .before .before .before .before .before) (c .before .before .enum-told3 .given .1) in
-    let whole = whole-refused _ _ _ (c .before .before .before .before .before .before .before .before .before .before .before .before .before .before .before .before .before .loop .inv) (c .before .before .before .before .before .before .before .before .before .before .before .before .before .before .before .before .loop-test .taken) v in
-    let none = refused-makes-none (c .before .before .before .before .before .before .before .before .before .before .before .before .before .before .before .before .before .loop .matrices) (c .before .before .before .before .before .before .before .before .before .before .before .before .before .before .before .before .before .loop .picture) (c .before .before .before .before .before .before .before .before .before .before .before .before .before .before .before .before .before .before .before .before .before .before .before .args .file .now) (c .before .before .before .before .before .before .before .before .before .before .before .before .before .before .before .before .before .loop .at) _ v in
+    let whole = rw (same-header (c .before .before .before .before .before .before .before .before .before .before .before .before .before .before .before .before .before .before .before)) at (whole-refused _ _ _ (c .before .before .before .before .before .before .before .before .before .before .before .before .before .before .before .before .before .loop .inv) (c .before .before .before .before .before .before .before .before .before .before .before .before .before .before .before .before .loop-test .taken) v) in
+    let none = refused-makes-none (c .before .before .before .before .before .before .before .before .before .before .before .before .before .before .before .before .before .loop .matrices) (c .before .before .before .before .before .before .before .before .before .before .before .before .before .before .before .before .before .loop .picture) (c .before .before .before .before .before .before .before .before .before .before .before .before .before .before .before .before .before .before .before .before .before .before .before .before .args .file .now) (c .before .before .before .before .before .before .before .before .before .before .before .before .before .before .before .before .before .loop .at) _ v in
     let kept = rw none at (output-is (c .before .before .before .before .before .before)) ∙ sym (macroblocks-none inverseTransform _ _ (c .before .before .before .before .before .before .before .before .before .before .before .before .before .before .before .before .before .loop .output)) in
     (c .refused-at2 .ensures ∙ rw (c .before .verdict-refusal .ensures, c .before .before .enum-told3 .given .1) (sym (whole .0)), kept ∙ whole .1)
 
@@ -129,12 +139,12 @@ load-matrix-requires : tie.Need-load-matrix-requires Inv-loop μ-loop
 load-matrix-requires c κs =
     let s = c .before .before .before .before .before .before .before .before .before .before .before .before .before .before .before .before .loop .picture in
     let q = c .before .before .before .before .before .before .before .before .before .before .before .before .before .before .before .before .loop .matrices in
-    let body = take (c .before .before .before .before .before .before .before .before .before .before .before .before .found .given .0 .1 .1 .0) (drop (c .before .before .before .before .before .before .before .before .before .before .before .before .found .given .0 .1 .0) (c .before .before .before .before .before .before .before .before .before .before .before .before .before .before .before .before .before .before .before .before .before .before .args .file .now)) in
+    let body = take (c .before .before .before .before .before .before .before .before .before .before .before .before .found .given .0 .1 .1 .0) (drop (c .before .before .before .before .before .before .before .before .before .before .before .before .found .given .0 .1 .0) (c .before .before .before .before .before .before .before .before .before .before .before .before .before .before .before .before .before .before .before .before .before .before .before .args .file .now)) in
     let v = sym (ap (λ (t : Taken). t .acts .verdict) (taken-found _ _ s q (shown (c .before .before .before .before .before .before .before .before .before .before .before .before)))) ∙ verdict-is (c .before .before .before .before .before) (c .before .enum-told2 .given .1) in
     rw add-sub-cancel-left (matrix-long q s body (subst (λ (kind : ℕ). acted q s kind body .verdict ≡ Passed) (c .if1 .taken) v))
 
 loaded : (c : tie.After-found Inv-loop μ-loop) → c .found .given .0 .0 ≡ matrix
-    → taken (c .before .before .before) .matrices ≡ loadedWith (take (c .found .given .0 .1 .1 .0) (drop (c .found .given .0 .1 .0) (c .before .before .before .before .before .before .before .before .before .before .args .file .now))) (c .before .before .before .before .loop .matrices)
+    → taken (c .before .before .before) .matrices ≡ loadedWith (take (c .found .given .0 .1 .1 .0) (drop (c .found .given .0 .1 .0) (c .before .before .before .before .before .before .before .before .before .before .before .args .file .now))) (c .before .before .before .before .loop .matrices)
 loaded c e = ap (λ (t : Taken). t .matrices) (taken-found _ _ (c .before .before .before .before .loop .picture) (c .before .before .before .before .loop .matrices) (shown c)) ∙ rw (eq-eqb _ _ e)
 
 held : (c : tie.After-found Inv-loop μ-loop) → (c .found .given .0 .0 ≡ matrix → ⊥) → taken (c .before .before .before) .matrices ≡ c .before .before .before .before .loop .matrices
@@ -149,7 +159,7 @@ matrices-are c =
 
 loop-less : tie.Need-loop-less Inv-loop μ-loop
 loop-less c =
-    let ends = taken-ends (c .before .before .before .before .before .before .before .before .before .before .before .before .before .before .before .before .before .before .before .before .before .before .before .args .file .now) (c .before .before .before .before .before .before .before .before .before .before .before .before .before .before .before .before .before .loop .at) (c .before .before .before .before .before .before .before .before .before .before .before .before .before .before .before .before .before .loop .picture) (c .before .before .before .before .before .before .before .before .before .before .before .before .before .before .before .before .before .loop .matrices) (verdict-is (c .before .before .before .before .before .before) (c .before .before .enum-told2 .given .1)) in
+    let ends = taken-ends (c .before .before .before .before .before .before .before .before .before .before .before .before .before .before .before .before .before .before .before .before .before .before .before .before .args .file .now) (c .before .before .before .before .before .before .before .before .before .before .before .before .before .before .before .before .before .loop .at) (c .before .before .before .before .before .before .before .before .before .before .before .before .before .before .before .before .before .loop .picture) (c .before .before .before .before .before .before .before .before .before .before .before .before .before .before .before .before .before .loop .matrices) (verdict-is (c .before .before .before .before .before .before) (c .before .before .enum-told2 .given .1)) in
     let e = ap (λ (t : Taken). t .end) (taken-found _ _ (c .before .before .before .before .before .before .before .before .before .before .before .before .before .before .before .before .before .loop .picture) (c .before .before .before .before .before .before .before .before .before .before .before .before .before .before .before .before .before .loop .matrices) (shown (c .before .before .before .before .before .before .before .before .before .before .before .before .before))) in
     omega (arith, ends .beyond, ends .in-file, e)
 
@@ -167,7 +177,7 @@ same-length-3 c = c .before .before .loop .inv .long
 
 returns-3 : tie.Need-returns-3 Inv-loop μ-loop
 returns-3 c =
-    let whole = whole-done _ _ _ (c .before .before .loop .inv) (c .before .loop-test .left) in
+    let whole = rw (same-header (c .before .before .before .before)) at (whole-done _ _ _ (c .before .before .loop .inv) (c .before .loop-test .left)) in
     (c .answer-at-end .ensures ∙ sym (whole .0), whole .1)
 
 pub read-records-spec : {M : Type 1} → statement M
@@ -176,6 +186,7 @@ read-records-spec =
     (tie.spec
     Inv-loop
     μ-loop
+    start-state-requires
     default-matrices-requires
     loop-holds
     record-at-requires

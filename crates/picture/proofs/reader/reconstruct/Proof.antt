@@ -1,10 +1,7 @@
 -- `reader::reconstruct` meets its contract: a header that was opened starts the records, and a refusal leaves the output as it was. Assumes nothing.
-use mathlib.Core.Path.{sym, _∙_, subst}
-use Rattle.picture_state.specs.declared.state.PictureState.{PictureState}
-use Rattle.picture.proofs.SoundLaws.{start-within}
+use mathlib.Core.Path.{sym, _∙_}
 use Rattle.picture.proofs.StartLaws.{Started, opened}
 use Rattle.picture.specs.Picture.{pictureOf}
-use Rattle.picture.specs.Sound.{Sound}
 use borrow.Author.Needs.{needs}
 use Rattle.picture.proofs.reader.reconstruct.Statement.{statement}
 use Rattle.picture.proofs.reader.reconstruct.Tie as tie
@@ -25,16 +22,8 @@ refused-at-requires c κs = search needs
 enum-known-header : tie.Need-enum-known-header
 enum-known-header c = search needs
 
-start-state-requires : tie.Need-start-state-requires
-start-state-requires c κs = search needs
-
 read-records-requires : tie.Need-read-records-requires
-read-records-requires c κs =
-    let a = c .before .before .before .before .before .before .before .before .before .before .args in
-    let s = started (c .before .before .before) in (
-      subst (λ (p : PictureState). Sound p (a .forward .now) (a .backward .now) (a .output .now)) (sym (c .before .start-state .ensures)) (record { state = start-within (c .before .before .before .header .given .0 .0) (s .header); lent = s .lent }),
-      s .in-file,
-    )
+read-records-requires c κs = let s = started (c .before .before) in (s .header, s .lent, s .in-file)
 
 returns : tie.Need-returns
 unfolding pictureOf
@@ -48,9 +37,8 @@ same-length c = search needs
 returns-2 : tie.Need-returns-2
 unfolding pictureOf
 returns-2 c =
-    let e = sym (c .before .before .before .before .before .before .before .before .«open» .ensures) ∙ c .before .before .before .before .before .before .header .given .1 in
-    let first = c .before .before .before .before .start-state .ensures in
-    (rw e (rw first at (c .before .before .read-records .ensures .0)), rw e (rw first at (c .before .before .read-records .ensures .1)))
+    let e = sym (c .before .before .before .before .before .before .before .«open» .ensures) ∙ c .before .before .before .before .before .header .given .1 in
+    (rw e (c .before .before .read-records .ensures .0), rw e (c .before .before .read-records .ensures .1))
 
 pub reconstruct-spec : {M : Type 1} → statement M
 reconstruct-spec =
@@ -60,7 +48,6 @@ reconstruct-spec =
     enum-known-refusal
     refused-at-requires
     enum-known-header
-    start-state-requires
     read-records-requires
     returns
     same-length

@@ -1,7 +1,7 @@
 -- `records::act` meets its contract: each way rewrites with the tests that led there. Assumes nothing.
 use mathlib.Core.Path.{sym, _∙_}
 use borrow.Author.Tests.{eq-eqb, ne-eqb, not-true, not-false}
-use Rattle.parsed.specs.Guard.{need_else_then_}
+use Rattle.symbols.specs.Guard.{need_else_then_}
 use Rattle.macroblock.proofs.BlocksLaws.{macroblocks-none}
 use Rattle.picture.specs.Step.{acted}
 use Rattle.picture.proofs.RecordLaws.{matrix-makes-none, slice-makes-none}

@@ -3,10 +3,10 @@ use mathlib.Core.Path.{_≡_, sym, _∙_}
 use Prim.Native.Nat.{ℕ}
 use native.Mathlib.Omega.{arith}
 use Rattle.refusals.specs.declared.Refusal.{Refusal}
-use Rattle.parsed.specs.Parsed.{Parsed, parsed, refused}
-use Rattle.symbols.specs.Slice.{sliceOf, sliceAnswer}
-use Rattle.symbols.specs.declared.slice.Slice.{Slice}
-use Rattle.symbols.specs.declared.slice.SliceAnswer.the-variants.{Legal, Refused}
+use Rattle.symbols.specs.Parsed.{Parsed, parsed, refused}
+use Rattle.symbols.specs.declared.slice.SliceHeader.{SliceHeader}
+use Rattle.macroblock_symbols.specs.Slice.{sliceOf, sliceAnswer}
+use Rattle.macroblock_symbols.specs.declared.slice.SliceAnswer.the-variants.{Legal, Refused}
 use Rattle.picture_state.specs.declared.state.PictureState.{PictureState}
 use Rattle.picture.specs.MacroblockRecord.{refusedRecord}
 use Rattle.picture.specs.Step.{sliceStarted, sliceStartedFrom}
@@ -18,11 +18,11 @@ read-slice-requires : tie.Need-read-slice-requires
 read-slice-requires c κs = search needs
 
 -- what an answer tells of the slice that was parsed
-legal : (s : PictureState) (x : Parsed Slice) {l : Slice} → sliceAnswer x ≡ Legal l → sliceStartedFrom s x ≡ sliceStarted s l
+legal : (s : PictureState) (x : Parsed SliceHeader) {l : SliceHeader} → sliceAnswer x ≡ Legal l → sliceStartedFrom s x ≡ sliceStarted s l
 legal s (parsed other rest) {l} e = let same : other ≡ l = cc in rw same
 legal s (refused refusal) e = absurd (let z : _≡_ {A = ℕ} 0 1 = cc in omega arith)
 
-not-legal : (s : PictureState) (x : Parsed Slice) {refusal : Refusal} → sliceAnswer x ≡ Refused refusal → sliceStartedFrom s x ≡ refusedRecord refusal s
+not-legal : (s : PictureState) (x : Parsed SliceHeader) {refusal : Refusal} → sliceAnswer x ≡ Refused refusal → sliceStartedFrom s x ≡ refusedRecord refusal s
 not-legal s (parsed l rest) e = absurd (let z : _≡_ {A = ℕ} 0 1 = cc in omega arith)
 not-legal s (refused other) {refusal} e = let same : other ≡ refusal = cc in rw same
 

@@ -1,6 +1,6 @@
 -- `records::start_slice` meets its contract: the slice's state is reset, where it starts at the next address. Assumes nothing.
 use borrow.Author.Tests.{eq-eqb, ne-eqb}
-use Rattle.parsed.specs.Guard.{need_else_then_}
+use Rattle.symbols.specs.Guard.{need_else_then_}
 use Rattle.picture.specs.Step.{sliceStarted}
 use borrow.Author.Needs.{needs}
 use Rattle.picture.proofs.records.start_slice.Statement.{statement}

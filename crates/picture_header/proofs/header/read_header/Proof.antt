@@ -1,7 +1,7 @@
 -- `read_header` meets its contract: the seven bytes are the fields in their order. Assumes nothing.
 use borrow.Author.Tests.{eq-eqb, ne-eqb}
 use borrow.Author.Needs.{needs}
-use Rattle.parsed.specs.Guard.{need_else_then_}
+use Rattle.symbols.specs.Guard.{need_else_then_}
 use Rattle.picture_header.specs.Header.{headerOf}
 use Rattle.picture_header.proofs.header.read_header.Statement.{statement}
 use Rattle.picture_header.proofs.header.read_header.Tie as tie

@@ -4,9 +4,9 @@ use mathlib.Core.Path.{_≡_}
 use lib.Dec.{eqb}
 use borrow.Author.Tests.{eq-eqb, ne-eqb}
 use borrow.Author.Needs.{needs}
-use Rattle.parsed.specs.Guard.{need_else_then_}
-use Rattle.picture_header.specs.Size.{bytes}
-use Rattle.picture_header.specs.Header.{usesForward}
+use Rattle.symbols.specs.Guard.{need_else_then_}
+use Rattle.symbols.specs.Size.{bytes}
+use Rattle.symbols.specs.Header.{usesForward}
 use Rattle.picture_header.specs.Lengths.{referenceLength, lengthsOf}
 use Rattle.picture_header.proofs.lengths.lent_lengths.Statement.{statement}
 use Rattle.picture_header.proofs.lengths.lent_lengths.Tie as tie

@@ -9,12 +9,12 @@ use borrow.Author.Needs.{needs}
 use borrow.Author.Tests.{le-leb, lt-leb, eq-eqb, ne-eqb, not-true, not-false}
 use lib.Dec.{leb, eqb}
 use lib.ListN.{length, getD}
-use Rattle.format3.proofs.Laws.Record.{inside}
+use Rattle.symbols.specs.Guard.{need_else_then_}
 use Rattle.format3.specs.declared.record.Record.the-variants.{Found}
 use Rattle.format3.specs.declared.turn.Turn.the-variants.{Start}
-use Rattle.parsed.specs.Guard.{need_else_then_}
 use Rattle.format3.specs.Record.{recordOf}
 use Rattle.format3.specs.Turn.{inTurn}
+use Rattle.format3.proofs.Laws.Record.{inside}
 use Rattle.picture_header.specs.Opening.{version, firstHeader}
 use Rattle.picture_header.proofs.opening.first_header.Statement.{statement}
 use Rattle.picture_header.proofs.opening.first_header.Tie as tie

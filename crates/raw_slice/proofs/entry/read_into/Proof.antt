@@ -5,16 +5,18 @@ use Prim.Native.Nat.{ℕ, _<_, _≤_}
 use native.Mathlib.Omega.{arith}
 use borrow.Author.Needs.{needs}
 use lib.ListN.{length}
+use Rattle.symbols.specs.Slice.{Slice}
 use Rattle.byte_layout.specs.Laid.{farthest}
+use Rattle.record_layout.specs.Records.{recordsOf}
 use Rattle.slice_syntax.specs.Read.{Read}
-use Rattle.slice_syntax.specs.Slice.{SliceFields, rawSliceOf, recordsOf}
+use Rattle.slice_syntax.specs.Slice.{rawSliceOf}
 use Rattle.slice_records.specs.Laying.{LaidAt}
 use Rattle.raw_slice.specs.Answer.{Outcome, acceptedAnswer, acceptedWith, readOutcome}
 use Rattle.raw_slice.proofs.Laws.Answer.{Measured, measured, unmeasured, too-long, it-fits, whole-size, laid-there, front-there, front-absent}
 use Rattle.raw_slice.proofs.entry.read_into.Statement.{statement}
 use Rattle.raw_slice.proofs.entry.read_into.Tie as tie
 
-abbrev slice : (s : tie.Start) → Read SliceFields
+abbrev slice : (s : tie.Start) → Read Slice
 slice s = rawSliceOf (s .args .header) (s .args .bytes .now)
 
 code-table-requires : tie.Need-code-table-requires

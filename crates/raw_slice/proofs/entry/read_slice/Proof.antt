@@ -1,9 +1,9 @@
 -- `read_slice` meets its contract: the given numbers, then the slice. Assumes nothing.
 use mathlib.Core.Path.{_≡_, refl, sym, _∙_}
 use borrow.Author.Needs.{needs}
-use Rattle.picture_header.specs.Header.{headerWith}
-use Rattle.picture_header.specs.declared.header.HeaderAnswer.the-variants as Header
-use Rattle.picture_header.proofs.Laws.Header.{made-within}
+use Rattle.symbols.specs.Header.{headerWith}
+use Rattle.symbols.specs.declared.header.HeaderAnswer.the-variants as Header
+use Rattle.symbols.proofs.Laws.Header.{made-within}
 use Rattle.raw_slice.specs.Answer.{given, rawSliceOutcome}
 use Rattle.raw_slice.proofs.Laws.Answer.{legal-height}
 use Rattle.raw_slice.proofs.entry.read_slice.Statement.{statement}

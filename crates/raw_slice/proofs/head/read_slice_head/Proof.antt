@@ -1,14 +1,13 @@
 -- `read_slice_head` meets its contract: the start code, the scale, and the extra information dropped. Assumes nothing.
 use mathlib.Core.Path.{_≡_}
-use Prim.Native.Nat.{_+_}
 use native.Mathlib.Omega.{arith}
 use borrow.Author.Needs.{needs}
-use lib.ListN.{length}
-use Rattle.bits.specs.Bits.{InBytes, bitsFrom}
-use Rattle.codes.specs.SliceStart.{sliceStartOf}
-use Rattle.slice_syntax.specs.Read.{read, readCode, fieldAt}
-use Rattle.slice_syntax.specs.Slice.{firstBit, afterExtra, sliceHeadOf}
-use Rattle.slice_syntax.proofs.Laws.Read.{step-read, step-refused, reached, field-onward, field-below}
+use Rattle.symbols.specs.Parsed.{parsed}
+use Rattle.symbols.proofs.Parsed.{all-at}
+use Rattle.bits.specs.Bits.{InBytes}
+use Rattle.slice_syntax.specs.Read.{fieldAt}
+use Rattle.slice_syntax.specs.Slice.{firstBit, sliceStartAt, extraAt, sliceHeadAt}
+use Rattle.slice_syntax.proofs.Laws.Read.{step-read, step-refused, standing, field-onward, field-below}
 use Rattle.raw_slice.proofs.Laws.Start.{skipped-to, skipped-refused, start-row}
 use Rattle.raw_slice.proofs.head.read_slice_head.Statement.{statement}
 use Rattle.raw_slice.proofs.head.read_slice_head.Tie as tie
@@ -26,11 +25,11 @@ module _ (c : tie.After-known-told2) where
   abbrev start : tie.Start
   start = c .before .before .before .before .before
 
-  row : readCode (sliceStartOf (start .args .height) (bitsFrom (start .args .bytes .now) firstBit)) firstBit ≡ read (c .before .row .given .0 .0) (c .before .row .given .0 .1 .0)
+  row : sliceStartAt (start .args .height) (start .args .bytes .now) firstBit ≡ parsed (c .before .row .given .0 .0) (c .before .row .given .0 .1 .0)
   row = step-read _ (c .before .before .before .next-start .ensures) (c .before .row .given .1)
 
   inside : InBytes (start .args .bytes .now) (c .before .row .given .0 .1 .0)
-  inside = start-row (start .args .height) (start .args .bytes .now) row .inside
+  inside = all-at (start-row (start .args .height) (start .args .bytes .now)) row .inside
 
 next-field-requires : tie.Need-next-field-requires
 next-field-requires c κs = (inside c, omega arith)
@@ -45,11 +44,11 @@ module _ (c : tie.After-known-told4) where
   abbrev told : tie.After-known-told2
   told = c .before .before .before .before
 
-  scale : fieldAt 5 (start told .args .bytes .now) (told .before .row .given .0 .1 .0) ≡ read (c .before .scale .given .0 .0) (c .before .scale .given .0 .1 .0)
+  scale : fieldAt 5 (start told .args .bytes .now) (told .before .row .given .0 .1 .0) ≡ parsed (c .before .scale .given .0 .0) (c .before .scale .given .0 .1 .0)
   scale = step-read _ (c .before .before .before .next-field .ensures) (c .before .scale .given .1)
 
 skip-extra-requires : tie.Need-skip-extra-requires
-skip-extra-requires c κs = reached (field-onward _ _ (inside (told c)) 5) (scale c) .inside
+skip-extra-requires c κs = all-at (field-onward (standing (inside (told c))) 5) (scale c) .inside
 
 enum-known-refusal-3 : tie.Need-enum-known-refusal-3
 enum-known-refusal-3 c = search needs
@@ -60,41 +59,41 @@ enum-known-end c = search needs
 cast-t20 : tie.Need-cast-t20
 cast-t20 c =
     let t = told (c .before .before .before .before) in
-    omega (arith, start-row (start t .args .height) (start t .args .bytes .now) (row t) .most)
+    omega (arith, all-at (start-row (start t .args .height) (start t .args .bytes .now)) (row t) .most)
 
 cast-t21 : tie.Need-cast-t21
-cast-t21 c = let k = c .before .before .before .before in omega (arith, field-below _ _ 5 (scale k))
+cast-t21 c = let k = c .before .before .before .before in omega (arith, all-at (field-below _ _ 5) (scale k))
 
 returns : tie.Need-returns
-unfolding sliceHeadOf
+unfolding sliceHeadAt
 returns c =
     let s = c .before .before .before .before .before in
-    rw (step-refused (readCode (sliceStartOf (s .args .height) (bitsFrom (s .args .bytes .now) firstBit)) firstBit) (c .before .before .before .next-start .ensures) (c .before .refusal .given .1))
+    rw (step-refused (sliceStartAt (s .args .height) (s .args .bytes .now) firstBit) (c .before .before .before .next-start .ensures) (c .before .refusal .given .1))
 
 returns-2 : tie.Need-returns-2
-unfolding sliceHeadOf
+unfolding sliceHeadAt
 returns-2 c =
     let n = c .before .before .before in
     let t = n .before in
     rw (row t, step-refused (fieldAt 5 (start t .args .bytes .now) (t .before .row .given .0 .1 .0)) (n .next-field .ensures) (c .before .refusal2 .given .1))
 
 returns-3 : tie.Need-returns-3
-unfolding sliceHeadOf
+unfolding sliceHeadAt
 returns-3 c =
     let x = c .before .before .before in
     let k = x .before in
     let bytes = start (told k) .args .bytes .now in
     let p = k .before .scale .given .0 .1 .0 in
-    rw (row (told k), scale k, skipped-refused (afterExtra (1 + length (bitsFrom bytes p)) bytes p) (x .skip-extra .ensures) (c .before .refusal3 .given .1))
+    rw (row (told k), scale k, skipped-refused (extraAt bytes p) (x .skip-extra .ensures) (c .before .refusal3 .given .1))
 
 returns-4 : tie.Need-returns-4
-unfolding sliceHeadOf
+unfolding sliceHeadAt
 returns-4 c =
     let x = c .before .before .before in
     let k = x .before in
     let bytes = start (told k) .args .bytes .now in
     let p = k .before .scale .given .0 .1 .0 in
-    rw (row (told k), scale k, skipped-to (afterExtra (1 + length (bitsFrom bytes p)) bytes p) (x .skip-extra .ensures) (c .before .end .given .1))
+    rw (row (told k), scale k, skipped-to (extraAt bytes p) (x .skip-extra .ensures) (c .before .end .given .1))
 
 pub read-slice-head-spec : {M : Type 1} → statement M
 read-slice-head-spec =

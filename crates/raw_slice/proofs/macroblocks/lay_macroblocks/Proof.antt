@@ -5,10 +5,11 @@ use native.Mathlib.Omega.{arith}
 use borrow.Author.Needs.{needs}
 use lib.ListN.{length}
 use mathlib.Core.Bool.{false}
-use Rattle.bits.specs.Bits.{offset, allZeros, bitsFrom}
+use Rattle.symbols.proofs.Parsed.{all-as, all-none}
 use Rattle.record_layout.specs.Records.{macroblockRecord}
+use Rattle.bits.specs.Bits.{offset, allZeros, bitsFrom}
 use Rattle.slice_syntax.specs.Slice.{nextAt, macroblocksAt}
-use Rattle.slice_records.proofs.Laws.Laying.{Part, part-done, part-refused, laid-as, not-laid}
+use Rattle.slice_records.proofs.Laws.Laying.{Part, part-done, part-refused}
 use Rattle.raw_slice.proofs.Laws.Macroblocks.{Passed, passed-none, passed-end, passed-refused, passed-more, next-ahead}
 use Rattle.raw_slice.proofs.macroblocks.lay_macroblocks.Statement.{statement}
 use Rattle.raw_slice.proofs.macroblocks.lay_macroblocks.Tie as tie
@@ -32,7 +33,7 @@ returns : tie.Need-returns Inv-loop μ-loop
 returns c =
     let inv = c .before .before .loop .inv in
     let e = passed-end _ _ _ inv (sym (c .before .only-zeros-left .ensures) ∙ c .if1 .taken) in
-    (rw (e, inv .counted) refl, laid-as _ e (inv .there))
+    (rw (e, inv .counted) refl, all-as e (inv .there))
 
 lay-next-requires : tie.Need-lay-next-requires Inv-loop μ-loop
 lay-next-requires c κs =
@@ -67,7 +68,7 @@ returns-2 c =
     passed-refused _ _ _ (looped l .loop .inv) (more l)
     (part-refused macroblockRecord (nextAt (s .args .header) (s .args .bytes .now) (looped l .loop .at)) (l .lay-next .ensures .0) (c .before .refusal .given .1))
     in
-    (rw e refl, not-laid _ e)
+    (rw e refl, all-none e)
 
 enum-known-next : tie.Need-enum-known-next Inv-loop μ-loop
 enum-known-next c = search needs

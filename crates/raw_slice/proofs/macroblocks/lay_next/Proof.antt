@@ -1,13 +1,13 @@
 -- `lay_next` meets its contract: the macroblock after its increment. Assumes nothing.
 use mathlib.Core.Path.{_≡_, refl}
 use borrow.Author.Needs.{needs}
+use Rattle.symbols.specs.Parsed.{parsed}
+use Rattle.symbols.proofs.Parsed.{all-at, all-none}
 use Rattle.bits.specs.Bits.{InBytes}
-use Rattle.slice_syntax.specs.Read.{read}
 use Rattle.slice_syntax.specs.Increment.{incrementAt}
 use Rattle.slice_syntax.specs.Slice.{nextAt}
-use Rattle.slice_syntax.proofs.Laws.Read.{step-read, step-refused, reached}
-use Rattle.slice_syntax.proofs.Laws.Onward.{increment-onward}
-use Rattle.slice_records.proofs.Laws.Laying.{not-laid}
+use Rattle.slice_syntax.proofs.Laws.Read.{step-read, step-refused, standing}
+use Rattle.slice_syntax.proofs.Laws.Onward.{increment-ahead}
 use Rattle.raw_slice.proofs.Laws.Macroblocks.{no-increment}
 use Rattle.raw_slice.proofs.macroblocks.lay_next.Statement.{statement}
 use Rattle.raw_slice.proofs.macroblocks.lay_next.Tie as tie
@@ -25,11 +25,11 @@ module _ (c : tie.After-known-told2) where
   abbrev start : tie.Start
   start = c .before .before .before .before .before .before
 
-  increment : incrementAt (start .args .bytes .now) (start .args .at) ≡ read (c .before .increment .given .0 .0) (c .before .increment .given .0 .1 .0)
+  increment : incrementAt (start .args .bytes .now) (start .args .at) ≡ parsed (c .before .increment .given .0 .0) (c .before .increment .given .0 .1 .0)
   increment = step-read _ (c .before .before .before .read-increment .ensures) (c .before .increment .given .1)
 
   inside : InBytes (start .args .bytes .now) (c .before .increment .given .0 .1 .0)
-  inside = reached (increment-onward (start .args .bytes .now) (start .args .at) (start .pre .1)) increment .inside
+  inside = all-at (increment-ahead (start .args .bytes .now) (standing (start .pre .1))) increment .inside
 
 lay-macroblock-requires : tie.Need-lay-macroblock-requires
 lay-macroblock-requires c κs = let s = start (c .before) in (s .pre .0, inside (c .before), s .pre .2, s .pre .3)
@@ -39,7 +39,7 @@ returns c =
     let r = c .before .before .before in
     let s = r .before .before .before in
     let e = no-increment (s .args .header) (s .args .bytes .now) (s .args .at) (step-refused (incrementAt (s .args .bytes .now) (s .args .at)) (r .read-increment .ensures) (c .before .refusal .given .1)) in
-    (rw e refl, not-laid _ e)
+    (rw e refl, all-none e)
 
 same-length : tie.Need-same-length
 same-length c = search needs

@@ -3,16 +3,16 @@ use mathlib.Core.Path.{_≡_, refl}
 use Prim.Native.Nat.{_≤_}
 use native.Mathlib.Omega.{arith}
 use borrow.Author.Needs.{needs}
-use Rattle.bits.specs.Bits.{InBytes}
+use Rattle.symbols.specs.Parsed.{parsed}
+use Rattle.symbols.proofs.Parsed.{all-at, all-none}
 use Rattle.record_layout.specs.Records.{macroblockRecord}
-use Rattle.slice_syntax.specs.Read.{read}
+use Rattle.bits.specs.Bits.{InBytes}
 use Rattle.slice_syntax.specs.Increment.{incrementAt}
 use Rattle.slice_syntax.specs.Macroblock.{macroblockAt}
 use Rattle.slice_syntax.specs.Slice.{startAddress, macroblocksAt}
-use Rattle.slice_syntax.proofs.Laws.Read.{step-read, step-refused, reached}
-use Rattle.slice_syntax.proofs.Laws.Onward.{increment-onward, macroblock-onward}
-use Rattle.slice_records.proofs.Laws.Laying.{Part, part-done, part-refused, not-laid}
-use Rattle.slice_records.proofs.Laws.Few.{of-read}
+use Rattle.slice_syntax.proofs.Laws.Read.{step-read, step-refused, standing}
+use Rattle.slice_syntax.proofs.Laws.Onward.{increment-ahead, macroblock-onward}
+use Rattle.slice_records.proofs.Laws.Laying.{Part, part-done, part-refused}
 use Rattle.raw_slice.proofs.Laws.Slice.{Legal, increment-legal, no-increment, no-first, first-read, slice-together, macroblock-short}
 use Rattle.raw_slice.proofs.slice.lay_records.Statement.{statement}
 use Rattle.raw_slice.proofs.slice.lay_records.Tie as tie
@@ -30,14 +30,14 @@ module _ (c : tie.After-known-told2) where
   abbrev start : tie.Start
   start = c .before .before .before .before .before .before
 
-  increment : incrementAt (start .args .bytes .now) (start .args .at) ≡ read (c .before .increment .given .0 .0) (c .before .increment .given .0 .1 .0)
+  increment : incrementAt (start .args .bytes .now) (start .args .at) ≡ parsed (c .before .increment .given .0 .0) (c .before .increment .given .0 .1 .0)
   increment = step-read _ (c .before .before .before .read-increment .ensures) (c .before .increment .given .1)
 
   legal : Legal (c .before .increment .given .0 .0)
-  legal = of-read (increment-legal (start .args .bytes .now) (start .args .at)) increment
+  legal = all-at (increment-legal (start .args .bytes .now) (start .args .at)) increment
 
   inside : InBytes (start .args .bytes .now) (c .before .increment .given .0 .1 .0)
-  inside = reached (increment-onward (start .args .bytes .now) (start .args .at) (start .pre .1)) increment .inside
+  inside = all-at (increment-ahead (start .args .bytes .now) (standing (start .pre .1))) increment .inside
 
 start-address-requires : tie.Need-start-address-requires
 start-address-requires c κs = let s = start c in (s .pre .2, s .pre .3, s .pre .4, legal c .least, legal c .most)
@@ -70,10 +70,10 @@ module _ (c : tie.After-known-told4) where
   first = part-done macroblockRecord _ (called .lay-macroblock .ensures .0) (c .before .after .given .1)
 
   few : c .before .after .given .0 .1 .0 ≤ 1186
-  few = let s = start told in omega (arith, first .size, of-read (macroblock-short (s .args .header) 1 (s .args .bytes .now) (told .before .increment .given .0 .1 .0)) (first .is) .short)
+  few = let s = start told in omega (arith, first .size, all-at (macroblock-short (s .args .header) 1 (s .args .bytes .now) (told .before .increment .given .0 .1 .0)) (first .is) .short)
 
   behind : InBytes (start told .args .bytes .now) (c .before .after .given .0 .0)
-  behind = reached (macroblock-onward (start told .args .bytes .now) (start told .args .header) 1 (told .before .increment .given .0 .1 .0) (inside told)) (first .is) .inside
+  behind = all-at (macroblock-onward (start told .args .bytes .now) (start told .args .header) 1 (standing (inside told))) (first .is) .inside
 
 add-lay-macroblocks : tie.Need-add-lay-macroblocks
 add-lay-macroblocks c = omega (arith, few (c .before))
@@ -92,7 +92,7 @@ returns c =
     no-increment (s .args .header) (s .args .row) (s .args .scale) (s .args .bytes .now) (s .args .at)
     (step-refused (incrementAt (s .args .bytes .now) (s .args .at)) (r .read-increment .ensures) (c .before .refusal .given .1))
     in
-    (rw e refl, not-laid _ e)
+    (rw e refl, all-none e)
 
 same-length : tie.Need-same-length
 same-length c = search needs
@@ -106,7 +106,7 @@ returns-2 c =
     no-first (s .args .header) (s .args .row) (s .args .scale) (s .args .bytes .now) (s .args .at) (increment t)
     (part-refused macroblockRecord (macroblockAt (s .args .header) 1 (s .args .bytes .now) (t .before .increment .given .0 .1 .0)) (l .lay-macroblock .ensures .0) (c .before .refusal2 .given .1))
     in
-    (rw e refl, not-laid _ e)
+    (rw e refl, all-none e)
 
 same-length-2 : tie.Need-same-length-2
 same-length-2 c = search needs
@@ -121,7 +121,7 @@ returns-3 c =
     let rest = macroblocksAt (s .args .header) (s .args .bytes .now) (k .before .after .given .0 .0) in
     rw (first-read (s .args .header) (s .args .row) (s .args .scale) (s .args .bytes .now) (s .args .at) (increment t) (first k .is))
     (slice-together (s .args .scale) address (first k .value) rest (s .args .buffer .now) (first k .size)
-    (rw (← slice k .before .before .start-address .ensures) (slice k .lay-slice-record .ensures)) (called k .lay-macroblock .ensures .1 .whole (first k .value) (k .before .after .given .0 .0) (first k .is))
+    (rw (← slice k .before .before .start-address .ensures) (slice k .lay-slice-record .ensures)) (all-at (called k .lay-macroblock .ensures .1) (first k .is))
     (l .lay-macroblocks .ensures))
 
 pub lay-records-spec : {M : Type 1} → statement M

@@ -2,9 +2,9 @@
 use mathlib.Core.Path.{_≡_, refl}
 use native.Mathlib.Omega.{arith}
 use borrow.Author.Needs.{needs}
-use Rattle.slice_syntax.specs.Read.{read}
-use Rattle.slice_syntax.specs.Slice.{sliceHeadOf, rawSliceOf}
-use Rattle.slice_records.proofs.Laws.Laying.{not-laid}
+use Rattle.symbols.specs.Parsed.{parsed}
+use Rattle.symbols.proofs.Parsed.{all-at, all-none}
+use Rattle.slice_syntax.specs.Slice.{firstBit, sliceHeadAt, rawSliceOf}
 use Rattle.raw_slice.proofs.Laws.Start.{head-found, head-refused, head-row}
 use Rattle.raw_slice.proofs.Laws.Slice.{no-start}
 use Rattle.raw_slice.proofs.slice.lay_slice.Statement.{statement}
@@ -26,22 +26,22 @@ module _ (c : tie.After-known-told2) where
   abbrev start : tie.Start
   start = c .before .before .before .before .before .before .before .before
 
-  head : sliceHeadOf (start .args .header .size .height) (start .args .bytes .now) ≡ read (record { row = c .before .row .given .0 .0; scale = c .before .row .given .0 .1 .0 }) (c .before .row .given .0 .1 .1 .0)
+  head : sliceHeadAt (start .args .header .size .height) (start .args .bytes .now) firstBit ≡ parsed (record { row = c .before .row .given .0 .0; scale = c .before .row .given .0 .1 .0 }) (c .before .row .given .0 .1 .1 .0)
   head = head-found _ (c .before .before .before .read-slice-head .ensures) (c .before .row .given .1)
 
 lay-records-requires : tie.Need-lay-records-requires
 lay-records-requires c κs =
     let t = c .before in
     let s = start t in
-    let known = head-row (s .args .header .size .height) (s .args .bytes .now) (head t) in
+    let known = all-at (head-row (s .args .header .size .height) (s .args .bytes .now)) (head t) in
     (s .pre .0, known .inside, s .pre .1, known .least, known .most)
 
 returns : tie.Need-returns
 returns c =
     let r = c .before .before .before in
     let s = r .before .before .before .before .before in
-    let e = no-start (s .args .header) (s .args .bytes .now) (head-refused (sliceHeadOf (s .args .header .size .height) (s .args .bytes .now)) (r .read-slice-head .ensures) (c .before .refusal .given .1)) in
-    (rw e refl, not-laid _ e)
+    let e = no-start (s .args .header) (s .args .bytes .now) (head-refused (sliceHeadAt (s .args .header .size .height) (s .args .bytes .now) firstBit) (r .read-slice-head .ensures) (c .before .refusal .given .1)) in
+    (rw e refl, all-none e)
 
 same-length : tie.Need-same-length
 same-length c = search needs

@@ -6,7 +6,7 @@ use native.Mathlib.Omega.{arith}
 use borrow.Author.Tests.{le-leb, lt-leb}
 use lib.Dec.{leb}
 use lib.ListN.{length}
-use Rattle.parsed.specs.Guard.{need_else_then_}
+use Rattle.symbols.specs.Guard.{need_else_then_}
 use Rattle.reel.specs.Part.{partAt}
 use borrow.Author.Needs.{needs}
 use Rattle.reel.proofs.part.part_at.Statement.{statement}

@@ -5,19 +5,20 @@ use Prim.Native.Nat.{ℕ, _≤_}
 use native.Mathlib.Omega.{arith}
 use borrow.Author.Needs.{needs}
 use lib.IntN.{ℤ}
-use Rattle.bits.specs.Bits.{InBytes}
-use Rattle.bits.specs.declared.Position.{Position}
-use Rattle.pairs.specs.declared.Pair.{Pair}
-use Rattle.blocks.specs.Blocks.{Block, coded}
+use Rattle.symbols.specs.declared.pair.Pair.{Pair}
+use Rattle.symbols.specs.Block.{Block, coded}
+use Rattle.symbols.proofs.Parsed.{all-at, all-none}
 use Rattle.record_layout.specs.Records.{levelsBytes, differenceBytes, blockBytes}
 use Rattle.record_layout.proofs.Laws.Lengths.{levels-length}
+use Rattle.bits.specs.Bits.{InBytes}
+use Rattle.bits.specs.declared.Position.{Position}
 use Rattle.slice_syntax.specs.Read.{Read}
 use Rattle.slice_syntax.specs.Blocks.{givenDifferenceAt, pairsAt, blockAt}
-use Rattle.slice_syntax.proofs.Laws.Read.{reached}
+use Rattle.slice_syntax.proofs.Laws.Read.{standing}
 use Rattle.slice_syntax.proofs.Laws.Onward.{given-difference-onward}
-use Rattle.slice_records.proofs.Laws.Laying.{Part, part-done, part-refused, not-laid, first-refused, second-refused, both-laid}
+use Rattle.slice_records.proofs.Laws.Laying.{Part, part-done, part-refused, first-refused, second-refused, both-laid}
 use Rattle.slice_records.proofs.Laws.Lengths.{difference-short}
-use Rattle.slice_records.proofs.Laws.Few.{of-read, pairs-few}
+use Rattle.slice_records.proofs.Laws.Few.{pairs-few}
 use Rattle.slice_records.proofs.coded_blocks.lay_block.Statement.{statement}
 use Rattle.slice_records.proofs.coded_blocks.lay_block.Tie as tie
 
@@ -60,7 +61,7 @@ module _ (c : tie.After-known-told2) where
   few = omega (arith, front .size, difference-short (start .args .intra) (front .value))
 
   inside : InBytes (start .args .bytes .now) (c .before .next .given .0 .0)
-  inside = reached (given-difference-onward (start .args .bytes .now) (start .args .intra) (start .args .block) (start .args .at) (start .pre .1)) (front .is) .inside
+  inside = all-at (given-difference-onward (start .args .bytes .now) (start .args .intra) (start .args .block) (standing (start .pre .1))) (front .is) .inside
 
 add-lay-pairs : tie.Need-add-lay-pairs
 add-lay-pairs c = omega (arith, few (c .before), start (c .before) .pre .2)
@@ -87,7 +88,7 @@ module _ (c : tie.After-known-told4) where
 add-both : tie.Need-add-both
 add-both c =
     let t = told c in
-    omega (arith, few t, back c .size, levels-length (back c .value), of-read (pairs-few (start t .args .intra) (start t .args .bytes .now) (t .before .next .given .0 .0)) (back c .is))
+    omega (arith, few t, back c .size, levels-length (back c .value), all-at (pairs-few (start t .args .intra) (start t .args .bytes .now) (t .before .next .given .0 .0)) (back c .is))
 
 same-length : tie.Need-same-length
 same-length c = search needs
@@ -98,7 +99,7 @@ returns c =
     let l = c .before .before .before .before .before in
     let s = l .before .before .before .before in
     let e = first-refused (dc s) levelsBytes (both s) (difference s) (pairs s) join (part-refused (dc s) (difference s) (l .lay-difference .ensures .0) (c .before .refusal .given .1)) in
-    (rw e refl, not-laid _ e)
+    (rw e refl, all-none e)
 
 same-length-2 : tie.Need-same-length-2
 same-length-2 c = search needs
@@ -113,7 +114,7 @@ returns-2 c =
     second-refused (dc s) levelsBytes (both s) (difference s) (pairs s) join (front t)
     (part-refused levelsBytes (pairs s (front t .value) (t .before .next .given .0 .0)) (l .lay-pairs .ensures .0) (c .before .refusal2 .given .1))
     in
-    (rw e refl, not-laid _ e)
+    (rw e refl, all-none e)
 
 same-length-3 : tie.Need-same-length-3
 same-length-3 c = search needs
@@ -123,7 +124,7 @@ unfolding blockAt blockBytes
 returns-3 c =
     let t = told c in
     let s = start t in
-    both-laid (dc s) levelsBytes (both s) (difference s) (pairs s) join (front t) (back c) (s .args .place) refl (called t .lay-difference .ensures .1) (second c .lay-pairs .ensures .1)
+    both-laid (dc s) levelsBytes (both s) (difference s) (pairs s) join (front t) (back c) (s .args .place) _ refl (called t .lay-difference .ensures .1) (second c .lay-pairs .ensures .1)
 
 pub lay-block-spec : {M : Type 1} → statement M
 lay-block-spec =

@@ -3,15 +3,16 @@ use mathlib.Core.Path.{refl}
 use Prim.Native.Nat.{_-_, _≤_}
 use native.Mathlib.Omega.{arith}
 use borrow.Author.Needs.{needs}
-use Rattle.bits.specs.Bits.{InBytes}
-use Rattle.blocks.specs.Blocks.{isCoded}
+use Rattle.symbols.specs.Pattern.{isCoded}
+use Rattle.symbols.proofs.Parsed.{all-at, all-as, all-none}
 use Rattle.record_layout.specs.Records.{blockBytes}
 use Rattle.record_layout.proofs.Laws.Lengths.{block-short}
+use Rattle.bits.specs.Bits.{InBytes}
 use Rattle.slice_syntax.specs.Blocks.{givenBlockAt, blocksFrom}
-use Rattle.slice_syntax.proofs.Laws.Read.{reached}
+use Rattle.slice_syntax.proofs.Laws.Read.{standing}
 use Rattle.slice_syntax.proofs.Laws.Onward.{given-block-onward}
-use Rattle.slice_records.proofs.Laws.Laying.{Part, part-done, part-refused, laid-as, not-laid}
-use Rattle.slice_records.proofs.Laws.Few.{of-read, given-few}
+use Rattle.slice_records.proofs.Laws.Laying.{Part, part-done, part-refused}
+use Rattle.slice_records.proofs.Laws.Few.{given-few}
 use Rattle.slice_records.proofs.Laws.Blocks.{Passed, passed-none, passed-refused, passed-end, passed-more}
 use Rattle.slice_records.proofs.coded_blocks.lay_blocks.Statement.{statement}
 use Rattle.slice_records.proofs.coded_blocks.lay_blocks.Tie as tie
@@ -48,7 +49,7 @@ returns c =
     let s = l .before .before .before in
     let block = givenBlockAt (isCoded (s .args .pattern) (l .loop .block)) (s .args .intra) (l .loop .block) (s .args .bytes .now) (l .loop .at) in
     let e = passed-refused _ _ _ _ _ (l .loop .inv) (k .before .before .loop-test .taken) (part-refused (blockBytes (s .args .intra)) block (k .lay-given-block .ensures .0) (c .before .refusal .given .1)) in
-    (rw e refl, not-laid _ e)
+    (rw e refl, all-none e)
 
 enum-known-next : tie.Need-enum-known-next Inv-loop μ-loop
 enum-known-next c = search needs
@@ -68,10 +69,10 @@ module _ (c : tie.After-known-told2 Inv-loop μ-loop) where
   some = part-done (blockBytes (start .args .intra)) _ (called .lay-given-block .ensures .0) (c .before .next .given .1)
 
   few : c .before .next .given .0 .1 .0 ≤ 195
-  few = omega (arith, some .size, block-short (start .args .intra) (some .value) (of-read (given-few (isCoded (start .args .pattern) (looped .loop .block)) (start .args .intra) (looped .loop .block) (start .args .bytes .now) (looped .loop .at)) (some .is)))
+  few = omega (arith, some .size, block-short (start .args .intra) (some .value) (all-at (given-few (isCoded (start .args .pattern) (looped .loop .block)) (start .args .intra) (looped .loop .block) (start .args .bytes .now) (looped .loop .at)) (some .is)))
 
   inside : InBytes (start .args .bytes .now) (c .before .next .given .0 .0)
-  inside = reached (given-block-onward (start .args .bytes .now) (isCoded (start .args .pattern) (looped .loop .block)) (start .args .intra) (looped .loop .block) (looped .loop .at) (looped .loop .inv .inside)) (some .is) .inside
+  inside = all-at (given-block-onward (start .args .bytes .now) (start .args .intra) (isCoded (start .args .pattern) (looped .loop .block)) (looped .loop .block) (standing (looped .loop .inv .inside))) (some .is) .inside
 
 add-laid : tie.Need-add-laid Inv-loop μ-loop
 add-laid c = omega (arith, few c, looped c .loop .inv .few, called c .before .before .loop-test .taken)
@@ -92,7 +93,7 @@ returns-2 : tie.Need-returns-2 Inv-loop μ-loop
 returns-2 c =
     let inv = c .before .loop .inv in
     let e = passed-end _ _ _ _ _ inv (c .loop-test .left) in
-    (rw (e, inv .counted) refl, laid-as _ e (inv .there))
+    (rw (e, inv .counted) refl, all-as e (inv .there))
 
 pub lay-blocks-spec : {M : Type 1} → statement M
 lay-blocks-spec =

@@ -5,18 +5,18 @@ use borrow.Author.Tests.{not-true, not-false}
 use mir.Syntax.{w16}
 use mir.Val.{toZ, ofZ}
 use mir.ValLaws.{toZ-ofZ}
+use Rattle.symbols.specs.Parsed.{parsed}
+use Rattle.symbols.proofs.Parsed.{here, all-as, all-none}
 use Rattle.byte_layout.specs.Bytes.{wordBytes}
 use Rattle.byte_layout.specs.Laid.{laid}
-use Rattle.slice_syntax.specs.Read.{read}
 use Rattle.slice_syntax.specs.Blocks.{differenceAt, givenDifferenceAt}
-use Rattle.slice_records.proofs.Laws.Laying.{laid-as, not-laid}
 use Rattle.slice_records.proofs.Laws.Answers.{difference-read, difference-refused}
 use Rattle.slice_records.proofs.coded_blocks.lay_difference.Statement.{statement}
 use Rattle.slice_records.proofs.coded_blocks.lay_difference.Tie as tie
 
 returns : tie.Need-returns
 unfolding givenDifferenceAt laid
-returns c = rw (not-true (c .before .before .before .args .intra) (c .if1 .taken)) (refl, laid-as _ refl refl)
+returns c = rw (not-true (c .before .before .before .args .intra) (c .if1 .taken)) (refl, here refl)
 
 read-difference-requires : tie.Need-read-difference-requires
 read-difference-requires c κs = search needs
@@ -36,7 +36,7 @@ returns-2 c =
     let r = c .before .before .before in
     let s = r .before .before .before .before in
     let e = difference-refused (differenceAt (s .args .block) (s .args .bytes .now) (s .args .at)) (r .read-difference .ensures) (c .before .refusal .given .1) in
-    rw (not-false (s .args .intra) (r .before .if1 .left)) (rw e refl, not-laid _ e)
+    rw (not-false (s .args .intra) (r .before .if1 .left)) (rw e refl, all-none e)
 
 module _ (c : tie.After-known-told2) where
   abbrev called : tie.After-read-difference
@@ -45,7 +45,7 @@ module _ (c : tie.After-known-told2) where
   abbrev start : tie.Start
   start = called .before .before .before .before
 
-  difference : differenceAt (start .args .block) (start .args .bytes .now) (start .args .at) ≡ read (c .before .difference .given .0 .0) (c .before .difference .given .0 .1 .0)
+  difference : differenceAt (start .args .block) (start .args .bytes .now) (start .args .at) ≡ parsed (c .before .difference .given .0 .0) (c .before .difference .given .0 .1 .0)
   difference = difference-read _ (called .read-difference .ensures) (c .before .difference .given .1)
 
   same : let value = c .before .difference .given .0 .0 in toZ w16 (ofZ w16 value) ≡ value
@@ -58,7 +58,7 @@ returns-3 : tie.Need-returns-3
 unfolding givenDifferenceAt wordBytes
 returns-3 c =
     let t = c .before .before .before .before in
-    rw (not-false (start t .args .intra) (called t .before .if1 .left)) (rw (difference t) refl, laid-as _ (difference t) (rw (← same t) (c .before .before .lay-i16 .ensures)))
+    rw (not-false (start t .args .intra) (called t .before .if1 .left)) (rw (difference t) refl, all-as (difference t) (rw (← same t) (c .before .before .lay-i16 .ensures)))
 
 pub lay-difference-spec : {M : Type 1} → statement M
 lay-difference-spec =

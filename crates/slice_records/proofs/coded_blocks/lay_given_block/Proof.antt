@@ -1,10 +1,10 @@
 -- `lay_given_block` meets its contract: the block, where it is coded, or nothing. Assumes nothing.
 use mathlib.Core.Path.{refl, sym, _∙_}
 use borrow.Author.Needs.{needs}
+use Rattle.symbols.proofs.Parsed.{here}
 use Rattle.byte_layout.specs.Laid.{laid}
 use Rattle.record_layout.specs.Records.{blockBytes}
 use Rattle.slice_syntax.specs.Blocks.{givenBlockAt}
-use Rattle.slice_records.proofs.Laws.Laying.{laid-as}
 use Rattle.slice_records.proofs.coded_blocks.lay_given_block.Statement.{statement}
 use Rattle.slice_records.proofs.coded_blocks.lay_given_block.Tie as tie
 
@@ -26,7 +26,7 @@ returns c =
 
 returns-2 : tie.Need-returns-2
 unfolding givenBlockAt blockBytes laid
-returns-2 c = rw (sym (c .before .is-coded .ensures) ∙ c .if1 .left) (refl, laid-as _ refl refl)
+returns-2 c = rw (sym (c .before .is-coded .ensures) ∙ c .if1 .left) (refl, here refl)
 
 pub lay-given-block-spec : {M : Type 1} → statement M
 lay-given-block-spec = tie.close (tie.spec is-coded-requires lay-block-requires same-length returns returns-2)

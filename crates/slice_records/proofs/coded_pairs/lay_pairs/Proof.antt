@@ -1,5 +1,5 @@
 -- `lay_pairs` meets its contract: each pair is laid behind those before it, and the count, last, before them all. Assumes nothing.
-use mathlib.Core.Path.{_≡_, refl, sym, ap, _∙_}
+use mathlib.Core.Path.{_≡_, refl, ap, _∙_}
 use Prim.Native.Nat.{_+_, _-_, _≤_}
 use native.Mathlib.Omega.{arith}
 use borrow.Author.Needs.{needs}
@@ -7,12 +7,13 @@ use lib.ListN.{length}
 use mir.Syntax.{w16}
 use mir.Val.{toZ, ofZ}
 use mir.ValLaws.{toZ-ofZ}
+use Rattle.symbols.specs.Parsed.{parsed}
+use Rattle.symbols.proofs.Parsed.{all-as, all-none}
 use Rattle.byte_layout.proofs.Laws.Laid.{laid-length}
 use Rattle.record_layout.specs.Records.{levelsBytes}
-use Rattle.slice_syntax.specs.Blocks.{nextPairAt, pairsAt}
-use Rattle.slice_syntax.specs.declared.coefficient.NextPair.the-variants as NextPair
-use Rattle.slice_records.proofs.Laws.Laying.{laid-as, not-laid}
-use Rattle.slice_records.proofs.Laws.Pairs.{Begun, begun-none, begun-refused, begun-end, begun-length, begun-laid, begun-more, begun-same, begun-pair}
+use Rattle.slice_syntax.specs.Blocks.{nextPair, blockEnd, nextPairAt, pairsAt}
+use Rattle.slice_records.proofs.Laws.Answers.{pair-read, end-read, pair-refused}
+use Rattle.slice_records.proofs.Laws.Pairs.{Begun, begun-none, begun-refused, begun-end, begun-length, begun-laid, begun-more, begun-same, begun-lands}
 use Rattle.slice_records.proofs.coded_pairs.lay_pairs.Statement.{statement}
 use Rattle.slice_records.proofs.coded_pairs.lay_pairs.Tie as tie
 
@@ -47,8 +48,8 @@ same-length c = begun-same _ _ _ _ (c .before .before .before .before .loop .inv
 returns : tie.Need-returns Inv-loop μ-loop
 returns c =
     let r = c .before .before .before in
-    let e = begun-refused _ _ _ _ (r .before .loop .inv) (sym (r .read-next-pair .ensures) ∙ c .before .refusal .given .1) in
-    (rw e refl, not-laid levelsBytes e)
+    let e = begun-refused _ _ _ _ (r .before .loop .inv) (pair-refused _ (r .read-next-pair .ensures) (c .before .refusal .given .1)) in
+    (rw e refl, all-none e)
 
 enum-known-after : tie.Need-enum-known-after Inv-loop μ-loop
 enum-known-after c = search needs
@@ -66,8 +67,8 @@ module _ (c : tie.After-slice-known2 Inv-loop μ-loop) where
   abbrev looped : tie.At-loop Inv-loop μ-loop
   looped = paired .before
 
-  ended : nextPairAt (looped .loop .first) (looped .loop .next) (looped .before .before .before .before .args .bytes .now) (looped .loop .at) ≡ NextPair.End (laidCount .before .before .before .after .given .0 .0)
-  ended = sym (paired .read-next-pair .ensures) ∙ laidCount .before .before .before .after .given .1
+  ended : nextPairAt (looped .loop .first) (looped .loop .next) (looped .before .before .before .before .args .bytes .now) (looped .loop .at) ≡ parsed blockEnd (laidCount .before .before .before .after .given .0 .0)
+  ended = end-read _ (paired .read-next-pair .ensures) (laidCount .before .before .before .after .given .1)
 
 sub-size : tie.Need-sub-size Inv-loop μ-loop
 sub-size c = omega (arith, looped c .loop .inv .behindThem)
@@ -80,7 +81,7 @@ returns-2 c =
     let inv = looped c .loop .inv in
     let e = begun-end _ _ _ _ inv (ended c) in
     let size : looped c .loop .end - looped c .before .before .before .before .args .place ≡ length (levelsBytes (inv .pairs)) = omega (arith, begun-length _ _ _ _ inv) in
-    (rw (e, size) refl, laid-as levelsBytes e (begun-laid _ _ _ _ inv (laidCount c .lay-u8 .ensures)))
+    (rw (e, size) refl, all-as e (begun-laid _ _ _ _ inv (laidCount c .lay-u8 .ensures)))
 
 enum-known-run : tie.Need-enum-known-run Inv-loop μ-loop
 enum-known-run c = search needs
@@ -101,11 +102,11 @@ module _ (c : tie.After-slice-known3 Inv-loop μ-loop) where
   abbrev begun : tie.At-loop Inv-loop μ-loop
   begun = read .before
 
-  pair : nextPairAt (begun .loop .first) (begun .loop .next) (begun .before .before .before .before .args .bytes .now) (begun .loop .at) ≡ NextPair.Pair (told .before .run .given .0 .0) (told .before .run .given .0 .1 .0) (told .before .run .given .0 .1 .1 .0)
-  pair = sym (read .read-next-pair .ensures) ∙ told .before .run .given .1
+  pair : nextPairAt (begun .loop .first) (begun .loop .next) (begun .before .before .before .before .args .bytes .now) (begun .loop .at) ≡ parsed (nextPair (record { run = told .before .run .given .0 .0; level = told .before .run .given .0 .1 .0 })) (told .before .run .given .0 .1 .1 .0)
+  pair = pair-read _ (read .read-next-pair .ensures) (told .before .run .given .1)
 
   lands : begun .loop .next + told .before .run .given .0 .0 ≤ 63
-  lands = begun-pair _ _ _ _ (begun .loop .inv) pair .lands
+  lands = begun-lands _ _ _ _ (begun .loop .inv) pair
 
   same : let level = told .before .run .given .0 .1 .0 in toZ w16 (ofZ w16 level) ≡ level
   same = toZ-ofZ w16 (told .before .run .given .0 .1 .0) (record { sfits = told .known-told3 .given .1 .0 .1 })

@@ -3,12 +3,14 @@ use mathlib.Core.Path.{_≡_}
 use Prim.Native.Nat.{_≤_}
 use native.Mathlib.Omega.{arith}
 use borrow.Author.Needs.{needs}
-use Rattle.bits.specs.Bits.{InBytes, bitsFrom}
+use Rattle.symbols.specs.Parsed.{parsed}
+use Rattle.symbols.proofs.Parsed.{all-at}
+use Rattle.bits.specs.Bits.{InBytes}
 use Rattle.code_tables.specs.AnnexB.{typesOf}
 use Rattle.codes.proofs.Laws.Range.{type-read}
-use Rattle.slice_syntax.specs.Read.{read, wordAt}
+use Rattle.slice_syntax.specs.Read.{wordAt}
 use Rattle.slice_syntax.specs.Macroblock.{scaleAt, headAt}
-use Rattle.slice_syntax.proofs.Laws.Read.{step-read, step-refused, reached, word-onward, word-below}
+use Rattle.slice_syntax.proofs.Laws.Read.{step-read, step-refused, standing, word-onward, word-between}
 use Rattle.slice_records.proofs.Laws.Lengths.{scale-small}
 use Rattle.slice_records.proofs.head.read_head.Statement.{statement}
 use Rattle.slice_records.proofs.head.read_head.Tie as tie
@@ -26,14 +28,14 @@ module _ (c : tie.After-known-told2) where
   abbrev start : tie.Start
   start = c .before .before .before .before .before
 
-  code : wordAt (typesOf (start .args .coding-type)) (start .args .bytes .now) (start .args .at) ≡ read (c .before .flags .given .0 .0) (c .before .flags .given .0 .1 .0)
+  code : wordAt (typesOf (start .args .coding-type)) (start .args .bytes .now) (start .args .at) ≡ parsed (c .before .flags .given .0 .0) (c .before .flags .given .0 .1 .0)
   code = step-read _ (c .before .before .before .next-type .ensures) (c .before .flags .given .1)
 
   inside : InBytes (start .args .bytes .now) (c .before .flags .given .0 .1 .0)
-  inside = reached (word-onward (start .args .bytes .now) (start .args .at) (start .pre .1) (typesOf (start .args .coding-type)) (type-read (start .args .coding-type) (bitsFrom (start .args .bytes .now) (start .args .at)))) code .inside
+  inside = all-at (word-onward (standing (start .pre .1)) _ (type-read (start .args .coding-type))) code .inside
 
   small : c .before .flags .given .0 .0 ≤ 17
-  small = word-below (start .args .bytes .now) (start .args .at) (typesOf (start .args .coding-type)) (type-read (start .args .coding-type) (bitsFrom (start .args .bytes .now) (start .args .at))) code
+  small = all-at (word-between (start .args .bytes .now) (start .args .at) _ (type-read (start .args .coding-type))) code .1
 
 cast-read-scale : tie.Need-cast-read-scale
 cast-read-scale c = omega (arith, small c)
@@ -51,14 +53,14 @@ module _ (c : tie.After-known-told4) where
   abbrev told : tie.After-known-told2
   told = c .before .before .before .before
 
-  scale : scaleAt (told .before .flags .given .0 .0) (start told .args .bytes .now) (told .before .flags .given .0 .1 .0) ≡ read (c .before .scale .given .0 .0) (c .before .scale .given .0 .1 .0)
+  scale : scaleAt (told .before .flags .given .0 .0) (start told .args .bytes .now) (told .before .flags .given .0 .1 .0) ≡ parsed (c .before .scale .given .0 .0) (c .before .scale .given .0 .1 .0)
   scale = step-read _ (c .before .before .before .read-scale .ensures) (c .before .scale .given .1)
 
 cast-t18 : tie.Need-cast-t18
 cast-t18 c = omega (arith, small (told c))
 
 cast-t19 : tie.Need-cast-t19
-cast-t19 c = omega (arith, scale-small _ _ _ (scale c))
+cast-t19 c = omega (arith, all-at (scale-small _ _ _) (scale c))
 
 returns : tie.Need-returns
 unfolding headAt

@@ -4,19 +4,21 @@ use mathlib.Core.Path.{_≡_, refl, ap}
 use Prim.Native.Nat.{ℕ, _≤_}
 use native.Mathlib.Omega.{arith}
 use borrow.Author.Needs.{needs}
+use Rattle.symbols.specs.Parsed.{parsed}
+use Rattle.symbols.proofs.Parsed.{all-at, all-as, all-none}
 use Rattle.format3.specs.Record.{macroblock}
-use Rattle.bits.specs.Bits.{InBytes}
-use Rattle.record_layout.specs.Records.{headBytes, macroblockRecord}
+use Rattle.record_layout.specs.Records.{headBytes}
 use Rattle.record_layout.proofs.Laws.Lengths.{head-short}
-use Rattle.slice_syntax.specs.Read.{Read, read}
+use Rattle.bits.specs.Bits.{InBytes}
+use Rattle.slice_syntax.specs.Read.{Read}
 use Rattle.slice_syntax.specs.Macroblock.{HeadFields, RestFields, headAt, restAt}
-use Rattle.slice_syntax.proofs.Laws.Read.{reached}
+use Rattle.slice_syntax.proofs.Laws.Read.{standing}
 use Rattle.slice_syntax.proofs.Laws.Onward.{head-onward}
 use Rattle.slice_records.specs.Laying.{restBytes}
 use Rattle.slice_records.specs.declared.laying.Laying.the-variants.{Done}
-use Rattle.slice_records.proofs.Laws.Laying.{Part, part-done, part-refused, laid-as, not-laid}
+use Rattle.slice_records.proofs.Laws.Laying.{Part, part-done, part-refused}
 use Rattle.slice_records.proofs.Laws.Answers as Answers
-use Rattle.slice_records.proofs.Laws.Few.{of-read, rest-short}
+use Rattle.slice_records.proofs.Laws.Few.{rest-short}
 use Rattle.slice_records.proofs.Laws.Macroblock.{record-size, record-laid, body-of, head-refused, rest-refused, macroblock-read}
 use Rattle.slice_records.proofs.macroblock.lay_macroblock.Statement.{statement}
 use Rattle.slice_records.proofs.macroblock.lay_macroblock.Tie as tie
@@ -46,11 +48,11 @@ module _ (c : tie.After-known-told2) where
   abbrev headed : List ℕ
   headed = headBytes flags (start .args .increment) (head .scale)
 
-  found : headAt (start .args .header .«coding_type») (start .args .bytes .now) (start .args .at) ≡ read head (c .before .flags .given .0 .1 .1 .0)
+  found : headAt (start .args .header .«coding_type») (start .args .bytes .now) (start .args .at) ≡ parsed head (c .before .flags .given .0 .1 .1 .0)
   found = Answers.head-read _ (c .before .before .before .read-head .ensures) (c .before .flags .given .1)
 
   inside : InBytes (start .args .bytes .now) (c .before .flags .given .0 .1 .1 .0)
-  inside = reached (head-onward (start .args .bytes .now) (start .args .header .«coding_type») (start .args .at) (start .pre .1)) found .inside
+  inside = all-at (head-onward (start .args .bytes .now) (start .args .header .«coding_type») (standing (start .pre .1))) found .inside
 
   abbrev following : Read RestFields
   following = restAt flags (start .args .header .forward .«f_code») (start .args .header .backward .«f_code») (start .args .bytes .now) (c .before .flags .given .0 .1 .1 .0)
@@ -96,7 +98,7 @@ module _ (c : tie.After-known-told4) where
   short : c .before .end .given .0 .1 .0 ≤ 1179
   short =
       let s = start known in
-      omega (arith, rest .size, of-read (rest-short (flags known) (s .args .header .forward .«f_code») (s .args .header .backward .«f_code») (s .args .bytes .now) (known .before .flags .given .0 .1 .1 .0)) (rest .is) .short)
+      omega (arith, rest .size, all-at (rest-short (flags known) (s .args .header .forward .«f_code») (s .args .header .backward .«f_code») (s .args .bytes .now) (known .before .flags .given .0 .1 .1 .0)) (rest .is) .short)
 
 add-size : tie.Need-add-size
 add-size c = omega (arith, few (first c))
@@ -121,7 +123,7 @@ returns c =
     head-refused (s .args .header) (s .args .increment) (s .args .bytes .now) (s .args .at)
     (Answers.head-refused (headAt (s .args .header .«coding_type») (s .args .bytes .now) (s .args .at)) (r .read-head .ensures) (c .before .refusal .given .1))
     in
-    (rw e refl, not-laid _ e)
+    (rw e refl, all-none e)
 
 same-length : tie.Need-same-length
 same-length c = search needs
@@ -135,7 +137,7 @@ returns-2 c =
     rest-refused (s .args .header) (s .args .increment) (s .args .bytes .now) (s .args .at) (found k)
     (part-refused (restBytes (flags k)) (following k) (l .lay-rest .ensures .0) (c .before .refusal2 .given .1))
     in
-    (rw e refl, not-laid _ e)
+    (rw e refl, all-none e)
 
 same-length-2 : tie.Need-same-length-2
 same-length-2 c = search needs
@@ -149,10 +151,10 @@ returns-3 c =
     let e = macroblock-read (s .args .header) (s .args .increment) (s .args .bytes .now) (s .args .at) (found k) (rest t .is) in
     let body = body-of (s .args .increment) (head k) (rest t .value) in (
       rw (e, body) (ap (Done (t .before .end .given .0 .0)) (record-size (s .args .place) macroblock (headed k) (restBytes (flags k) (rest t .value)) (first t .lay-head .ensures .0) (rest t .size) refl)),
-      laid-as macroblockRecord e
+      all-as e
           (rw body
           (record-laid (s .args .place) macroblock (headed k) (restBytes (flags k) (rest t .value)) (first t .lay-head .ensures .0) (rest t .size) refl (s .args .buffer .now) (first t .lay-head .ensures .1)
-          (second t .lay-rest .ensures .1 .whole (rest t .value) (t .before .end .given .0 .0) (rest t .is)) (r .lay-record-head .ensures))),
+          (all-at (second t .lay-rest .ensures .1) (rest t .is)) (r .lay-record-head .ensures))),
     )
 
 pub lay-macroblock-spec : {M : Type 1} → statement M

@@ -4,21 +4,23 @@ use mathlib.Core.Path.{_≡_, refl}
 use Prim.Native.Nat.{ℕ, _+_, _≤_}
 use native.Mathlib.Omega.{arith}
 use borrow.Author.Needs.{needs}
+use Rattle.symbols.specs.Parsed.{parsed}
 use Rattle.symbols.specs.MacroblockType.{isIntra}
-use Rattle.blocks.specs.Blocks.{Block}
-use Rattle.bits.specs.Bits.{InBytes}
-use Rattle.bits.specs.declared.Position.{Position}
+use Rattle.symbols.specs.Block.{Block}
+use Rattle.symbols.proofs.Parsed.{all-at, all-as, all-none}
 use Rattle.record_layout.specs.Records.{patternBytes, blocksBytes}
 use Rattle.record_layout.proofs.Laws.Lengths.{blocks-short, pattern-short}
-use Rattle.slice_syntax.specs.Read.{Read, read}
+use Rattle.bits.specs.Bits.{InBytes}
+use Rattle.bits.specs.declared.Position.{Position}
+use Rattle.slice_syntax.specs.Read.{Read}
 use Rattle.slice_syntax.specs.Blocks.{blocksFrom}
 use Rattle.slice_syntax.specs.Macroblock.{ResidueFields, patternAt, residueAt}
-use Rattle.slice_syntax.proofs.Laws.Read.{step-read, step-refused, reached}
+use Rattle.slice_syntax.proofs.Laws.Read.{step-read, step-refused, standing}
 use Rattle.slice_syntax.proofs.Laws.Onward.{pattern-onward}
 use Rattle.slice_records.specs.Laying.{layingOf, LaidAt, patternAndBlocks}
-use Rattle.slice_records.proofs.Laws.Laying.{Part, part-done, part-refused, laid-as, not-laid, first-refused, second-refused, both-laid}
+use Rattle.slice_records.proofs.Laws.Laying.{Part, part-done, part-refused, first-refused, second-refused, both-laid}
 use Rattle.slice_records.proofs.Laws.Lengths.{pattern-small}
-use Rattle.slice_records.proofs.Laws.Few.{of-read, blocks-few}
+use Rattle.slice_records.proofs.Laws.Few.{blocks-few}
 use Rattle.slice_records.proofs.Laws.Blocks.{blocks-as}
 use Rattle.slice_records.proofs.macroblock.lay_residue.Statement.{statement}
 use Rattle.slice_records.proofs.macroblock.lay_residue.Tie as tie
@@ -55,14 +57,14 @@ module _ (c : tie.After-known-told2) where
   abbrev start : tie.Start
   start = c .before .before .before .before .before .before
 
-  value : pattern start ≡ read (c .before .value .given .0 .0) (c .before .value .given .0 .1 .0)
+  value : pattern start ≡ parsed (c .before .value .given .0 .0) (c .before .value .given .0 .1 .0)
   value = step-read _ (c .before .before .before .read-pattern .ensures) (c .before .value .given .1)
 
   inside : InBytes (start .args .bytes .now) (c .before .value .given .0 .1 .0)
-  inside = reached (pattern-onward (start .args .bytes .now) (start .args .flags) (start .args .at) (start .pre .1)) value .inside
+  inside = all-at (pattern-onward (start .args .bytes .now) (start .args .flags) (standing (start .pre .1))) value .inside
 
 cast-pattern : tie.Need-cast-pattern
-cast-pattern c = omega (arith, pattern-small _ _ _ (value c))
+cast-pattern c = omega (arith, all-at (pattern-small _ _ _) (value c))
 
 gives-part-requires : tie.Need-gives-part-requires
 gives-part-requires c κs = search needs
@@ -102,7 +104,7 @@ module _ (c : tie.After-lay-blocks) where
 
   known-blocks : (c .lay-blocks .result ≡ layingOf (coded (start known)) (blocks (start known) (front first .value) (known .before .value .given .0 .1 .0)))
       × LaidAt (coded (start known)) (start known .args .place + first .lay-pattern .result) (first .lay-pattern .last .0) (c .lay-blocks .last .1 .1 .1 .1 .1 .0) (blocks (start known) (front first .value) (known .before .value .given .0 .1 .0))
-  known-blocks = blocks-as _ _ _ _ _ (first .before .before .gives-part .ensures) (c .lay-blocks .ensures)
+  known-blocks = blocks-as _ _ _ _ _ _ _ (first .before .before .gives-part .ensures) (c .lay-blocks .ensures)
 
 module _ (c : tie.After-known-told4) where
   abbrev second : tie.After-lay-blocks
@@ -116,7 +118,7 @@ add-both c =
     let k = known (second c) in
     let s = start k in
     let value = front (first (second c)) .value in
-    let six = of-read (blocks-few (isIntra (s .args .flags)) value 6 0 (s .args .bytes .now) (k .before .value .given .0 .1 .0)) (back c .is) in
+    let six = all-at (blocks-few (isIntra (s .args .flags)) value 6 0 (s .args .bytes .now) (k .before .value .given .0 .1 .0)) (back c .is) in
     omega (arith, few (first (second c)), back c .size, blocks-short (isIntra (s .args .flags)) (six .few), six .counted)
 
 returns : tie.Need-returns
@@ -125,7 +127,7 @@ returns c =
     let r = c .before .before .before in
     let s = r .before .before .before in
     let e = first-refused (patterned s) (coded s) (both s) (pattern s) (blocks s) join (step-refused (pattern s) (r .read-pattern .ensures) (c .before .refusal .given .1)) in
-    (rw e refl, not-laid _ e)
+    (rw e refl, all-none e)
 
 same-length : tie.Need-same-length
 same-length c = search needs
@@ -139,7 +141,7 @@ returns-2 c =
     second-refused (patterned s) (coded s) (both s) (pattern s) (blocks s) join (front (first l))
     (part-refused (coded s) (blocks s (front (first l) .value) (known l .before .value .given .0 .1 .0)) (known-blocks l .0) (c .before .refusal2 .given .1))
     in
-    (rw e refl, not-laid _ e)
+    (rw e refl, all-none e)
 
 same-length-2 : tie.Need-same-length-2
 same-length-2 c = search needs
@@ -149,7 +151,7 @@ unfolding residueAt
 returns-3 c =
     let l = second c in
     let s = start (known l) in
-    both-laid (patterned s) (coded s) (both s) (pattern s) (blocks s) join (front (first l)) (back c) (s .args .place) refl (laid-as _ (value (known l)) (first l .lay-pattern .ensures .1)) (known-blocks l .1)
+    both-laid (patterned s) (coded s) (both s) (pattern s) (blocks s) join (front (first l)) (back c) (s .args .place) _ refl (all-as (value (known l)) (first l .lay-pattern .ensures .1)) (known-blocks l .1)
 
 pub lay-residue-spec : {M : Type 1} → statement M
 lay-residue-spec =

@@ -4,17 +4,18 @@ use mathlib.Core.Path.{refl}
 use Prim.Native.Nat.{ℕ, _≤_}
 use native.Mathlib.Omega.{arith}
 use borrow.Author.Needs.{needs}
-use Rattle.macroblock_symbols.specs.declared.vectors.Vectors.{Vectors}
+use Rattle.symbols.specs.declared.vector_codes.Vectors.{Vectors}
+use Rattle.symbols.proofs.Parsed.{all-at, all-none}
 use Rattle.bits.specs.Bits.{InBytes}
 use Rattle.bits.specs.declared.Position.{Position}
 use Rattle.slice_syntax.specs.Read.{Read}
 use Rattle.slice_syntax.specs.Macroblock.{ResidueFields, RestFields, vectorsAt, residueAt, restAt}
-use Rattle.slice_syntax.proofs.Laws.Read.{reached}
+use Rattle.slice_syntax.proofs.Laws.Read.{standing}
 use Rattle.slice_syntax.proofs.Laws.Onward.{vectors-onward}
 use Rattle.slice_records.specs.Laying.{bothBytes, patternAndBlocks, restBytes}
-use Rattle.slice_records.proofs.Laws.Laying.{Part, part-done, part-refused, not-laid, first-refused, second-refused, both-laid}
+use Rattle.slice_records.proofs.Laws.Laying.{Part, part-done, part-refused, first-refused, second-refused, both-laid}
 use Rattle.slice_records.proofs.Laws.Lengths.{both-short}
-use Rattle.slice_records.proofs.Laws.Few.{of-read, residue-short}
+use Rattle.slice_records.proofs.Laws.Few.{residue-short}
 use Rattle.slice_records.proofs.macroblock.lay_rest.Statement.{statement}
 use Rattle.slice_records.proofs.macroblock.lay_rest.Tie as tie
 
@@ -60,7 +61,7 @@ module _ (c : tie.After-known-told2) where
   few = omega (arith, front .size, both-short (start .args .flags) (front .value))
 
   inside : InBytes (start .args .bytes .now) (c .before .next .given .0 .0)
-  inside = reached (vectors-onward (start .args .bytes .now) (start .args .flags) (start .args .forward) (start .args .backward) (start .args .at) (start .pre .1)) (front .is) .inside
+  inside = all-at (vectors-onward (start .args .bytes .now) (start .args .flags) (start .args .forward) (start .args .backward) (standing (start .pre .1))) (front .is) .inside
 
 add-lay-residue : tie.Need-add-lay-residue
 add-lay-residue c = omega (arith, few (c .before), start (c .before) .pre .4)
@@ -87,7 +88,7 @@ module _ (c : tie.After-known-told4) where
 add-both : tie.Need-add-both
 add-both c =
     let t = told c in
-    omega (arith, few t, back c .size, of-read (residue-short (start t .args .flags) (start t .args .bytes .now) (t .before .next .given .0 .0)) (back c .is) .short)
+    omega (arith, few t, back c .size, all-at (residue-short (start t .args .flags) (start t .args .bytes .now) (t .before .next .given .0 .0)) (back c .is) .short)
 
 same-length : tie.Need-same-length
 same-length c = search needs
@@ -98,7 +99,7 @@ returns c =
     let l = c .before .before .before .before .before in
     let s = l .before .before .before .before in
     let e = first-refused (ahead s) (behind s) (both s) (vectors s) (residue s) join (part-refused (ahead s) (vectors s) (l .lay-vectors .ensures .0) (c .before .refusal .given .1)) in
-    (rw e refl, not-laid _ e)
+    (rw e refl, all-none e)
 
 same-length-2 : tie.Need-same-length-2
 same-length-2 c = search needs
@@ -113,7 +114,7 @@ returns-2 c =
     second-refused (ahead s) (behind s) (both s) (vectors s) (residue s) join (front t)
     (part-refused (behind s) (residue s (front t .value) (t .before .next .given .0 .0)) (l .lay-residue .ensures .0) (c .before .refusal2 .given .1))
     in
-    (rw e refl, not-laid _ e)
+    (rw e refl, all-none e)
 
 same-length-3 : tie.Need-same-length-3
 same-length-3 c = search needs
@@ -123,7 +124,7 @@ unfolding restAt
 returns-3 c =
     let t = told c in
     let s = start t in
-    both-laid (ahead s) (behind s) (both s) (vectors s) (residue s) join (front t) (back c) (s .args .place) refl (called t .lay-vectors .ensures .1) (second c .lay-residue .ensures .1)
+    both-laid (ahead s) (behind s) (both s) (vectors s) (residue s) join (front t) (back c) (s .args .place) _ refl (called t .lay-vectors .ensures .1) (second c .lay-residue .ensures .1)
 
 pub lay-rest-spec : {M : Type 1} → statement M
 lay-rest-spec =

@@ -4,15 +4,16 @@ use native.Mathlib.Omega.{arith}
 use borrow.Author.Needs.{needs}
 use Rattle.symbols.specs.declared.vector_codes.VectorCode.{VectorCode}
 use Rattle.symbols.specs.declared.vector_codes.VectorCodes.{VectorCodes}
+use Rattle.symbols.proofs.Parsed.{all-at, all-none}
+use Rattle.record_layout.specs.Records.{codesBytes}
 use Rattle.bits.specs.Bits.{InBytes}
 use Rattle.bits.specs.declared.Position.{Position}
-use Rattle.record_layout.specs.Records.{codesBytes}
 use Rattle.slice_syntax.specs.Read.{Read}
 use Rattle.slice_syntax.specs.Vectors.{motionAt, vectorAt}
-use Rattle.slice_syntax.proofs.Laws.Read.{reached}
+use Rattle.slice_syntax.proofs.Laws.Read.{standing}
 use Rattle.slice_syntax.proofs.Laws.Onward.{motion-onward}
 use Rattle.slice_records.specs.Laying.{componentBytes}
-use Rattle.slice_records.proofs.Laws.Laying.{Part, part-done, part-refused, not-laid, first-refused, second-refused, both-laid}
+use Rattle.slice_records.proofs.Laws.Laying.{Part, part-done, part-refused, first-refused, second-refused, both-laid}
 use Rattle.slice_records.proofs.Laws.Lengths.{component-length}
 use Rattle.slice_records.proofs.vectors.lay_vector.Statement.{statement}
 use Rattle.slice_records.proofs.vectors.lay_vector.Tie as tie
@@ -44,7 +45,7 @@ module _ (c : tie.After-known-told2) where
   front = part-done componentBytes (across start) (c .before .before .before .before .before .lay-motion .ensures .0) (c .before .next .given .1)
 
   inside : InBytes (start .args .bytes .now) (c .before .next .given .0 .0)
-  inside = reached (motion-onward (start .args .bytes .now) (start .args .f-code) (start .args .at) (start .pre .1)) (front .is) .inside
+  inside = all-at (motion-onward (start .args .bytes .now) (start .args .f-code) (standing (start .pre .1))) (front .is) .inside
 
 add-lay-motion : tie.Need-add-lay-motion
 add-lay-motion c = let t = c .before in omega (arith, front t .size, component-length (front t .value), start t .pre .3)
@@ -82,7 +83,7 @@ returns c =
     let l = c .before .before .before .before .before in
     let s = l .before .before .before .before in
     let e = first-refused componentBytes componentBytes codesBytes (across s) (down s) join (part-refused componentBytes (across s) (l .lay-motion .ensures .0) (c .before .refusal .given .1)) in
-    (rw e refl, not-laid codesBytes e)
+    (rw e refl, all-none e)
 
 same-length-2 : tie.Need-same-length-2
 same-length-2 c = search needs
@@ -97,7 +98,7 @@ returns-2 c =
     second-refused componentBytes componentBytes codesBytes (across s) (down s) join (front t)
     (part-refused componentBytes (down s (front t .value) (t .before .next .given .0 .0)) (l .lay-motion2 .ensures .0) (c .before .refusal2 .given .1))
     in
-    (rw e refl, not-laid codesBytes e)
+    (rw e refl, all-none e)
 
 same-length-3 : tie.Need-same-length-3
 same-length-3 c = search needs
@@ -107,7 +108,7 @@ unfolding vectorAt codesBytes
 returns-3 c =
     let t = told c in
     let s = start t in
-    both-laid componentBytes componentBytes codesBytes (across s) (down s) join (front t) (back c) (s .args .place) refl (t .before .before .before .before .before .lay-motion .ensures .1)
+    both-laid componentBytes componentBytes codesBytes (across s) (down s) join (front t) (back c) (s .args .place) _ refl (t .before .before .before .before .before .lay-motion .ensures .1)
     (second c .lay-motion2 .ensures .1)
 
 pub lay-vector-spec : {M : Type 1} → statement M

@@ -5,19 +5,20 @@ use Prim.Native.Nat.{ℕ, _≤_}
 use native.Mathlib.Omega.{arith}
 use borrow.Author.Needs.{needs}
 use Rattle.symbols.specs.declared.vector_codes.VectorCodes.{VectorCodes}
-use Rattle.macroblock_symbols.specs.declared.vectors.Vectors.{Vectors}
+use Rattle.symbols.specs.declared.vector_codes.Vectors.{Vectors}
 use Rattle.symbols.specs.MacroblockType.{givesForward, givesBackward}
-use Rattle.bits.specs.Bits.{InBytes}
-use Rattle.bits.specs.declared.Position.{Position}
+use Rattle.symbols.proofs.Parsed.{all-at, all-none}
 use Rattle.record_layout.specs.Records.{givenCodesBytes}
 use Rattle.record_layout.proofs.Laws.Lengths.{given-short}
+use Rattle.bits.specs.Bits.{InBytes}
+use Rattle.bits.specs.declared.Position.{Position}
 use Rattle.slice_syntax.specs.Read.{Read}
 use Rattle.slice_syntax.specs.Vectors.{givenVectorAt}
 use Rattle.slice_syntax.specs.Macroblock.{vectorsAt}
-use Rattle.slice_syntax.proofs.Laws.Read.{reached}
+use Rattle.slice_syntax.proofs.Laws.Read.{standing}
 use Rattle.slice_syntax.proofs.Laws.Onward.{given-onward}
 use Rattle.slice_records.specs.Laying.{bothBytes}
-use Rattle.slice_records.proofs.Laws.Laying.{Part, part-done, part-refused, not-laid, first-refused, second-refused, both-laid}
+use Rattle.slice_records.proofs.Laws.Laying.{Part, part-done, part-refused, first-refused, second-refused, both-laid}
 use Rattle.slice_records.proofs.vectors.lay_vectors.Statement.{statement}
 use Rattle.slice_records.proofs.vectors.lay_vectors.Tie as tie
 
@@ -60,7 +61,7 @@ module _ (c : tie.After-known-told2) where
   few = omega (arith, front .size, given-short (givesForward (start .args .flags)) (front .value))
 
   inside : InBytes (start .args .bytes .now) (c .before .next .given .0 .0)
-  inside = reached (given-onward (start .args .bytes .now) (givesForward (start .args .flags)) (start .args .forward) (start .args .at) (start .pre .1)) (front .is) .inside
+  inside = all-at (given-onward (start .args .bytes .now) (start .args .forward) (givesForward (start .args .flags)) (standing (start .pre .1))) (front .is) .inside
 
 add-lay-given-vector : tie.Need-add-lay-given-vector
 add-lay-given-vector c = omega (arith, few (c .before), start (c .before) .pre .4)
@@ -96,7 +97,7 @@ returns c =
     let l = c .before .before .before .before .before in
     let s = l .before .before .before .before in
     let e = first-refused (ahead s) (behind s) (bothBytes (s .args .flags)) (forward s) (backward s) join (part-refused (ahead s) (forward s) (l .lay-given-vector .ensures .0) (c .before .refusal .given .1)) in
-    (rw e refl, not-laid _ e)
+    (rw e refl, all-none e)
 
 same-length-2 : tie.Need-same-length-2
 same-length-2 c = search needs
@@ -111,7 +112,7 @@ returns-2 c =
     second-refused (ahead s) (behind s) (bothBytes (s .args .flags)) (forward s) (backward s) join (front t)
     (part-refused (behind s) (backward s (front t .value) (t .before .next .given .0 .0)) (l .lay-given-vector2 .ensures .0) (c .before .refusal2 .given .1))
     in
-    (rw e refl, not-laid _ e)
+    (rw e refl, all-none e)
 
 same-length-3 : tie.Need-same-length-3
 same-length-3 c = search needs
@@ -121,7 +122,7 @@ unfolding vectorsAt
 returns-3 c =
     let t = told c in
     let s = start t in
-    both-laid (ahead s) (behind s) (bothBytes (s .args .flags)) (forward s) (backward s) join (front t) (back c) (s .args .place) refl (called t .lay-given-vector .ensures .1)
+    both-laid (ahead s) (behind s) (bothBytes (s .args .flags)) (forward s) (backward s) join (front t) (back c) (s .args .place) _ refl (called t .lay-given-vector .ensures .1)
     (second c .lay-given-vector2 .ensures .1)
 
 pub lay-vectors-spec : {M : Type 1} → statement M

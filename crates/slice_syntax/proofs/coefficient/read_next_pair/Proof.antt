@@ -6,7 +6,7 @@ use borrow.Author.Tests.{le-leb, lt-leb}
 use mir.Syntax.{w16}
 use mir.Val.{toZ, ofZ}
 use mir.ValLaws.{toZ-ofZ}
-use Rattle.parsed.specs.Guard.{need_else_then_}
+use Rattle.symbols.specs.Guard.{need_else_then_}
 use Rattle.bits.specs.Bits.{bitsFrom}
 use Rattle.bits.proofs.Rest.{rest-length}
 use Rattle.coefficient_codes.specs.Coefficient.{wordsOf, coefficientOf}

@@ -5,10 +5,12 @@ use borrow.Author.Needs.{needs}
 use borrow.Author.Tests.{eq-eqb, ne-eqb}
 use mir.Syntax.{w16}
 use Rattle.integers.proofs.Machine.{returned}
-use Rattle.bits.specs.Bits.{InBytes, bitsFrom}
-use Rattle.slice_syntax.specs.Read.{read, wordAt, fieldAt}
+use Rattle.symbols.specs.Parsed.{parsed}
+use Rattle.symbols.proofs.Parsed.{all-at}
+use Rattle.bits.specs.Bits.{InBytes}
+use Rattle.slice_syntax.specs.Read.{wordAt, fieldAt}
 use Rattle.slice_syntax.specs.Blocks.{sizeWords, differenceAt}
-use Rattle.slice_syntax.proofs.Laws.Read.{step-read, step-refused, reached, word-onward, word-below, field-below}
+use Rattle.slice_syntax.proofs.Laws.Read.{step-read, step-refused, standing, word-onward, word-between, field-below}
 use Rattle.slice_syntax.proofs.Laws.Words.{size-read}
 use Rattle.slice_syntax.proofs.difference.read_difference.Statement.{statement}
 use Rattle.slice_syntax.proofs.difference.read_difference.Tie as tie
@@ -26,7 +28,7 @@ module _ (c : tie.After-known-told2) where
   abbrev start : tie.Start
   start = c .before .before .before .before .before
 
-  code : wordAt (sizeWords (start .args .block)) (start .args .bytes .now) (start .args .at) ≡ read (c .before .size .given .0 .0) (c .before .size .given .0 .1 .0)
+  code : wordAt (sizeWords (start .args .block)) (start .args .bytes .now) (start .args .at) ≡ parsed (c .before .size .given .0 .0) (c .before .size .given .0 .1 .0)
   code = step-read _ (c .before .before .before .next-size .ensures) (c .before .size .given .1)
 
 returns : tie.Need-returns
@@ -40,12 +42,12 @@ module _ (c : tie.After-known-told2) where
   inside : InBytes (start c .args .bytes .now) (c .before .size .given .0 .1 .0)
   inside =
       let s = start c in
-      reached (word-onward (s .args .bytes .now) (s .args .at) (s .pre .1) (sizeWords (s .args .block)) (size-read (s .args .block) (bitsFrom (s .args .bytes .now) (s .args .at)))) (code c) .inside
+      all-at (word-onward (standing (s .pre .1)) _ (size-read (s .args .block))) (code c) .inside
 
   few : c .before .size .given .0 .0 ≤ 8
   few =
       let s = start c in
-      word-below (s .args .bytes .now) (s .args .at) (sizeWords (s .args .block)) (size-read (s .args .block) (bitsFrom (s .args .bytes .now) (s .args .at))) (code c)
+      all-at (word-between (s .args .bytes .now) (s .args .at) _ (size-read (s .args .block))) (code c) .1
 
 next-field-requires : tie.Need-next-field-requires
 next-field-requires c κs = (inside (c .before), few (c .before))
@@ -63,14 +65,14 @@ module _ (c : tie.After-known-told4) where
   abbrev told : tie.After-known-told2
   told = given .before
 
-  bits : fieldAt (told .before .size .given .0 .0) (start told .args .bytes .now) (told .before .size .given .0 .1 .0) ≡ read (c .before .value .given .0 .0) (c .before .value .given .0 .1 .0)
+  bits : fieldAt (told .before .size .given .0 .0) (start told .args .bytes .now) (told .before .size .given .0 .1 .0) ≡ parsed (c .before .value .given .0 .0) (c .before .value .given .0 .1 .0)
   bits = step-read _ (c .before .before .before .next-field .ensures) (c .before .value .given .1)
 
 cast-dc-difference : tie.Need-cast-dc-difference
 cast-dc-difference c = search needs
 
 dc-difference-requires : tie.Need-dc-difference-requires
-dc-difference-requires c κs = (few (told c), field-below _ _ _ (bits c))
+dc-difference-requires c κs = (few (told c), all-at (field-below _ _ _) (bits c))
 
 returns-2 : tie.Need-returns-2
 unfolding differenceAt

@@ -4,8 +4,9 @@ use Prim.Native.Nat.{_+_, _*_, _-_}
 use native.Mathlib.Omega.{arith}
 use borrow.Author.Needs.{needs}
 use lib.ListN.{length}
+use Rattle.symbols.specs.Parsed.{parsed}
 use Rattle.bits.specs.Bits.{bitsFrom, offset}
-use Rattle.slice_syntax.specs.Read.{read, fieldAt}
+use Rattle.slice_syntax.specs.Read.{fieldAt}
 use Rattle.slice_syntax.specs.Slice.{afterExtra}
 use Rattle.slice_syntax.proofs.Laws.Read.{step-read, step-refused}
 use Rattle.slice_syntax.proofs.Laws.Extra.{Extra, extra-start, extra-refused, extra-read, extra-cut, extra-again, bit-ahead, byte-ahead}
@@ -39,7 +40,7 @@ module _ (c : tie.After-known-told2 Inv-loop μ-loop) where
   abbrev looped : tie.At-loop Inv-loop μ-loop
   looped = c .before .before .before .before
 
-  bit : fieldAt 1 (looped .before .before .args .bytes .now) (looped .loop .at) ≡ read (c .before .more .given .0 .0) (c .before .more .given .0 .1 .0)
+  bit : fieldAt 1 (looped .before .before .args .bytes .now) (looped .loop .at) ≡ parsed (c .before .more .given .0 .0) (c .before .more .given .0 .1 .0)
   bit = step-read _ (c .before .before .before .next-field .ensures) (c .before .more .given .1)
 
 returns-2 : tie.Need-returns-2 Inv-loop μ-loop
@@ -64,7 +65,7 @@ module _ (c : tie.After-known-told4 Inv-loop μ-loop) where
   abbrev told : tie.After-known-told2 Inv-loop μ-loop
   told = c .before .before .before .before .before
 
-  byte : fieldAt 8 (looped told .before .before .args .bytes .now) (told .before .more .given .0 .1 .0) ≡ read (c .before .next .given .0 .0) (c .before .next .given .0 .1 .0)
+  byte : fieldAt 8 (looped told .before .before .args .bytes .now) (told .before .more .given .0 .1 .0) ≡ parsed (c .before .next .given .0 .0) (c .before .next .given .0 .1 .0)
   byte = step-read _ (c .before .before .before .next-field2 .ensures) (c .before .next .given .1)
 
 loop-less : tie.Need-loop-less Inv-loop μ-loop

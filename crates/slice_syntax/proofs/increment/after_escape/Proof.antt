@@ -3,9 +3,10 @@ use mathlib.Core.Path.{_≡_}
 use Prim.Native.Nat.{ℕ, _+_, _-_, _<_, _≤_}
 use native.Mathlib.Omega.{arith}
 use borrow.Author.Needs.{needs}
-use Rattle.slice_syntax.specs.Read.{read, wordAt}
-use Rattle.slice_syntax.specs.Increment.{amountOf, afterEscape}
+use Rattle.symbols.specs.Parsed.{parsed}
 use Rattle.code_tables.specs.AnnexB.{incrementsAfterEscape}
+use Rattle.slice_syntax.specs.Read.{wordAt}
+use Rattle.slice_syntax.specs.Increment.{amountOf, afterEscape}
 use Rattle.slice_syntax.proofs.Laws.Read.{step-read, step-refused}
 use Rattle.slice_syntax.proofs.Laws.Increment.{Escaped, escaped-start, escaped-refused, escaped-past, escaped-read, escaped-again, escape-amount}
 use Rattle.slice_syntax.proofs.increment.after_escape.Statement.{statement}
@@ -47,7 +48,7 @@ module _ (c : tie.After-amount Inv-loop μ-loop) where
   abbrev value : ℕ
   value = c .before .before .value .given .0 .0
 
-  code : wordAt incrementsAfterEscape (looped .before .before .args .bytes .now) (looped .loop .at) ≡ read value (c .before .before .value .given .0 .1 .0)
+  code : wordAt incrementsAfterEscape (looped .before .before .args .bytes .now) (looped .loop .at) ≡ parsed value (c .before .before .value .given .0 .1 .0)
   code = step-read _ (called .next-after-escape .ensures) (c .before .before .value .given .1)
 
   past : 396 - looped .loop .sum < c .amount .result → 396 < looped .loop .sum + amountOf value

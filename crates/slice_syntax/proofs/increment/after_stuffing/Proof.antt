@@ -4,10 +4,11 @@ use Prim.Native.Nat.{_+_, _*_, _-_}
 use native.Mathlib.Omega.{arith}
 use borrow.Author.Needs.{needs}
 use lib.ListN.{length}
+use Rattle.symbols.specs.Parsed.{parsed}
 use Rattle.bits.specs.Bits.{bitsFrom, offset}
-use Rattle.slice_syntax.specs.Read.{read, wordAt}
-use Rattle.slice_syntax.specs.Increment.{afterStuffing}
 use Rattle.code_tables.specs.AnnexB.{increments}
+use Rattle.slice_syntax.specs.Read.{wordAt}
+use Rattle.slice_syntax.specs.Increment.{afterStuffing}
 use Rattle.slice_syntax.proofs.Laws.Read.{step-read, step-refused}
 use Rattle.slice_syntax.proofs.Laws.Increment.{Stuffed, stuffed-start, stuffed-refused, stuffed-read, stuffed-again, increment-ahead}
 use Rattle.slice_syntax.proofs.increment.after_stuffing.Statement.{statement}
@@ -40,7 +41,7 @@ module _ (c : tie.After-known-told2 Inv-loop μ-loop) where
   abbrev called : tie.After-next-increment Inv-loop μ-loop
   called = c .before .before .before
 
-  code : wordAt increments (called .before .before .before .args .bytes .now) (called .before .loop .at) ≡ read (c .before .value .given .0 .0) (c .before .value .given .0 .1 .0)
+  code : wordAt increments (called .before .before .before .args .bytes .now) (called .before .loop .at) ≡ parsed (c .before .value .given .0 .0) (c .before .value .given .0 .1 .0)
   code = step-read _ (called .next-increment .ensures) (c .before .value .given .1)
 
 returns-2 : tie.Need-returns-2 Inv-loop μ-loop

@@ -4,11 +4,12 @@ use Prim.Native.Nat.{_+_}
 use borrow.Author.Needs.{needs}
 use borrow.Author.Tests.{eq-eqb, ne-eqb}
 use lib.ListN.{length}
+use Rattle.symbols.specs.Parsed.{parsed}
+use Rattle.symbols.proofs.Parsed.{all-at}
 use Rattle.bits.specs.Bits.{bitsFrom}
-use Rattle.slice_syntax.specs.Read.{read}
 use Rattle.slice_syntax.specs.Increment.{afterStuffing, incrementAt}
-use Rattle.slice_syntax.proofs.Laws.Read.{step-read, step-refused, reached}
-use Rattle.slice_syntax.proofs.Laws.Onward.{stuffed-onward}
+use Rattle.slice_syntax.proofs.Laws.Read.{step-read, step-refused, standing}
+use Rattle.slice_syntax.proofs.Laws.Onward.{first-code-ahead}
 use Rattle.slice_syntax.proofs.increment.read_increment.Statement.{statement}
 use Rattle.slice_syntax.proofs.increment.read_increment.Tie as tie
 
@@ -25,13 +26,13 @@ module _ (c : tie.After-known-told2) where
   abbrev start : tie.Start
   start = c .before .before .before .before .before
 
-  first : afterStuffing (1 + length (bitsFrom (start .args .bytes .now) (start .args .at))) (start .args .bytes .now) (start .args .at) ≡ read (c .before .value .given .0 .0) (c .before .value .given .0 .1 .0)
+  first : afterStuffing (1 + length (bitsFrom (start .args .bytes .now) (start .args .at))) (start .args .bytes .now) (start .args .at) ≡ parsed (c .before .value .given .0 .0) (c .before .value .given .0 .1 .0)
   first = step-read _ (c .before .before .before .after-stuffing .ensures) (c .before .value .given .1)
 
 after-escape-requires : tie.Need-after-escape-requires
 after-escape-requires c κs =
     let s = start (c .before) in
-    (s .pre .0, reached (stuffed-onward (s .args .bytes .now) (s .args .at) (s .pre .1)) (first (c .before)) .inside)
+    (s .pre .0, all-at (first-code-ahead (s .args .bytes .now) (standing (s .pre .1))) (first (c .before)) .inside)
 
 returns : tie.Need-returns
 unfolding incrementAt

@@ -1,7 +1,6 @@
 -- `next_after_escape` meets its contract: a code that is read ends within the bytes. Assumes nothing.
 use native.Mathlib.Omega.{arith}
 use borrow.Author.Needs.{needs}
-use Rattle.bits.specs.Bits.{bitsFrom}
 use Rattle.codes.proofs.Laws.Range.{increment-after-escape-read}
 use Rattle.slice_syntax.proofs.Laws.Read.{word-fits}
 use Rattle.slice_syntax.proofs.step.next_after_escape.Statement.{statement}
@@ -13,7 +12,7 @@ read-increment-after-escape-requires c κs = search needs
 step-over-requires : tie.Need-step-over-requires
 step-over-requires c κs =
     let s = c .before .before in
-    (s .pre .1 .bitSmall, rw (c .read-increment-after-escape .ensures) (word-fits (s .args .bytes .now) (s .args .at) (s .pre .1) _ (increment-after-escape-read (bitsFrom (s .args .bytes .now) (s .args .at))) (omega arith) (omega arith)))
+    (s .pre .1 .bitSmall, rw (c .read-increment-after-escape .ensures) (word-fits (s .args .bytes .now) (s .args .at) (s .pre .1) _ increment-after-escape-read (omega arith) (omega arith)))
 
 returns : tie.Need-returns
 returns c = rw (← c .before .read-increment-after-escape .ensures) (c .step-over .ensures)

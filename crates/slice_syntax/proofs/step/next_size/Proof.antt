@@ -2,7 +2,6 @@
 use native.Mathlib.Omega.{arith}
 use borrow.Author.Needs.{needs}
 use borrow.Author.Tests.{lt-ltb, le-ltb}
-use Rattle.bits.specs.Bits.{bitsFrom}
 use Rattle.codes.proofs.Laws.Range.{luminance-size-read, chrominance-size-read}
 use Rattle.slice_syntax.specs.Blocks.{sizeWords}
 use Rattle.slice_syntax.proofs.Laws.Read.{word-fits}
@@ -15,7 +14,7 @@ read-luminance-size-requires c κs = search needs
 step-over-requires : tie.Need-step-over-requires
 step-over-requires c κs =
     let s = c .before .before .before in
-    (s .pre .1 .bitSmall, rw (c .read-luminance-size .ensures) (word-fits (s .args .bytes .now) (s .args .at) (s .pre .1) _ (luminance-size-read (bitsFrom (s .args .bytes .now) (s .args .at))) (omega arith) (omega arith)))
+    (s .pre .1 .bitSmall, rw (c .read-luminance-size .ensures) (word-fits (s .args .bytes .now) (s .args .at) (s .pre .1) _ luminance-size-read (omega arith) (omega arith)))
 
 returns : tie.Need-returns
 unfolding sizeWords
@@ -27,7 +26,7 @@ read-chrominance-size-requires c κs = search needs
 step-over-requires-2 : tie.Need-step-over-requires-2
 step-over-requires-2 c κs =
     let s = c .before .before .before in
-    (s .pre .1 .bitSmall, rw (c .read-chrominance-size .ensures) (word-fits (s .args .bytes .now) (s .args .at) (s .pre .1) _ (chrominance-size-read (bitsFrom (s .args .bytes .now) (s .args .at))) (omega arith) (omega arith)))
+    (s .pre .1 .bitSmall, rw (c .read-chrominance-size .ensures) (word-fits (s .args .bytes .now) (s .args .at) (s .pre .1) _ chrominance-size-read (omega arith) (omega arith)))
 
 returns-2 : tie.Need-returns-2
 unfolding sizeWords

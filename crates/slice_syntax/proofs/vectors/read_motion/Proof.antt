@@ -4,12 +4,14 @@ use native.Mathlib.Omega.{arith}
 use borrow.Author.Needs.{needs}
 use mir.Syntax.{w8}
 use Rattle.integers.proofs.Machine.{returned}
-use Rattle.bits.specs.Bits.{InBytes, bitsFrom}
+use Rattle.symbols.specs.Parsed.{parsed}
+use Rattle.symbols.proofs.Parsed.{all-at}
+use Rattle.bits.specs.Bits.{InBytes}
 use Rattle.code_tables.specs.AnnexB.{motionCodes}
-use Rattle.slice_syntax.specs.Read.{read, wordAt}
-use Rattle.slice_syntax.specs.Vectors.{residualAt, motionAt}
-use Rattle.slice_syntax.proofs.Laws.Read.{step-read, step-refused, reached, word-onward, word-below}
 use Rattle.codes.proofs.Laws.Range.{motion-code-read}
+use Rattle.slice_syntax.specs.Read.{wordAt}
+use Rattle.slice_syntax.specs.Vectors.{residualAt, motionAt}
+use Rattle.slice_syntax.proofs.Laws.Read.{step-read, step-refused, standing, word-onward, word-between}
 use Rattle.slice_syntax.proofs.Laws.Residual.{residual-small}
 use Rattle.slice_syntax.proofs.vectors.read_motion.Statement.{statement}
 use Rattle.slice_syntax.proofs.vectors.read_motion.Tie as tie
@@ -27,11 +29,11 @@ module _ (c : tie.After-known-told2) where
   abbrev start : tie.Start
   start = c .before .before .before .before .before
 
-  code : wordAt motionCodes (start .args .bytes .now) (start .args .at) ≡ read (c .before .value .given .0 .0) (c .before .value .given .0 .1 .0)
+  code : wordAt motionCodes (start .args .bytes .now) (start .args .at) ≡ parsed (c .before .value .given .0 .0) (c .before .value .given .0 .1 .0)
   code = step-read _ (c .before .before .before .next-motion-code .ensures) (c .before .value .given .1)
 
   inside : InBytes (start .args .bytes .now) (c .before .value .given .0 .1 .0)
-  inside = reached (word-onward (start .args .bytes .now) (start .args .at) (start .pre .1) motionCodes (motion-code-read (bitsFrom (start .args .bytes .now) (start .args .at)))) code .inside
+  inside = all-at (word-onward (standing (start .pre .1)) _ motion-code-read) code .inside
 
 read-residual-requires : tie.Need-read-residual-requires
 read-residual-requires c κs = (inside c, start c .pre .2)
@@ -46,18 +48,18 @@ module _ (c : tie.After-known-told4) where
   abbrev told : tie.After-known-told2
   told = c .before .before .before .before
 
-  residual : residualAt (start told .args .f-code) (told .before .value .given .0 .0) (start told .args .bytes .now) (told .before .value .given .0 .1 .0) ≡ read (c .before .residual .given .0 .0) (c .before .residual .given .0 .1 .0)
+  residual : residualAt (start told .args .f-code) (told .before .value .given .0 .0) (start told .args .bytes .now) (told .before .value .given .0 .1 .0) ≡ parsed (c .before .residual .given .0 .0) (c .before .residual .given .0 .1 .0)
   residual = step-read _ (c .before .before .before .read-residual .ensures) (c .before .residual .given .1)
 
 code-of-requires : tie.Need-code-of-requires
 code-of-requires c κs =
     let s = start (told c) in
-    word-below (s .args .bytes .now) (s .args .at) motionCodes (motion-code-read (bitsFrom (s .args .bytes .now) (s .args .at))) (code (told c))
+    all-at (word-between (s .args .bytes .now) (s .args .at) _ motion-code-read) (code (told c)) .1
 
 cast-t18 : tie.Need-cast-t18
 cast-t18 c =
     let s = start (told (c .before)) in
-    omega (arith, residual-small (s .args .bytes .now) (s .args .f-code) (s .pre .2) _ _ (residual (c .before)))
+    omega (arith, all-at (residual-small (s .args .bytes .now) (s .args .f-code) (s .pre .2) _ _) (residual (c .before)))
 
 returns : tie.Need-returns
 unfolding motionAt

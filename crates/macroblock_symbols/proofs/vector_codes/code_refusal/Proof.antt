@@ -1,0 +1,19 @@
+-- `code_refusal` meets its contract, by the cases of the answer. Assumes nothing.
+use borrow.Author.Needs.{needs}
+use Rattle.macroblock_symbols.proofs.vector_codes.code_refusal.Statement.{statement}
+use Rattle.macroblock_symbols.proofs.vector_codes.code_refusal.Tie as tie
+
+enum-told : tie.Need-enum-told
+enum-told c = search needs
+
+enum-known-answer : tie.Need-enum-known-answer
+enum-known-answer c = search needs
+
+returns : tie.Need-returns
+returns c = search needs
+
+returns-2 : tie.Need-returns-2
+returns-2 c = rw (c .before .answer .given .1)
+
+pub code-refusal-spec : {M : Type 1} → statement M
+code-refusal-spec = tie.close (tie.spec enum-told enum-known-answer returns returns-2)

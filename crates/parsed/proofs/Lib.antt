@@ -1,3 +1,0 @@
-pub mod Guard
-pub mod Parsed
-pub mod Refusals

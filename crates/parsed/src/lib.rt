@@ -1,1 +1,0 @@
-// What parsing a part of a record gives: definitions and their laws, no function.

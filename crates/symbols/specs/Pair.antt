@@ -1,0 +1,19 @@
+-- Where the pairs of a block land (document 01, "Coefficients").
+use mathlib.Core.Bool.{Bool, cond}
+use Prim.Native.Nat.{ℕ, _+_}
+use Rattle.symbols.specs.declared.pair.Pair.{Pair}
+
+-- "The first pair lands at its run (intra: 1 plus run)"
+unfoldable pub firstPosition : Bool → ℕ
+firstPosition intra = cond intra 1 0
+
+-- "position past 63"
+abbrev pub lastPosition : ℕ
+lastPosition = 63
+
+-- where a pair lands, if a run of 0 lands at `next`; and `next` for the pair after it ("each later one at run plus 1 further on")
+abbrev pub positionOf : ℕ → Pair → ℕ
+positionOf next pair = next + pair .run
+
+abbrev pub afterPair : ℕ → Pair → ℕ
+afterPair next pair = positionOf next pair + 1
