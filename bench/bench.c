@@ -1,14 +1,14 @@
-/* The exported library beside plain C of the same rules.
+/* Benchmarks the exported library against plain C that follows the same rules.
  *
- *   bench compare REEL..                both make the same pictures and refusals: answers and every byte
- *   bench time REEL..                   pictures and macroblocks a second, repeated until they are stable
+ *   bench compare REEL..                checks that both give the same answers and the same bytes, refusals included
+ *   bench time REEL..                   pictures and macroblocks a second, repeated until stable
  *   bench reel WHO NUMBER REEL          decodes one picture of a reel once, inside measured(), for an instruction counter
- *   bench made WHO KIND BLOCKS PAIRS    the same for a made picture
+ *   bench made WHO KIND BLOCKS PAIRS    the same for a synthetic picture
  *   bench transform WHO                 the same for the transform of one block
- *   bench reel-census NUMBER REEL       what a picture of a reel is made of
- *   bench made-census KIND BLOCKS PAIRS what a made picture is made of
+ *   bench reel-census NUMBER REEL       counts what a picture of a reel consists of
+ *   bench made-census KIND BLOCKS PAIRS counts what a synthetic picture consists of
  *
- * WHO is library or plain; KIND is intra, whole, half or mixed. bench/run calls all of it. */
+ * WHO is library or plain; KIND is intra, whole, half or mixed. bench/run runs all of these. */
 #include <stdbool.h>
 #include <stdint.h>
 #include <stdio.h>
@@ -33,7 +33,7 @@ struct answer {
     size_t made;
 };
 
-enum { MOST_BYTES = FORMAT3_MACROBLOCK_BYTES * FORMAT3_MOST_MACROBLOCKS };
+enum { MAX_PICTURE_BYTES = FORMAT3_MACROBLOCK_BYTES * FORMAT3_MAX_MACROBLOCKS };
 
 static struct answer run(reconstruct_function *reconstruct, const struct job *job, uint8_t *output)
 {
@@ -48,7 +48,7 @@ static struct answer run(reconstruct_function *reconstruct, const struct job *jo
 
 static bool same(const struct job *job)
 {
-    static uint8_t ours[MOST_BYTES], theirs[MOST_BYTES];
+    static uint8_t ours[MAX_PICTURE_BYTES], theirs[MAX_PICTURE_BYTES];
     memset(ours, 0x5a, job->picture_length);
     memset(theirs, 0x5a, job->picture_length);
     struct answer library = run(format3_reconstruct, job, ours), plain = run(plain_reconstruct, job, theirs);
@@ -56,7 +56,7 @@ static bool same(const struct job *job)
         && memcmp(ours, theirs, job->picture_length) == 0;
 }
 
-/* The file with a byte changed, at places spread over it. */
+/* Compares both on the file with one byte changed, at offsets spread over it. */
 static bool same_when_damaged(const struct job *job, size_t times)
 {
     for (size_t k = 0; k < times; k++) {
@@ -88,7 +88,7 @@ static int compare(char **reels, int count)
 
 /* ---- timing */
 
-enum { FEWEST_ROUNDS = 20, MOST_ROUNDS = 400 };
+enum { FEWEST_ROUNDS = 20, MAX_ROUNDS = 400 };
 
 static double now(void)
 {
@@ -97,17 +97,17 @@ static double now(void)
     return (double)time.tv_sec + 1e-9 * (double)time.tv_nsec;
 }
 
-/* The seconds that all pictures of a reel take. */
+/* The seconds for all pictures of a reel. */
 static double round_of(reconstruct_function *reconstruct, struct jobs jobs)
 {
-    static uint8_t output[MOST_BYTES];
+    static uint8_t output[MAX_PICTURE_BYTES];
     double start = now();
     for (int k = 0; k < jobs.count; k++)
         run(reconstruct, &jobs.job[k], output);
     return now() - start;
 }
 
-/* Takes the better time, and answers whether it is better by more than a hundredth. */
+/* Keeps the better time, and says whether it improved by more than 1 %. */
 static bool improves(double *best, double seconds)
 {
     bool better = seconds < 0.99 * *best;
@@ -116,12 +116,12 @@ static bool improves(double *best, double seconds)
     return better;
 }
 
-/* The best round of each, turn by turn, until none was better for a while: what else the machine does only adds to one. */
+/* Times both in turn and keeps the best round of each, until neither improves for a while: other load only makes a round slower. */
 static void best_rounds(struct jobs jobs, double *library, double *plain)
 {
     int since_better = 0;
     *library = *plain = 1e9;
-    for (int k = 0; k < MOST_ROUNDS && since_better < FEWEST_ROUNDS; k++) {
+    for (int k = 0; k < MAX_ROUNDS && since_better < FEWEST_ROUNDS; k++) {
         bool better = improves(library, round_of(format3_reconstruct, jobs));
         better = improves(plain, round_of(plain_reconstruct, jobs)) || better;
         since_better = better ? 0 : since_better + 1;
@@ -150,7 +150,7 @@ static int time_reels(char **reels, int count)
     return 0;
 }
 
-/* ---- once, for an instruction counter that counts inside these functions alone */
+/* ---- run once, for an instruction counter that counts only inside these functions */
 
 __attribute__((noinline))
 static struct answer measured(reconstruct_function *reconstruct, const struct job *job, uint8_t *output)
@@ -167,10 +167,10 @@ static void measured_transform(bool library, const int16_t coefficients[64], int
         plain_transform(coefficients, residues);
 }
 
-/* Decodes a picture once; it must be the one that the library made before. */
+/* Decodes a picture once and checks that it is the one the library made before. */
 static int once(reconstruct_function *reconstruct, const struct job *job)
 {
-    static uint8_t output[MOST_BYTES];
+    static uint8_t output[MAX_PICTURE_BYTES];
     struct answer answer = measured(reconstruct, job, output);
     if (answer.number == FORMAT3_ACCEPTED && memcmp(output, job->picture, job->picture_length) == 0)
         return 0;

@@ -1,3 +1,4 @@
+/* Makes the jobs to measure: pictures from reels, and synthetic ones. */
 #include "job.h"
 
 #include <stdio.h>
@@ -49,7 +50,7 @@ static struct bytes read_whole(const char *path)
     return bytes;
 }
 
-/* The newer and the older picture that others are predicted from. */
+/* The last two reference pictures. */
 struct references {
     const struct job *newer;
     const struct job *older;
@@ -67,7 +68,7 @@ static void lend(struct job *job, const struct job *forward, const struct job *b
     }
 }
 
-/* A job of a file whose header is whole: width, height and type stand at its bytes 4 to 6. */
+/* A job for a file with a complete header: width, height and type are its bytes 4 to 6. */
 static struct job job_of_file(uint8_t *file, size_t length, struct references references)
 {
     int type = file[6];
@@ -97,7 +98,7 @@ static size_t big_endian(const uint8_t length[LENGTH_BYTES])
     return (size_t)length[0] << 24 | (size_t)length[1] << 16 | (size_t)length[2] << 8 | length[3];
 }
 
-/* The length of the file whose own length stands at an offset. Ends the program where either is cut. */
+/* The length of the file whose length field is at an offset. Exits if either is cut. */
 static size_t file_length_at(const char *path, struct bytes reel, size_t offset)
 {
     size_t left = reel.length - offset;
@@ -137,10 +138,10 @@ struct jobs jobs_of_reel(const char *path)
     return jobs;
 }
 
-/* ---- made pictures */
+/* ---- synthetic pictures */
 
 enum { WIDTH = 22, HEIGHT = 18, MACROBLOCKS = WIDTH * HEIGHT };
-enum { LONGEST_RECORD = 4 + 8 + 1 + 6 * (3 + 3 * 64), LONGEST_FILE = 32 + MACROBLOCKS * LONGEST_RECORD };
+enum { MAX_RECORD_BYTES = 4 + 8 + 1 + 6 * (3 + 3 * 64), MAX_FILE_BYTES = 32 + MACROBLOCKS * MAX_RECORD_BYTES };
 
 static void put(struct job *job, int byte)
 {
@@ -153,7 +154,7 @@ static void put_word(struct job *job, int word)
     put(job, word & 255);
 }
 
-/* A record's length is filled in at its end. */
+/* The length field is filled in when the record ends. */
 static size_t start_record(struct job *job, int kind)
 {
     size_t start = job->file_length;
@@ -187,7 +188,7 @@ static void put_slice(struct job *job, int scale)
     end_record(job, start);
 }
 
-/* Low coefficients of both signs, next to each other. */
+/* Low coefficients of both signs, with no zeros between them. */
 static void put_block(struct job *job, bool intra, int pairs)
 {
     if (intra)
@@ -204,7 +205,7 @@ struct vector {
     int down;
 };
 
-/* A vector towards the middle of the picture, so that it fits everywhere. */
+/* A vector towards the middle of the picture, so that it never points outside. */
 static int towards_middle(int place, int length, int size)
 {
     return place < length / 2 ? size : -size;
@@ -224,7 +225,7 @@ static struct vector vector_at(enum made_kind kind, int address)
         towards_middle(address % WIDTH, WIDTH, right), towards_middle(address / WIDTH, HEIGHT, down)};
 }
 
-/* With f_code 1 a code is the difference from the past itself, and its residual 0. */
+/* With f_code 1, a code is just the difference from the predictor, and the residual is 0. */
 static void put_vector(struct job *job, enum made_kind kind, int address)
 {
     struct vector vector = vector_at(kind, address), past = vector_at(kind, address - 1);
@@ -268,7 +269,7 @@ static int coded_blocks(enum made_kind kind, int address, int blocks)
     return kind == MADE_MIXED && address % 7 >= 5 ? blocks - 1 : blocks;
 }
 
-/* A reference with something in every pel. */
+/* A reference picture of noise. */
 static uint8_t *noise(size_t length)
 {
     uint8_t *bytes = allocate(length);
@@ -287,7 +288,7 @@ struct job made_job(enum made_kind kind, int blocks, int pairs)
     struct job job = {.macroblocks = MACROBLOCKS, .letter = LETTERS[type]};
     job.picture_length = FORMAT3_MACROBLOCK_BYTES * MACROBLOCKS;
     job.picture = allocate(job.picture_length);
-    job.file = allocate(LONGEST_FILE);
+    job.file = allocate(MAX_FILE_BYTES);
     put(&job, 3);
     put_header(&job, type);
     put_slice(&job, 8);

@@ -1,4 +1,4 @@
-/* Pictures to decode, each with its references at hand, so that it can be decoded alone and as often as wanted. */
+/* Pictures to decode, each with its references, so that it can be decoded alone and as often as needed. */
 #ifndef JOB_H
 #define JOB_H
 
@@ -13,7 +13,7 @@ struct job {
     size_t forward_length;
     const uint8_t *backward;
     size_t backward_length;
-    /* The picture as the library makes it. */
+    /* The picture as the library reconstructs it. */
     uint8_t *picture;
     size_t picture_length;
     int macroblocks;
@@ -25,20 +25,20 @@ struct jobs {
     int count;
 };
 
-/* The pictures of a reel, decoded once by the library. Ends the program where there is none, or where the reel or
- * a picture is not whole. */
+/* The pictures of a reel, decoded once by the library. Exits if there are none, or if the reel is cut or a picture is
+ * refused. */
 struct jobs jobs_of_reel(const char *path);
 
-/* What the macroblocks of a made picture are. */
+/* What the macroblocks of a synthetic picture are. */
 enum made_kind {
     MADE_INTRA,     /* I, every block coded */
-    MADE_WHOLE_PEL, /* P, a vector of whole pels in luma and chroma */
+    MADE_WHOLE_PEL, /* P, vectors of whole pels in luma and chroma */
     MADE_HALF_PEL,  /* B, both directions, half pels to the right and down in luma and chroma */
-    MADE_MIXED      /* P, vectors of 0 to 7 half pels, and two macroblocks of seven with a block fewer */
+    MADE_MIXED      /* P, vectors of 0 to 7 half pels; two of every seven macroblocks have one block fewer */
 };
 
-/* A CIF picture made for measuring: every macroblock of one kind, with so many coded blocks and so many pairs in each. In
- * MADE_INTRA all six are coded, whatever `blocks` is; in MADE_MIXED there is at least one. */
+/* A synthetic CIF picture: every macroblock has the same kind and `blocks` coded blocks with `pairs` pairs each. MADE_INTRA codes
+ * all six blocks, whatever `blocks` is; MADE_MIXED needs at least one. */
 struct job made_job(enum made_kind kind, int blocks, int pairs);
 
 #endif

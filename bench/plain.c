@@ -1,3 +1,4 @@
+/* Reconstructs Format 3 pictures in plain C, to be measured against the library. */
 #include "plain.h"
 
 #include <stdbool.h>
@@ -70,7 +71,7 @@ struct symbols {
     int16_t coefficients[6 * 64];
 };
 
-/* What of a body is not read yet. */
+/* The part of a body that is not read yet. */
 struct rest {
     const uint8_t *at;
     const uint8_t *end;
@@ -88,7 +89,7 @@ static const uint8_t DEFAULT_INTRA[64] = {
     35, 40, 48, 58, 26, 27, 29, 34, 38, 46, 56, 69, 27, 29, 35, 38, 46, 56, 69, 83,
 };
 
-/* ---- the inverse transform: even and odd halves, exact, rows and then columns */
+/* ---- the inverse transform: even and odd halves, exact; rows, then columns */
 
 static inline void transform_line(const int64_t x[8], int64_t y[8])
 {
@@ -135,7 +136,7 @@ void plain_transform(const int16_t coefficients[64], int16_t residues[64])
     }
 }
 
-/* ---- fields: each answers whether it is wholly inside */
+/* ---- fields: each function says whether the field is wholly inside */
 
 static bool read_byte(struct rest *rest, int *value)
 {
@@ -175,7 +176,7 @@ static bool within(int most, int value)
     return -most <= value && value <= most;
 }
 
-/* ---- blocks: each reader answers 0 or the number of a refusal */
+/* ---- blocks: each function returns 0 or the number of a refusal */
 
 static int16_t scaled(bool intra, int level, int scale, int weight)
 {
@@ -337,7 +338,7 @@ static uint32_t read_pattern(struct rest *rest, struct symbols *symbols)
     return symbols->pattern < 1 || symbols->pattern > 63 ? FORMAT3_PATTERN : 0;
 }
 
-/* The pasts that the record starts from: a skip resets those of DC, and in P those of vectors. */
+/* The predictors that the record starts from: a skip resets those of DC and, in P, those of vectors. */
 static void start_pasts(const struct picture *picture, struct symbols *symbols)
 {
     memcpy(symbols->dc, picture->slice.dc, sizeof symbols->dc);
@@ -375,7 +376,7 @@ static struct vector used_vector(struct direction direction, struct vector past)
     return (struct vector){times * past.right, times * past.down};
 }
 
-/* What a macroblock is predicted from: nothing for intra, and vector 0 for a P without one. */
+/* How a macroblock is predicted: an intra one not at all; a P without a vector uses vector 0. */
 static struct motion motion_of(const struct picture *picture, const struct symbols *symbols)
 {
     static const int gives[2] = {GIVES_FORWARD, GIVES_BACKWARD};
@@ -417,7 +418,7 @@ static bool fits(const struct picture *picture, int address, const struct motion
 
 /* ---- writing */
 
-/* A plane of a picture, or of its reference, and the place of a block in it. */
+/* A plane, and the location of a block in it. */
 struct place {
     size_t plane;
     int stride;
@@ -434,7 +435,7 @@ static struct place place_of(const struct picture *picture, int address, int num
     return (struct place){(number == 4 ? 256 : 320) * macroblocks, 8 * picture->width, 8 * column, 8 * row};
 }
 
-/* The block at half-pel place (x, y) of a plane: the mean of one, two or four pels. */
+/* The block at half-pel position (x, y) of a plane: the mean of one, two or four pels. */
 static void fetch_block(const uint8_t *plane, int stride, int x, int y, uint8_t block[64])
 {
     const uint8_t *from = plane + (ptrdiff_t)(y >> 1) * stride + (x >> 1);
@@ -500,7 +501,7 @@ static void store_block(uint8_t *plane, struct place place, const uint8_t block[
         memcpy(plane + (ptrdiff_t)(place.y + j) * place.stride + place.x, block + 8 * j, 8);
 }
 
-/* A macroblock's six blocks; `coefficients` has those in the pattern. */
+/* A macroblock's six blocks; `coefficients` has those that the pattern codes. */
 static void write_macroblock(
     const struct picture *picture, int address, const struct motion *motion, int pattern, const int16_t *coefficients)
 {
@@ -609,7 +610,7 @@ static uint32_t act(struct picture *picture, int kind, struct rest body)
     return act_macroblock(picture, body);
 }
 
-/* The record at the start of what is left: its kind and body. */
+/* The next record: its kind and body. */
 static uint32_t read_record(struct rest left, int *kind, struct rest *body)
 {
     if (left.end - left.at < 3)
@@ -639,9 +640,9 @@ static uint32_t read_header(struct picture *picture, struct rest body)
         return FORMAT3_BODY_LENGTH;
     const uint8_t *field = body.at;
     int width = field[0], height = field[1], type = field[2];
-    if (width < 1 || width > FORMAT3_WIDEST || height < 1 || height > FORMAT3_HIGHEST)
+    if (width < 1 || width > FORMAT3_MAX_WIDTH || height < 1 || height > FORMAT3_MAX_HEIGHT)
         return FORMAT3_HEADER;
-    if (width * height > FORMAT3_MOST_MACROBLOCKS || type < I_PICTURE || type > B_PICTURE)
+    if (width * height > FORMAT3_MAX_MACROBLOCKS || type < I_PICTURE || type > B_PICTURE)
         return FORMAT3_HEADER;
     if (!read_direction(picture, FORWARD, type != I_PICTURE, field + 3))
         return FORMAT3_HEADER;
@@ -670,7 +671,7 @@ static void start_picture(struct picture *picture)
     picture->turn = AFTER_HEADER;
 }
 
-/* The header, which is the first record. */
+/* The header, which must be the first record. */
 static uint32_t open_picture(struct picture *picture, struct rest *left, size_t output, size_t forward, size_t backward)
 {
     int kind;

@@ -1,12 +1,12 @@
-/* Format 3 and raw slices in plain C: the same rules as the library's, with its refusals and its exact transform, written as one
- * writes C. It is not proved, and is here only to be measured beside it. */
+/* Format 3 and raw slices in ordinary C: the library's rules, refusals and exact transform. It is not proved and serves only
+ * as a yardstick. */
 #ifndef PLAIN_H
 #define PLAIN_H
 
 #include <stddef.h>
 #include <stdint.h>
 
-/* As format3_reconstruct. */
+/* Like format3_reconstruct. */
 uint32_t plain_reconstruct(
     const uint8_t *file, size_t file_length,
     const uint8_t *forward, size_t forward_length,
@@ -14,7 +14,7 @@ uint32_t plain_reconstruct(
     uint8_t *output, size_t output_length,
     size_t *place, size_t *made);
 
-/* As format3_read_slice. */
+/* Like format3_read_slice. */
 uint32_t plain_read_slice(
     const uint8_t *slice, size_t slice_length,
     uint32_t width, uint32_t height, uint32_t coding_type,
@@ -22,10 +22,10 @@ uint32_t plain_read_slice(
     uint8_t *records, size_t records_length,
     size_t *written, size_t *byte, size_t *bit);
 
-/* As format3_transform, of coefficients that are in range. */
+/* Like format3_transform, for coefficients in range. */
 void plain_transform(const int16_t coefficients[64], int16_t residues[64]);
 
-/* What was done since the counts were last cleared, where this is compiled with PLAIN_CENSUS: codes of slices, pairs, and 8 by 8
+/* What has been done since the counts were last cleared, if compiled with PLAIN_CENSUS: codes of slices, pairs, and 8 x 8
  * blocks. */
 struct plain_census {
     unsigned long codes;

@@ -1,3 +1,4 @@
+/* Reads raw slices in plain C, to be measured against the library. */
 #include "plain.h"
 
 #include <stdbool.h>
@@ -16,7 +17,7 @@ enum { F_CODE_MOST = 7, LAST_POSITION = 63, ESCAPE_STEP = 33 };
 #define COUNT_CODE() ((void)0)
 #endif
 
-/* ---- the tables of Annex B: words with their values, a coefficient's being level and run */
+/* ---- the tables of Annex B: words with their values; for coefficients, level and run */
 
 static const char INCREMENT_WORDS[] =
     "1=1 011=2 010=3 0011=4 0010=5 00011=6 00010=7 0000111=8 0000110=9 00001011=10 00001010=11 00001001=12 "
@@ -66,25 +67,25 @@ static const char LONG_COEFFICIENT_WORDS[] =
     "0000011001=2,12 0000011000=2,13 0000010111=2,14 0000010110=2,15 0000010101=2,16 0000011111=1,27 "
     "0000011110=1,28 0000011101=1,29 0000011100=1,30 0000011011=1,31 ";
 
-/* Values that stand for something else than an increment, and levels of 0 that stand for something else than a pair. */
+/* Values that are not an increment, and level-0 values that are not a pair. */
 enum { ESCAPED_INCREMENT = 34, STUFFING = 35 };
 enum { END_OF_BLOCK = 0, ESCAPE = 1 };
 
-/* What the next bits of a table's width say. Where they begin no code, the length is 0. */
+/* What the next bits, as many as the table is wide, mean. The length is 0 if they begin no code. */
 struct entry {
     int8_t value;
     uint8_t run;
     uint8_t length;
 };
 
-enum { WIDEST = 11 };
+enum { MAX_CODE_BITS = 11 };
 
 struct table {
     unsigned width;
-    struct entry entries[1 << WIDEST];
+    struct entry entries[1 << MAX_CODE_BITS];
 };
 
-/* Long coefficients come after six zeros. */
+/* The long words of coefficients start with six zeros. */
 enum { LONG_PREFIX = 6 };
 
 static struct {
@@ -93,7 +94,7 @@ static struct {
     struct table short_first, short_next, long_coefficients;
 } tables;
 
-/* Every entry that starts with a word. */
+/* Fills every entry that starts with a word. */
 static void fill_word(struct table *table, unsigned word, unsigned length, long value, long run)
 {
     unsigned rest = table->width - length;
@@ -141,8 +142,8 @@ static void fill_tables(void)
 
 /* ---- bits and codes */
 
-/* A slice, how many of its bits are read, where its records go, how long they are, and, where it is refused, why and where.
- * What does not fit the buffer whole is dropped. */
+/* A slice, how many of its bits are read, where its records go, how long they are, and why and where it is refused, if it is.
+ * A field that does not fit the buffer whole is dropped. */
 struct reader {
     const uint8_t *bytes;
     size_t length;
@@ -160,7 +161,7 @@ static size_t bits_left(const struct reader *reader)
 }
 
 /* The next 32 bits, zeros past the end. */
-static uint32_t next_bits(const struct reader *reader)
+static uint32_t peek(const struct reader *reader)
 {
     size_t byte = reader->at / 8;
     uint64_t window = 0;
@@ -181,7 +182,7 @@ static bool refuse(struct reader *reader, uint32_t number, size_t place)
     return false;
 }
 
-/* Why bits of which so many are left are no entry: 25 where they begin one, else 24. */
+/* Why the remaining bits match no entry: 25 if they begin one, else 24. */
 static uint32_t refusal_of(const struct table *table, uint32_t bits, size_t left)
 {
     if (left >= table->width)
@@ -196,7 +197,7 @@ static uint32_t refusal_of(const struct table *table, uint32_t bits, size_t left
 
 static bool read_code(struct reader *reader, const struct table *table, int *value)
 {
-    uint32_t bits = next_bits(reader);
+    uint32_t bits = peek(reader);
     struct entry entry = table->entries[bits >> (32 - table->width)];
     if (entry.length == 0 || entry.length > bits_left(reader))
         return refuse(reader, refusal_of(table, bits, bits_left(reader)), reader->at);
@@ -211,7 +212,7 @@ static bool read_number(struct reader *reader, unsigned width, uint32_t *number)
     if (bits_left(reader) < width)
         return refuse(reader, FORMAT3_SLICE_CUT, reader->at);
     COUNT_CODE();
-    *number = next_bits(reader) >> (32 - width);
+    *number = peek(reader) >> (32 - width);
     reader->at += width;
     return true;
 }
@@ -242,7 +243,7 @@ static void put_pair(struct reader *reader, int run, int level)
     reader->written += 3;
 }
 
-/* A byte that is known only after what it counts. */
+/* Fills in a byte that is known only after what it counts. */
 static void put_at(struct reader *reader, size_t at, unsigned byte)
 {
     if (at < reader->records_length)
@@ -257,11 +258,11 @@ struct pair {
     int level;
 };
 
-/* The level after an escape and its run, the code having started at `place`. */
+/* The level after an escape and its run; the code started at `place`. */
 static bool read_escaped_level(struct reader *reader, size_t place, int *level)
 {
     size_t left = bits_left(reader);
-    uint32_t bits = next_bits(reader);
+    uint32_t bits = peek(reader);
     unsigned high = bits >> 24, low = bits >> 16 & 255;
     if (left < 8)
         return refuse(reader, FORMAT3_SLICE_CUT, place);
@@ -270,7 +271,7 @@ static bool read_escaped_level(struct reader *reader, size_t place, int *level)
         reader->at += 8;
         return true;
     }
-    /* The least and the greatest that the low byte may come to. */
+    /* The smallest and largest value that the low byte can still have. */
     unsigned unknown = left >= 16 ? 0 : 0xffu >> (left - 8);
     unsigned least = low, greatest = low | unknown;
     bool legal = high == 0 ? greatest >= 128 : greatest >= 1 && least <= 128;
@@ -287,16 +288,16 @@ static bool read_escape(struct reader *reader, size_t place, struct pair *pair)
 {
     if (bits_left(reader) < 6)
         return refuse(reader, FORMAT3_SLICE_CUT, place);
-    pair->run = (int)(next_bits(reader) >> 26);
+    pair->run = (int)(peek(reader) >> 26);
     reader->at += 6;
     return read_escaped_level(reader, place, &pair->level);
 }
 
-/* A coefficient's word, by the table of its first eight bits, or, where six are zeros, by that of the ten after these. */
+/* Reads a coefficient's word from the table of its first eight bits or, if six of them are zeros, of the ten bits after these. */
 static bool read_pair(struct reader *reader, const struct table *short_words, struct pair *pair)
 {
     size_t place = reader->at;
-    uint32_t bits = next_bits(reader);
+    uint32_t bits = peek(reader);
     const struct table *table = short_words;
     if (bits >> (32 - LONG_PREFIX) == 0) {
         if (bits_left(reader) < LONG_PREFIX)
@@ -347,7 +348,7 @@ static inline __attribute__((always_inline)) bool read_pairs_of(struct reader *r
     return true;
 }
 
-/* The reader is copied, so that it can be in registers: a byte that is put might else be one of its own. */
+/* Works on a copy of the reader, which can stay in registers: a byte written to the buffer might otherwise alias it. */
 static bool read_pairs(struct reader *reader, bool intra)
 {
     struct reader copy = *reader;
@@ -403,7 +404,7 @@ static bool read_vector(struct reader *reader, uint32_t f_code)
     return true;
 }
 
-/* The numbers that a slice is read with. */
+/* The given numbers that a slice is read with. */
 struct given {
     uint32_t width;
     uint32_t height;
@@ -459,7 +460,7 @@ static bool read_increment(struct reader *reader, unsigned *increment)
         if (value == STUFFING)
             continue;
         *increment += value == ESCAPED_INCREMENT ? ESCAPE_STEP : (unsigned)value;
-        if (*increment > FORMAT3_MOST_MACROBLOCKS)
+        if (*increment > FORMAT3_MAX_MACROBLOCKS)
             return refuse(reader, FORMAT3_SLICE_CODE, place);
         if (value != ESCAPED_INCREMENT)
             return true;
@@ -513,7 +514,7 @@ static bool only_zeros_left(const struct reader *reader)
     return true;
 }
 
-/* Reads the slice. Answers whether it is accepted. */
+/* Reads the slice, and says whether it is accepted. */
 static bool read_slice(struct reader *reader, const struct given *given)
 {
     unsigned row, increment;
@@ -541,14 +542,14 @@ static bool is_f_code(bool used, uint32_t f_code)
 
 static bool is_legal(const struct given *given)
 {
-    return given->width >= 1 && given->width <= FORMAT3_WIDEST && given->height >= 1 && given->height <= FORMAT3_HIGHEST
-        && given->width * given->height <= FORMAT3_MOST_MACROBLOCKS && given->type >= I_PICTURE && given->type <= B_PICTURE
+    return given->width >= 1 && given->width <= FORMAT3_MAX_WIDTH && given->height >= 1 && given->height <= FORMAT3_MAX_HEIGHT
+        && given->width * given->height <= FORMAT3_MAX_MACROBLOCKS && given->type >= I_PICTURE && given->type <= B_PICTURE
         && is_f_code(given->type >= P_PICTURE, given->forward_f_code)
         && is_f_code(given->type == B_PICTURE, given->backward_f_code);
 }
 
-/* As the library: over an array, so that the buffer stays as it is where the slice is refused; then the records are copied, or, where they are longer than
- * that, laid by reading the slice again. */
+/* Like the library, first writes to an array, so that a refused slice leaves the buffer untouched. Then it copies the records, or, if
+ * they don't fit the array, reads the slice again. */
 uint32_t plain_read_slice(
     const uint8_t *slice, size_t slice_length,
     uint32_t width, uint32_t height, uint32_t coding_type,

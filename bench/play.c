@@ -1,13 +1,13 @@
-/* MPEG-1 video streams played end to end: start codes and headers by examples/c/stream.c, slices by format3_read_slice,
- * pictures by format3_reconstruct. bench/run compiles it a second time with plain C under these two names.
+/* Plays MPEG-1 video streams end to end: start codes and headers by examples/c/stream.c, slices by format3_read_slice,
+ * pictures by format3_reconstruct. bench/run compiles it a second time with the plain C versions of these two.
  *
- *   play compare STREAM REEL   the stream's pictures are those of the reel, every byte
- *   play time STREAM..         pictures a second, repeated until they are stable, and how the time is spent
+ *   play compare STREAM REEL   checks that the stream's pictures are those of the reel, byte for byte
+ *   play time STREAM..         pictures a second, repeated until stable, and how the time is spent
  *   play all STREAM            plays it once, inside measured(), for an instruction counter or a clock; prints the count
- *   play slices STREAM         the same without making the pictures: slices to records alone
- *   play codes STREAM          how many codes its slices have
+ *   play slices STREAM         the same without pictures: only from slices to records
+ *   play codes STREAM          counts the codes in its slices
  *
- * bench/run calls all of it. */
+ * bench/run runs all of these. */
 #include <stdbool.h>
 #include <stdint.h>
 #include <stdio.h>
@@ -21,7 +21,7 @@
 #include "show.h"
 #include "stream.h"
 
-/* What is done with each picture's file. */
+/* Whether to turn slices into records only, or also to make the pictures. */
 enum extent { SLICES_ALONE, WHOLE };
 
 static struct decoder decoder;
@@ -41,7 +41,7 @@ static struct bytes read_stream(const char *path)
     return bytes;
 }
 
-/* Decodes the file at hand. It stands in decoder.output, or, if others may be predicted from it, in decoder.newer. */
+/* Decodes the current file. The picture is in decoder.output or, if it is a reference, in decoder.newer. */
 static const struct picture *make_picture(void)
 {
     struct header header = header_of(file.bytes, file.length);
@@ -60,7 +60,7 @@ static void require_end(const struct stream *stream)
         fail("the stream", stream->problem);
 }
 
-/* Plays a stream from its start, and answers how many pictures it has. */
+/* Plays a stream from its start, and returns how many pictures it has. */
 static int play(struct bytes bytes, enum extent extent)
 {
     struct stream stream;
@@ -99,9 +99,9 @@ static int compare(const char *path, const char *reel)
 
 /* ---- timing */
 
-enum { FEWEST_ROUNDS = 20, MOST_ROUNDS = 400 };
+enum { FEWEST_ROUNDS = 20, MAX_ROUNDS = 400 };
 
-/* This process's own time: what else the machine does is not counted. */
+/* The CPU time of this process alone. */
 static double now(void)
 {
     struct timespec time;
@@ -109,11 +109,11 @@ static double now(void)
     return (double)time.tv_sec + 1e-9 * (double)time.tv_nsec;
 }
 
-/* The seconds of the best round, once none was better by more than a hundredth for a while. */
+/* The seconds of the best round, once no round has improved by more than 1 % for a while. */
 static double best_round(struct bytes bytes, enum extent extent)
 {
     double best = 1e9;
-    for (int k = 0, since_better = 0; k < MOST_ROUNDS && since_better < FEWEST_ROUNDS; k++) {
+    for (int k = 0, since_better = 0; k < MAX_ROUNDS && since_better < FEWEST_ROUNDS; k++) {
         double start = now();
         play(bytes, extent);
         double seconds = now() - start;
@@ -137,7 +137,7 @@ static int time_streams(char **paths, int count)
     return 0;
 }
 
-/* ---- once */
+/* ---- run once */
 
 __attribute__((noinline))
 static int measured(struct bytes bytes, enum extent extent)
@@ -153,7 +153,7 @@ static int once(const char *path, enum extent extent)
     return 0;
 }
 
-/* Read once each: no slice of the streams has records longer than plain C's array. */
+/* Counts each slice once: no slice of these streams has records too long for plain C's array. */
 static int codes(const char *path)
 {
 #ifdef PLAIN_CENSUS

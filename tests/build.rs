@@ -1,4 +1,4 @@
-//! With the feature `library`, links `libformat3_c.a` from the directory that FORMAT3_LIB_DIR names.
+//! With the feature `library`, links `libformat3_c.a` from the directory named by FORMAT3_LIB_DIR.
 
 use std::path::Path;
 use std::process::exit;

@@ -1,7 +1,7 @@
 #!/usr/bin/env bash
-# tests/header.sh FOLDER: include/format3.h, as ./build-library laid it into FOLDER, against what it speaks of. It compiles by
-# itself as C and as C++; it declares the functions that the archive exports, with the types and names of their source; and its
-# answers, limits and kinds are those of the crates, with their numbers.
+# tests/header.sh FOLDER: checks the header that ./build-library put into FOLDER. It must compile on its own as C and as C++,
+# declare the functions that the archive exports, with the types and names of their source, and have the answers, limits and
+# kinds of the crates, with their numbers.
 set -euo pipefail
 folder=$(realpath "$1")
 cd "$(dirname "$0")/.."
@@ -9,9 +9,9 @@ scratch=$(mktemp -d)
 trap 'rm -rf "$scratch"' EXIT
 header=$folder/include/format3.h
 
-# ---- by the source
+# ---- from the source
 
-# The exports as C declares them, a line each: a slice is a pointer and a length.
+# The exports as C declarations, one per line: a slice is a pointer and a length.
 source_functions() {
     awk '/^pub extern "C" fn/ { on = 1 } on { printf "%s ", $0 } / -> / { on = 0 }' crates/format3_c/src/lib.rt | sed -E '
         s/pub extern "C" fn (\w+)\(\s*([^)]*)\) -> (\w+) /\3 \1(\2);\n/g
@@ -24,9 +24,9 @@ source_functions() {
         s/\busize\b/size_t/g; s/\b([iu])(8|16|32)\b/\1nt\2_t/g; s/\bunt/uint/g; s/,\s*\)/)/g; s/ +/ /g'
 }
 
-# The constants of a type in a file, name and number.
+# The constants of a type in a file: name and number.
 constants() {
-    sed -nE "s/^ *pub const (\w+): $1 = ([0-9]+);/\1 \2/p" "$2"
+    sed -nE "s/^ *pub(\(crate\))? const (\w+): $1 = ([0-9]+);/\2 \3/p" "$2"
 }
 
 source_answers() {
@@ -36,17 +36,17 @@ source_answers() {
 }
 
 source_limits() {
-    constants usize crates/symbols/src/size.rt | sed 's/^MOST /MOST_MACROBLOCKS /'
+    constants usize crates/symbols/src/size.rt
     sed -nE 's/^ *([0-9]+) \* macroblocks$/MACROBLOCK_BYTES \1/p' crates/symbols/src/size.rt
 }
 
 source_kinds() {
-    constants u8 crates/format3/src/record.rt | sed 's/^/KIND_/'
+    constants u8 crates/format3_records/src/record.rt | sed -E 's/^(\w+)_KIND /KIND_\1 /'
 }
 
-# ---- by the header
+# ---- from the header
 
-# What is declared, without comments, a declaration a line.
+# The declarations without comments, one per line.
 declarations() {
     gcc -E -P "$header" | tr -s '[:space:]' ' ' | sed 's/; */;\n/g'
 }
@@ -66,7 +66,7 @@ header_kinds() { enumeration format3_kind; }
 
 # ---- comparing
 
-# What the source and the header have under a name is the same, in any order, and not nothing. Prints how many there are.
+# The source and the header must have the same items under a name, in any order, and at least one. Prints how many.
 require_same() {
     "source_$1" | sort > "$scratch/source"
     "header_$1" | sort > "$scratch/header"

@@ -1,7 +1,7 @@
 #!/usr/bin/env bash
 # shellcheck disable=SC2016
-# tests/wrong_edits.sh: wrong_programs.sh refuses edits that show nothing. A crate of two functions and a definition, its edits and the logs of
-# their checks are laid into a folder, where it passes them; then each change of one of these files by itself is refused.
+# tests/wrong_edits.sh: tests that wrong_programs.sh refuses edits that prove nothing. It writes a crate of two functions and a definition,
+# with edits and the logs of their checks, which must pass; then each change to one of these files must be refused.
 set -euo pipefail
 cd "$(dirname "$0")"
 folder=$(mktemp -d)
@@ -29,7 +29,7 @@ END
 echo 'unfolding sum' >crates/sums/proofs/twice/Proof.antt
 echo 'add-spec = tie.close (tie.spec add-result returns)' >logs/sums/code/proofs/add/Proof.antt
 
-# Mistakes of code in two functions; one in a function whose proof the checker makes; a wrong definition, which a law refutes; a wrong clause.
+# Wrong code in two functions; in one whose proof the checker makes itself; a wrong definition, refuted by a law; a wrong clause.
 cat >crates/sums/must-fail/code.edit <<'END'
 # product, refused at add
 file: src/lib.rt
@@ -88,7 +88,7 @@ if ! passes "$right"; then
     exit 1
 fi
 
-# A file, changed by an edit of sed, is refused in the words given.
+# Changes a file by a sed script; wrong_programs.sh must refuse it with these words.
 changes=0
 require_refused() { # FILE EDIT WORDS
     rm -rf "$wrong"
@@ -107,7 +107,7 @@ require_refused() { # FILE EDIT WORDS
 }
 edits=crates/sums/must-fail
 
-# The names and places that an edit gives.
+# The names and paths that an edit gives.
 require_refused $edits/code.edit '1d' 'a line under no name'
 require_refused $edits/code.edit 's/^# first_alone.*/# the first alone/' 'not a line of an edit'
 require_refused $edits/code.edit '/first_alone/d' 'a mistake in two places'
@@ -120,7 +120,7 @@ require_refused $edits/definition.edit '$a # first_alone, refused at twice\nfile
 require_refused $edits/clause.edit 's/at add/at twice/' 'its first error is at add'
 require_refused $edits/clause.edit '$a # first_alone, refused at twice\nold: add(a, a)\nnew: add(a, 0)' 'first_alone is checked against add'
 
-# What the checker said of it: nothing at the place; something at another; that the proof doesn't fit the code.
+# What the checker said: nothing at the path, something at another, or that the proof doesn't fit the code.
 require_refused logs/sums/code/.log '/proofs\/twice/d' 'first_alone was not refused at twice'
 require_refused logs/sums/code/.log 's/(twice.*error: ).*/\1`twice-spec`: `add` was not admitted (it was rejected)/' 'first_alone was not refused at twice'
 require_refused logs/sums/code/.log 's/(thrice.*error: ).*/\1`returns`: the two types differ/' 'an error at thrice, where it has no mistake'

@@ -1,5 +1,5 @@
 #!/usr/bin/env bash
-# tests/wrong_headers.sh FOLDER: header.sh refuses headers that are wrong, each by one edit of the header in FOLDER.
+# tests/wrong_headers.sh FOLDER: tests that header.sh refuses wrong headers, each made by one edit of the header in FOLDER.
 set -euo pipefail
 folder=$(realpath "$1")
 cd "$(dirname "$0")"
@@ -8,7 +8,7 @@ trap 'rm -rf "$wrong"' EXIT
 mkdir "$wrong/include"
 ln -s "$folder/lib" "$wrong/lib"
 
-# The header, changed by an edit, is refused.
+# header.sh must refuse the header changed by this edit.
 require_refused() {
     sed -E "$1" "$folder/include/format3.h" > "$wrong/include/format3.h"
     if cmp -s "$folder/include/format3.h" "$wrong/include/format3.h"; then
@@ -30,7 +30,7 @@ edits=(
     's/uint32_t residual/int32_t residual/'
     's/^(uint32_t format3_vector.*)$/\1\n\1/'
     '/^uint32_t format3_vector/d'
-    's/WIDEST = 48/WIDEST = 49/'
+    's/MAX_WIDTH = 48/MAX_WIDTH = 49/'
     's/MACROBLOCK_BYTES = 384/MACROBLOCK_BYTES = 385/'
     's/KIND_SLICE = 3/KIND_SLICE = 2/'
     's/(FORMAT3_VERSION|FORMAT3_PATTERN) = [0-9]+/\1 = 23/'

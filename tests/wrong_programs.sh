@@ -1,30 +1,30 @@
 #!/usr/bin/env bash
-# tests/wrong_programs.sh [CRATES LOGS]: the wrong programs under CRATES/*/must-fail (crates), mistake by mistake, by the logs that `rt ci` or
-# `rt must-fail` leaves under LOGS (target/must-fail).
+# tests/wrong_programs.sh [CRATES LOGS]: checks the wrong programs under CRATES/*/must-fail (default: crates) mistake by mistake, from the logs
+# that `rt ci` or `rt must-fail` leaves under LOGS (default: target/must-fail).
 #
-# An edit has one mistake or more, each a line `# NAME, refused at PATH` and below it the replacements that make it. PATH is the folder under
-# proofs/ of the function that is wrong, or, where a law refutes the mistake, the law's file under proofs/ with its ending.
-# `rt` tells that an edit as a whole is refused. This asks that each mistake is, at the place that it names, because a fact doesn't hold:
-# - There is an error at that place, and not only for something that it uses and that was not admitted; or, where the checker makes a
-#   function's proof itself, it found none.
-# - No error there says that the proof's text doesn't fit the code: that a need or a field which it names is not there, that a loop has other
-#   locals, or, where the needs are put together, that they are others. Such an edit shows nothing.
-# - Wrong code (an edit of src/) has an error at no other place. So several mistakes may share an edit, each in a function of its own.
-# - A definition (specs/), or a clause of a contract, is what other proofs are checked against too. Where a wrong one is alone in its edit, the
-#   log's first error stands at the place that it names, and other places may have errors. It shares an edit only as wrong code does, and
-#   with mistakes whose functions and proofs don't name it.
+# An edit has one or more mistakes, each a line `# NAME, refused at PATH` with its replacements below. PATH is the folder under proofs/ of
+# the function that is wrong or, if a law refutes the mistake, the law's file under proofs/, with its ending.
+# `rt` only says that the edit as a whole is refused. This script checks that each mistake is refused at its path, because a fact fails:
+# - There is an error at that path, other than that something it uses was not admitted; or, if the checker makes the function's proof
+#   itself, it found none.
+# - No error there says that the proof's text doesn't fit the code: that a need or field it names is missing, that a loop has other
+#   locals, or, when the needs are put together, that they are different. Such an edit proves nothing.
+# - Wrong code (an edit of src/) has no error at any other path. So several mistakes may share an edit, each in its own function.
+# - Other proofs are checked against a definition (specs/) or a clause of a contract too. If a wrong one is alone in its edit, the log's
+#   first error is at the path it names, and other paths may have errors. If it shares an edit, the rule for wrong code applies, and
+#   the functions and proofs of the other mistakes must not name it.
 set -euo pipefail
 cd "$(dirname "$0")/.."
 crates=${1:-crates}
 logs=${2:-target/must-fail}
 
-# The mistakes of an edit, a line each: `code`, `clause` or `definition`, NAME, PATH. It fails where a replacement stands under no name, where
-# two mistakes are at one place, where the replacements of one mistake are not in one paragraph of one file, and where a mistake stands
-# beside a wrong definition or clause that its function or its proof names.
+# The mistakes of an edit, one per line: `code`, `clause` or `definition`, NAME, PATH. Fails if a replacement has no name, if two mistakes
+# have the same path, if the replacements of one mistake are not in one paragraph of one file, or if a mistake is beside a wrong definition
+# or clause that its function or proof names.
 mistakes_of() { # EDIT
     awk -v crate="${1%/must-fail/*}" '
         function wrong(what) { print FILENAME ":" FNR ": " what > "/dev/stderr"; failed = 1 }
-        # What a line declares: a function, or a definition.
+        # The name of the function or definition that a line declares.
         function declared(line) {
             if (sub(/^ *(pub )?(extern "C" )?fn /, "", line)) sub(/[<(].*/, "", line)
             else if (line ~ /^ *((abbrev|unfoldable|pub) )*((record|data) [^ ]+|[^ ]+ :) /) {
@@ -33,8 +33,8 @@ mistakes_of() { # EDIT
             } else line = ""
             return line
         }
-        # Where the text stands: the file and the paragraph. It sets the paragraph (`around`), what it declares (`given`), and whether the text is
-        # in a clause of a contract.
+        # The file and paragraph that a text is in. It sets the paragraph (`around`), the name that it declares (`given`), and whether the text
+        # is in a clause of a contract.
         function place_of(old,    line, parts, lines, n, k, i, count, found) {
             n = 1
             while ((getline line < file) > 0) if (line == "") n++; else parts[n] = parts[n] line "\n"
@@ -52,7 +52,7 @@ mistakes_of() { # EDIT
             }
             return file found
         }
-        # Whether a text has a name in it.
+        # Whether a name occurs in a text.
         function has(text, name) { return name != "" && text ~ ("(^|[^A-Za-z0-9_])" name "([^A-Za-z0-9_]|$)") }
         function proof_of(path,    line, text) {
             while ((getline line < (crate "/proofs/" path "/Proof.antt")) > 0) text = text line "\n"
@@ -92,7 +92,7 @@ mistakes_of() { # EDIT
         }' "$1"
 }
 
-# The errors of a log in their order, a line each: `fact`, or `text` where the proof does not fit the code; and the place.
+# The errors of a log in order, one per line: `fact`, or `text` if the proof does not fit the code; and the path.
 errors_of() { # LOG
     awk -v folder="${1%/.log}" '
         function told() {
@@ -105,7 +105,7 @@ errors_of() { # LOG
             sub(/\/Proof\.antt$/, "", path)
             return path
         }
-        # Whether the proof is made of the answers to the needs, and no walk.
+        # Whether the proof answers the needs, rather than walks through the code.
         function answers_needs(    line, found) {
             while ((getline line < (folder "/proofs/" place "/Proof.antt")) > 0) if (line ~ /tie\.close/) found = 1
             close(folder "/proofs/" place "/Proof.antt")
@@ -138,7 +138,7 @@ complain() {
     failed=1
 }
 
-# The mistakes of an edit, as `mistakes_of` has them, against the errors of its log.
+# Checks the mistakes of an edit, as `mistakes_of` prints them, against the errors of its log.
 look_at() { # EDIT MISTAKES ERRORS
     local edit=$1 named=$2 errors=$3 name path
     while read -r _ name path; do

@@ -1,3 +1,4 @@
+/* Decodes Format 3 files and keeps the reference pictures. */
 #include "decoder.h"
 
 #include <stdbool.h>
@@ -34,14 +35,14 @@ struct header header_of(const uint8_t *file, size_t length)
     return header;
 }
 
-/* The length of the picture, or 0 for one that is larger than any: its header is then refused. */
+/* The picture's length, or 0 if it is larger than any legal one: its header is then refused. */
 static size_t picture_length(struct header header)
 {
     size_t length = FORMAT3_MACROBLOCK_BYTES * header.width * header.height;
-    return length <= MOST_BYTES ? length : 0;
+    return length <= MAX_PICTURE_BYTES ? length : 0;
 }
 
-/* A picture as a reference; one that is not used is lent empty. */
+/* A picture as a reference; an unused one is empty. */
 static struct reference lent(bool used, const struct picture *picture)
 {
     if (!used)

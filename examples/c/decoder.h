@@ -1,5 +1,5 @@
-/* Format 3 files decoded one after another, with the pictures that others are predicted from: a P picture from the last
- * accepted I or P picture, a B picture from the last two, the newer one as backward. */
+/* Decodes Format 3 files one after another and keeps their references: a P picture is predicted from the last accepted I or P
+ * picture, a B picture from the last two, the newer one as backward. */
 #ifndef DECODER_H
 #define DECODER_H
 
@@ -9,13 +9,13 @@
 #include "format3.h"
 
 enum {
-    MOST_BYTES = FORMAT3_MACROBLOCK_BYTES * FORMAT3_MOST_MACROBLOCKS,
+    MAX_PICTURE_BYTES = FORMAT3_MACROBLOCK_BYTES * FORMAT3_MAX_MACROBLOCKS,
     FIRST_RECORD = 1
 };
 
 enum picture_type { UNKNOWN_TYPE, I_PICTURE, P_PICTURE, B_PICTURE };
 
-/* What a file's header says; all 0 where the file has none. */
+/* What a file's header says; all 0 if the file has none. */
 struct header {
     size_t width;
     size_t height;
@@ -23,11 +23,11 @@ struct header {
 };
 
 struct picture {
-    uint8_t bytes[MOST_BYTES];
+    uint8_t bytes[MAX_PICTURE_BYTES];
     size_t length;
 };
 
-/* Three pictures that take turns: the last two that others may be predicted from, and the one being decoded. */
+/* Three pictures that take turns: the last two references, and the one being decoded. */
 struct decoder {
     struct picture pictures[3];
     struct picture *older;
@@ -41,15 +41,15 @@ struct answer {
     size_t made;
 };
 
-/* Without any picture to predict from. */
+/* Starts without any references. */
 void start_decoder(struct decoder *decoder);
 
 struct header header_of(const uint8_t *file, size_t length);
 
-/* The picture of a file, in decoder->output. It stands there until the next is decoded or it is kept. */
+/* Decodes a file into decoder->output. The picture stays there until the next one is decoded or it is kept. */
 struct answer decode(struct decoder *decoder, const uint8_t *file, size_t length, struct header header);
 
-/* The decoded picture becomes the newer reference, and the older one's place is free. */
+/* Makes the decoded picture the newer reference, and frees the buffer of the older one. */
 void keep_reference(struct decoder *decoder);
 
 #endif

@@ -1,4 +1,5 @@
-/* figures: every entry called from C at figures of document 01, and the slice that makes the worked reel's first picture. Prints each that is not as it should be, and fails. */
+/* figures: checks every function, called from C, against figures of document 01 and its sample reel's first picture, also as a slice.
+ * Prints each result that is wrong, and fails if there is one. */
 #include <stdint.h>
 #include <stdio.h>
 
@@ -54,7 +55,7 @@ static void vectors(void)
     vector(8, 0, 1, 0, FORMAT3_NUMBER_OUT_OF_RANGE, 0);
 }
 
-/* A DC coefficient alone gives 64 times one number. */
+/* A DC coefficient alone gives the same number 64 times. */
 static void transformed(int16_t dc, uint32_t number, long expected)
 {
     int16_t coefficients[64] = {0}, residues[64] = {0};
@@ -73,7 +74,7 @@ static void transforms(void)
     transformed(2048, FORMAT3_NUMBER_OUT_OF_RANGE, 0);
 }
 
-/* The worked reel's first file: a grey picture of one macroblock. */
+/* The first file of document 01's reel: a grey picture of one macroblock. */
 static const uint8_t GREY[41] = {3, 0, 8, 1, 1, 1, 1, 0, 0, 0, 0, 0, 4, 3, 8, 0, 0, 0, 22, 4, 16, 0, 1};
 
 static void shown(
@@ -121,7 +122,7 @@ static void pictures(void)
     picture(0, 384, FORMAT3_FILE_EMPTY, 0, 0);
 }
 
-/* The grey picture's one slice: a scale of 8, an intra macroblock, and no coefficient. */
+/* The grey picture as one slice: scale 8, an intra macroblock, no coefficients. */
 static const uint8_t GREY_SLICE[9] = {0, 0, 1, 1, 0x43, 0x94, 0xa5, 0x22, 0x20};
 
 /* Where its records are in the file. */

@@ -1,8 +1,8 @@
-/* play STREAM FOLDER: decodes an MPEG-1 video stream, slices and all, and writes each picture as FOLDER/NNNN.ppm, to be
- * looked at, numbered in coded order. A line is printed for each picture.
+/* play STREAM FOLDER: decodes an MPEG-1 video stream and writes each picture as FOLDER/NNNN.ppm, numbered in coded order. It
+ * prints a line for each picture.
  *
- * A stream that cannot be decoded to its end is refused where it cannot: with a message that says why and at which byte, and
- * after the pictures before it. */
+ * If it cannot decode the stream to its end, it stops there with a message that says why and at which byte; the pictures
+ * before that are written. */
 #include <stdbool.h>
 #include <stdio.h>
 #include <stdlib.h>
@@ -19,7 +19,7 @@ static void print_problem(const char *path, const struct stream *stream)
     fprintf(stderr, "\n");
 }
 
-/* All pictures of the stream. Answers whether there was at least one, and every one was accepted and written. */
+/* Plays all pictures of the stream. Returns whether there was at least one, and all were accepted and written. */
 static bool show_stream(struct decoder *decoder, const char *path, struct bytes bytes, const char *folder)
 {
     static struct file file;

@@ -1,4 +1,4 @@
-/* reel_to_ppm REEL FOLDER: decodes a reel of Format 3 files and writes each picture as FOLDER/NNNN.ppm, to be looked at.
+/* reel_to_ppm REEL FOLDER: decodes a reel of Format 3 files and writes each picture as FOLDER/NNNN.ppm.
  *
  * A reel has, for each picture in coded order, a 4-byte big-endian length and a file. A line is printed for each picture. */
 #include <stdbool.h>
@@ -16,7 +16,7 @@ static size_t big_endian(const uint8_t length[LENGTH_BYTES])
     return (size_t)length[0] << 24 | (size_t)length[1] << 16 | (size_t)length[2] << 8 | length[3];
 }
 
-/* All pictures of the reel. Answers whether every one was accepted and written. */
+/* Decodes all pictures of the reel. Returns whether all were accepted and written. */
 static bool show_reel(struct decoder *decoder, struct bytes reel, const char *folder)
 {
     bool all = true;

@@ -1,3 +1,4 @@
+/* Prints a picture's line and writes its PPM. */
 #include "show.h"
 
 #include <errno.h>
@@ -13,7 +14,7 @@ static unsigned long sum_of(const uint8_t *plane, size_t length)
     return sum;
 }
 
-/* A header that was refused, by 8 or sooner, has no letter. */
+/* A picture whose header was refused, by 8 or sooner, has no letter. */
 static char letter_of(struct answer answer, enum picture_type type)
 {
     bool opened = answer.place > FIRST_RECORD || answer.number > FORMAT3_HEADER;
@@ -32,7 +33,7 @@ static void print_line(int number, struct answer answer, struct header header, c
     printf(" %lu %lu %lu\n", sum_of(y, luma), sum_of(cb, chroma), sum_of(cr, chroma));
 }
 
-/* 256 times a colour, rounded and limited. */
+/* A colour from 256 times its value, rounded and limited. */
 static uint8_t limited(int scaled)
 {
     int rounded = (scaled + 128) / 256;
@@ -41,7 +42,7 @@ static uint8_t limited(int scaled)
     return rounded > 255 ? 255 : (uint8_t)rounded;
 }
 
-/* Red, green and blue by ITU-R BT.601, which MPEG-1 video is commonly coded in, with Y of 16..235. */
+/* Red, green and blue by ITU-R BT.601, as usual for MPEG-1 video, with Y from 16 to 235. */
 static void colour_of(int y, int cb, int cr, uint8_t colour[3])
 {
     int luma = 298 * (y - 16);
@@ -55,7 +56,7 @@ static bool write_pels(FILE *file, struct header header, const struct picture *p
     size_t width = 16 * header.width, height = 16 * header.height;
     const uint8_t *luma = picture->bytes;
     const uint8_t *cb = luma + width * height, *cr = cb + width * height / 4;
-    uint8_t row[3 * 16 * FORMAT3_WIDEST];
+    uint8_t row[3 * 16 * FORMAT3_MAX_WIDTH];
     for (size_t j = 0; j < height; j++) {
         for (size_t i = 0; i < width; i++) {
             size_t chroma = j / 2 * (width / 2) + i / 2;
@@ -101,7 +102,7 @@ bool show_picture(struct decoder *decoder, int number, const uint8_t *file, size
     return written;
 }
 
-/* The bytes of an open file, which the caller frees. Answers whether all of them were read. */
+/* Reads an open file; the caller frees the bytes. Returns whether all were read. */
 static bool read_bytes(FILE *file, struct bytes *bytes)
 {
     if (fseek(file, 0, SEEK_END) != 0)

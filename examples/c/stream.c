@@ -1,3 +1,4 @@
+/* Parses an MPEG-1 video stream into Format 3 files. */
 #include "stream.h"
 
 #include <string.h>
@@ -16,7 +17,7 @@ enum { I_CODED = 1, P_CODED = 2, B_CODED = 3, D_CODED = 4 };
 enum { FORWARD = 0, BACKWARD = 1 };
 enum { START_CODE_BYTES = 4 };
 
-/* What stands from a start code to the next one, and how many bits of it are read. Bits past its end are 0. */
+/* The bytes from one start code to the next, and how many of their bits are read. Bits past the end are 0. */
 struct part {
     const uint8_t *bytes;
     size_t length;
@@ -39,7 +40,7 @@ static bool refuse(struct stream *stream, const char *problem)
 
 /* ---- start codes */
 
-/* Where the next 00 00 01 with a byte after it starts, from an offset on; the length where there is none. */
+/* The offset of the next 00 00 01 with a byte after it, from an offset on, or the length if there is none. */
 static size_t find_start_code(const uint8_t *bytes, size_t length, size_t from)
 {
     for (size_t at = from + 2; at + 1 < length; at++) {
@@ -104,7 +105,7 @@ static void read_matrix(struct part *part, struct matrix *matrix)
         matrix->weights[k] = (uint8_t)bits(part, 8);
 }
 
-/* horizontal_size, vertical_size, what concerns display and buffering, and the matrices. */
+/* horizontal_size, vertical_size, fields for display and buffering, and the matrices. */
 static bool read_sequence(struct stream *stream, struct part part)
 {
     struct sequence *sequence = &stream->sequence;
@@ -117,8 +118,8 @@ static bool read_sequence(struct stream *stream, struct part part)
         return refuse(stream, "a sequence header is cut");
     if (sequence->width == 0 || sequence->height == 0)
         return refuse(stream, "pictures without a pel");
-    if (sequence->width > FORMAT3_WIDEST || sequence->height > FORMAT3_HIGHEST
-        || sequence->width * sequence->height > FORMAT3_MOST_MACROBLOCKS)
+    if (sequence->width > FORMAT3_MAX_WIDTH || sequence->height > FORMAT3_MAX_HEIGHT
+        || sequence->width * sequence->height > FORMAT3_MAX_MACROBLOCKS)
         return refuse(stream, "pictures that are too large: at most 48 macroblocks wide, 36 high and 396 in all are decoded");
     return true;
 }
@@ -148,7 +149,7 @@ static void put(struct file *file, size_t byte)
     file->bytes[file->length++] = (uint8_t)byte;
 }
 
-/* A record's length is that of its kind and body. */
+/* A record's length counts its kind and body. */
 static void put_record_start(struct file *file, size_t body_length, int kind)
 {
     put(file, (body_length + 1) >> 8);
@@ -166,7 +167,7 @@ static void put_matrix(struct file *file, size_t which, const struct matrix *mat
         put(file, matrix->weights[k]);
 }
 
-/* The file up to its slices. */
+/* Writes the file up to its slices. */
 static void start_file(struct file *file, const struct sequence *sequence, const struct picture_header *header)
 {
     file->length = 0;
@@ -183,19 +184,19 @@ static void start_file(struct file *file, const struct sequence *sequence, const
     put_matrix(file, 1, &sequence->matrices[1]);
 }
 
-/* The records of a slice, put into the file behind what it has. */
+/* Appends the records of a slice to the file. */
 static bool put_slice(struct stream *stream, struct part slice, const struct picture_header *header, struct file *file)
 {
     size_t written;
     stream->number = format3_read_slice(
         slice.bytes, slice.length, (uint32_t)stream->sequence.width, (uint32_t)stream->sequence.height, header->type,
         header->f_code[FORWARD], header->f_code[BACKWARD],
-        file->bytes + file->length, LONGEST_FILE - file->length, &written, &stream->byte, &stream->bit);
+        file->bytes + file->length, MAX_FILE_BYTES - file->length, &written, &stream->byte, &stream->bit);
     file->length += written;
     return stream->number == FORMAT3_ACCEPTED ? true : refuse(stream, "a slice is refused");
 }
 
-/* A picture whose header is at hand: its slices, up to the next part that is none and does not stand between them. */
+/* Reads a picture: its header, then its slices, up to the next part that is neither a slice nor user data. */
 static bool read_picture(struct stream *stream, struct part part, struct file *file)
 {
     struct picture_header header;
@@ -216,7 +217,7 @@ static bool read_picture(struct stream *stream, struct part part, struct file *f
     return true;
 }
 
-/* A part that is no picture: what it says is kept, or it is passed over. */
+/* Reads a part that is not a picture: keeps what it says, or skips it. */
 static bool read_other(struct stream *stream, struct part part)
 {
     uint8_t code = code_of(part);

@@ -1,5 +1,5 @@
-/* MPEG-1 video streams (ISO/IEC 11172-2, 2.4.2): their pictures one after another, in coded order, as Format 3 files. The
- * headers of sequences, groups and pictures are taken apart here; the slices are turned into records by the library. */
+/* Splits an MPEG-1 video stream (ISO/IEC 11172-2, 2.4.2) into its pictures, in coded order, as Format 3 files. It parses the
+ * headers of sequences, groups and pictures; the library turns the slices into records. */
 #ifndef STREAM_H
 #define STREAM_H
 
@@ -11,10 +11,10 @@
 
 enum {
     /* A macroblock's record: length, kind, type, increment, scale, both vectors, pattern, and six blocks of 64 pairs. */
-    LONGEST_MACROBLOCK = 2 + 1 + 1 + 2 + 1 + 8 + 1 + 6 * (1 + 64 * 3),
-    LONGEST_SLICE = 2 + 1 + 3,
-    /* Version, header, matrices; and each macroblock in a slice of its own. */
-    LONGEST_FILE = 1 + 10 + 2 * 68 + FORMAT3_MOST_MACROBLOCKS * (LONGEST_SLICE + LONGEST_MACROBLOCK)
+    MAX_MACROBLOCK_RECORD_BYTES = 2 + 1 + 1 + 2 + 1 + 8 + 1 + 6 * (1 + 64 * 3),
+    SLICE_RECORD_BYTES = 2 + 1 + 3,
+    /* Version, header, matrices, and each macroblock in its own slice. */
+    MAX_FILE_BYTES = 1 + 10 + 2 * 68 + FORMAT3_MAX_MACROBLOCKS * (SLICE_RECORD_BYTES + MAX_MACROBLOCK_RECORD_BYTES)
 };
 
 /* A matrix that a sequence header loads. */
@@ -23,7 +23,7 @@ struct matrix {
     uint8_t weights[64];
 };
 
-/* What a sequence header says of the pictures after it: width and height in macroblocks, matrices intra and non-intra. */
+/* What a sequence header says about the pictures after it: width and height in macroblocks, intra and non-intra matrix. */
 struct sequence {
     size_t width;
     size_t height;
@@ -33,29 +33,29 @@ struct sequence {
 struct stream {
     const uint8_t *bytes;
     size_t length;
-    /* Where the next start code is; at the stream's end the length. */
+    /* The offset of the next start code, or the length at the stream's end. */
     size_t at;
     /* All 0 before the first sequence header. */
     struct sequence sequence;
-    /* Why the stream is refused, and where; NULL where it is not. */
+    /* Why the stream is refused, and where; NULL if it isn't. */
     const char *problem;
     size_t problem_at;
-    /* A slice's answer, where the problem is that it is refused. */
+    /* The answer for a slice, if the problem is a refused slice. */
     uint32_t number;
     size_t byte;
     size_t bit;
 };
 
-/* A Format 3 file as long as any that is accepted. */
+/* Room for the longest Format 3 file that is accepted. */
 struct file {
-    uint8_t bytes[LONGEST_FILE];
+    uint8_t bytes[MAX_FILE_BYTES];
     size_t length;
 };
 
-/* A stream from its first start code on. */
+/* Opens a stream at its first start code. */
 void open_stream(struct stream *stream, const uint8_t *bytes, size_t length);
 
-/* The next picture. Answers false where there is none: at the stream's end, or where stream->problem says why. */
+/* Gives the next picture. Returns false if there is none: at the stream's end, or if stream->problem says why. */
 bool next_picture(struct stream *stream, struct file *file);
 
 #endif

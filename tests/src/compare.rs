@@ -1,5 +1,5 @@
-//! Compares an implementation's entries, and a program `panel`, with the other decoder. An error tells the first case
-//! that differs: its seed and number make it again.
+//! Compares an implementation's entries, and a program `panel`, with the other decoder. An error names the first case that
+//! differs, by the seed and number that reproduce it.
 
 use std::fmt::Debug;
 
@@ -11,10 +11,10 @@ use crate::generator::{case, reel, small_cases, Case};
 use crate::program::Program;
 use crate::random::Random;
 
-/// How often each answer from 0 to 21 was given.
+/// How often each answer from 0 to 21 occurred.
 pub type Counts = [usize; Refusal::BackwardLength as usize + 1];
 
-/// Fails where an answer was never given: the cases then show too little.
+/// Fails if an answer never occurred: the cases then test too little.
 pub fn require_every_answer(counts: &Counts) -> Result<(), String> {
     match counts.iter().position(|count| *count == 0) {
         Some(answer) => Err(format!("no case was answered by {answer}")),
@@ -36,7 +36,7 @@ pub(crate) fn require_same<T: PartialEq + Debug>(
     ))
 }
 
-/// Pictures by their seed and number: the answer, and every byte of the output, of refused pictures too.
+/// Compares pictures by seed and number: the answer and every byte of the output, also for refused pictures.
 pub fn pictures(tested: &Entries, seed: u64, count: u64) -> Result<Counts, String> {
     let mut counts = Counts::default();
     for number in 0..count {
@@ -50,7 +50,7 @@ pub fn pictures(tested: &Entries, seed: u64, count: u64) -> Result<Counts, Strin
     Ok(counts)
 }
 
-/// Small pictures with each field in turn at and just past the ends of its range.
+/// Compares small pictures with each field in turn at, and just past, the ends of its range.
 pub fn changed_fields(tested: &Entries, seed: u64) -> Result<usize, String> {
     let mut compared = 0;
     for (picture, (file, case)) in small_cases(seed).into_iter().enumerate() {
@@ -67,7 +67,7 @@ pub fn changed_fields(tested: &Entries, seed: u64) -> Result<usize, String> {
     Ok(compared)
 }
 
-/// The answer's number, where both give the same answer and bytes.
+/// The answer's number, if both give the same answer and bytes.
 fn same_picture(tested: &Entries, case: &Case, what: impl Fn() -> String) -> Result<u32, String> {
     let run = |entries: &Entries| {
         let mut output = case.output.clone();
@@ -80,7 +80,7 @@ fn same_picture(tested: &Entries, case: &Case, what: impl Fn() -> String) -> Res
     Ok(ours.0.number)
 }
 
-/// Two buffers of one length have the same bytes; else the first that differs is told.
+/// Checks that two buffers of the same length have the same bytes, and reports the first that differs.
 pub(crate) fn require_same_bytes(
     what: impl Fn() -> String,
     ours: &[u8],
@@ -95,7 +95,7 @@ pub(crate) fn require_same_bytes(
     }
 }
 
-/// Records shown from a few offsets of the file, and from past its end.
+/// Compares records shown from a few offsets of the file, and from past its end.
 fn same_records_shown(tested: &Entries, file: &[u8], random: &mut Random) -> Result<(), String> {
     let [one, another] = [(); 2].map(|()| random.below(file.len() + 4));
     for offset in [0, 1, one, another, file.len(), usize::MAX] {
@@ -109,15 +109,15 @@ fn same_records_shown(tested: &Entries, file: &[u8], random: &mut Random) -> Res
     Ok(())
 }
 
-/// Numbers far out of every range.
+/// Numbers far outside every range.
 const FAR: [i32; 4] = [i32::MIN, -40_000, 40_000, i32::MAX];
 
-/// The numbers from `low` to `high`, and those far out of every range.
+/// The numbers from `low` to `high`, and some far outside every range.
 fn and_far(low: i64, high: i64) -> Vec<i32> {
     (low as i32..=high as i32).chain(FAR).collect()
 }
 
-/// Every level, scale and weight in its range and just past it.
+/// Compares every level, scale and weight within its range and just past it.
 pub fn coefficients(tested: &Entries) -> Result<usize, String> {
     let weights = and_far(-1, 257);
     let mut compared = 0;
@@ -137,7 +137,7 @@ pub fn coefficients(tested: &Entries) -> Result<usize, String> {
     Ok(compared)
 }
 
-/// Every f_code, past, code and residual in its range and just past it.
+/// Compares every f_code, past, code and residual within its range and just past it.
 pub fn vectors(tested: &Entries) -> Result<usize, String> {
     let mut compared = 0;
     for f_code in and_far(-1, 9) {
@@ -159,7 +159,7 @@ pub fn vectors(tested: &Entries) -> Result<usize, String> {
     Ok(compared)
 }
 
-/// Blocks of one coefficient at each place, then random ones: few or many coefficients, small, extreme or out of range.
+/// Compares blocks with one coefficient at each raster index, then random ones: few or many coefficients, small, extreme or out of range.
 pub fn transforms(tested: &Entries, seed: u64, count: usize) -> Result<usize, String> {
     let random = &mut Random::new(&[seed]);
     let ends = [-32768, -2049, -2048, -4, -1, 1, 4, 8, 2047, 2048, 32767];
@@ -179,7 +179,7 @@ pub fn transforms(tested: &Entries, seed: u64, count: usize) -> Result<usize, St
 fn random_block(random: &mut Random) -> [i16; 64] {
     let most = random.pick(&[3, 100, 2047]);
     let extreme = random.once_in(4);
-    // How many of the 64 are not 0, about.
+    // Roughly how many of the 64 are not 0.
     let count = random.pick(&[1, 2, 60]);
     let mut block = std::array::from_fn(|_| match (random.below(64) < count, extreme) {
         (false, _) => 0,
@@ -192,7 +192,7 @@ fn random_block(random: &mut Random) -> [i16; 64] {
     block
 }
 
-/// Reels by their seed and number: what the program prints. Every other reel comes to it in pieces.
+/// Compares what the program prints for reels by seed and number. Every other reel arrives in pieces.
 pub fn panel(program: Program, seed: u64, count: u64) -> Result<usize, String> {
     let mut lines = 0;
     for number in 0..count {

@@ -13,10 +13,10 @@ use crate::generator::{
 use crate::random::Random;
 use crate::stream;
 
-/// How often each answer to a raw slice was given.
+/// How often each answer to a raw slice occurred.
 pub type SliceCounts = BTreeMap<u32, usize>;
 
-/// The answers that reading a slice has.
+/// The answers that a raw slice can get.
 const SLICE_ANSWERS: [u32; 5] = [
     0,
     Refusal::Header as u32,
@@ -25,7 +25,7 @@ const SLICE_ANSWERS: [u32; 5] = [
     Refusal::RecordsLength as u32,
 ];
 
-/// Fails where an answer to a slice was never given, as `require_every_answer`.
+/// Fails if an answer to a slice never occurred, like `require_every_answer`.
 pub fn require_every_slice_answer(counts: &SliceCounts) -> Result<(), String> {
     let missing = |answer: &&u32| !counts.contains_key(answer);
     match SLICE_ANSWERS.iter().find(missing) {
@@ -34,8 +34,8 @@ pub fn require_every_slice_answer(counts: &SliceCounts) -> Result<(), String> {
     }
 }
 
-/// Raw slices by their seed and number: the answer, and every byte of the buffer, of refused slices too. Fails as well where a
-/// word of Annex B stood in none of the accepted ones.
+/// Compares raw slices by seed and number: the answer and every byte of the buffer, also for refused slices. Also fails if a word
+/// of Annex B occurs in no accepted slice.
 pub fn slices(tested: &Entries, seed: u64, count: u64) -> Result<SliceCounts, String> {
     let mut counts = SliceCounts::new();
     let mut missing = all_words();
@@ -55,7 +55,7 @@ pub fn slices(tested: &Entries, seed: u64, count: u64) -> Result<SliceCounts, St
     }
 }
 
-/// Small slices with each bit flipped, cut at each byte, and with each number and length of the buffer that may matter.
+/// Compares small slices with each bit flipped, cut at each byte, and with each given number and buffer length that may matter.
 pub fn changed_slices(tested: &Entries, seed: u64) -> Result<usize, String> {
     let mut compared = 0;
     for (slice, case) in small_slice_cases(seed).into_iter().enumerate() {
@@ -68,7 +68,7 @@ pub fn changed_slices(tested: &Entries, seed: u64) -> Result<usize, String> {
     Ok(compared)
 }
 
-/// Slices with long records, accepted and refused. Fails as well where those of an accepted one take no more than 65,536 bytes.
+/// Compares slices with long records, accepted and refused. Also fails if an accepted one takes no more than 65,536 bytes.
 pub fn long_slices(tested: &Entries, seed: u64) -> Result<usize, String> {
     let cases = long_slice_cases(seed);
     for (number, case) in cases.iter().enumerate() {
@@ -82,7 +82,7 @@ pub fn long_slices(tested: &Entries, seed: u64) -> Result<usize, String> {
     Ok(cases.len())
 }
 
-/// Slices that end in a code, at every place and after every bit of it.
+/// Compares slices that end within a code, at every point of the syntax and after every bit.
 pub fn ended_slices(tested: &Entries) -> Result<usize, String> {
     let cases = edge_slices();
     for case in &cases {
@@ -91,10 +91,10 @@ pub fn ended_slices(tested: &Entries) -> Result<usize, String> {
     Ok(cases.len())
 }
 
-/// How often each slice of the streams is damaged.
+/// How many times each slice of the streams is damaged.
 const DAMAGES: u64 = 20;
 
-/// The slices of the streams, each as it is and damaged.
+/// Compares the slices of the streams, each intact and damaged.
 pub fn stream_slices(tested: &Entries, seed: u64) -> Result<usize, String> {
     let mut compared = 0;
     for fixture in stream_fixtures() {
@@ -110,7 +110,7 @@ pub fn stream_slices(tested: &Entries, seed: u64) -> Result<usize, String> {
     Ok(compared)
 }
 
-/// The slices of a stream, each with what it is read with.
+/// The slices of a stream, each with the numbers it is read with.
 fn slices_of(fixture: &StreamFixture) -> Result<Vec<(&[u8], Given)>, String> {
     let pictures = stream::pictures(&fixture.stream)?;
     let slices = pictures.into_iter().flat_map(|picture| {
@@ -120,7 +120,7 @@ fn slices_of(fixture: &StreamFixture) -> Result<Vec<(&[u8], Given)>, String> {
     Ok(slices.collect())
 }
 
-/// A slice as it is, then damaged, in buffers that hold its records or nearly so.
+/// Compares a slice intact, then damaged, in buffers that hold its records or nearly do.
 fn stream_cases(random: &mut Random, slice: &[u8], given: Given) -> Vec<SliceCase> {
     let case = |damage| {
         let slice = match damage {
@@ -139,7 +139,7 @@ fn stream_cases(random: &mut Random, slice: &[u8], given: Given) -> Vec<SliceCas
     (0..=DAMAGES).map(case).collect()
 }
 
-/// The answer's number, where both give the same answer and bytes.
+/// The answer's number, if both give the same answer and bytes.
 fn same_slice(
     tested: &Entries,
     case: &SliceCase,

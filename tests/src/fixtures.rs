@@ -1,5 +1,5 @@
-//! Fixtures made outside the project: reels, what `panel` prints for them, the streams that they come from, the pictures of
-//! another codec, and raw slices with their answers.
+//! Fixtures made outside the project: reels, what `panel` prints for them, the streams they come from, another codec's pictures,
+//! and raw slices with their answers.
 
 use std::fs;
 use std::path::{Path, PathBuf};
@@ -12,32 +12,32 @@ use crate::stream;
 /// A reel within the limits of `panel`, and what it prints.
 pub struct PanelFixture {
     pub name: String,
-    /// Where the reel lies as a file.
+    /// The reel's file.
     pub path: PathBuf,
     pub reel: Vec<u8>,
     pub printed: String,
 }
 
-/// A reel of any length, and the stream that it comes from.
+/// A reel of any length, and the stream it comes from.
 pub struct StreamFixture {
     pub name: String,
     /// The MPEG-1 video elementary stream.
     pub stream: Vec<u8>,
     pub reel: Vec<u8>,
-    /// What `panel` would print without its limits, each line with 16 hexadecimal digits of its picture's SHA-256.
+    /// What `panel` would print without its limits; each line ends with 16 hexadecimal digits of its picture's SHA-256.
     pub expected: String,
-    /// The pictures one after another as another codec decodes them.
+    /// The pictures in order, as another codec decodes them.
     pub other: Option<Vec<u8>>,
 }
 
-/// A raw slice, what it is read with, and what reading it gives.
+/// A raw slice, the numbers it is read with, and the expected result.
 pub struct SliceFixture {
     pub name: String,
     pub slice: Vec<u8>,
     pub given: Given,
     pub buffer_length: usize,
     pub answer: SliceAnswer,
-    /// None where the slice is refused.
+    /// None if the slice is refused.
     pub records: Vec<u8>,
 }
 
@@ -62,7 +62,7 @@ pub fn stream_fixtures() -> Vec<StreamFixture> {
     reels("streams").into_iter().map(read).collect()
 }
 
-/// The lines of `slices.txt`. There is at least one.
+/// The lines of `slices.txt`; at least one.
 pub fn slice_fixtures() -> Vec<SliceFixture> {
     let path = fixture("slices.txt");
     let lines = read_text(&path);
@@ -73,7 +73,7 @@ pub fn slice_fixtures() -> Vec<SliceFixture> {
 }
 
 /// "name, width height type forward_f_code backward_f_code, buffer length (-1: large), slice hex (- empty), number, written, byte,
-/// bit, records hex (- none)", with tabs between them.
+/// bit, records hex (- none)", separated by tabs.
 fn slice_fixture(line: &str) -> SliceFixture {
     let columns: Vec<&str> = line.split('\t').collect();
     let [name, given, length, slice, number, written, byte, bit, records] = columns[..] else {
@@ -115,7 +115,7 @@ fn number_of<N: std::str::FromStr>(text: &str) -> N {
     number.unwrap_or_else(|_| panic!("no number: {text}"))
 }
 
-/// The bytes of hexadecimal digits; `-` is none.
+/// The bytes written as hexadecimal digits; `-` stands for none.
 fn bytes_of(digits: &str) -> Vec<u8> {
     let digits = digits.trim_matches('-');
     let byte = |at| u8::from_str_radix(&digits[at..at + 2], 16);
@@ -123,7 +123,7 @@ fn bytes_of(digits: &str) -> Vec<u8> {
     bytes.unwrap_or_else(|_| panic!("no bytes: {digits}"))
 }
 
-/// The reels of a folder of fixtures, in the order of their names. There is at least one.
+/// The reels of a folder of fixtures, sorted by name; at least one.
 fn reels(name: &str) -> Vec<PathBuf> {
     let path = fixture(name);
     let entries = fs::read_dir(&path).unwrap_or_else(|error| panic!("{}: {error}", path.display()));
@@ -136,7 +136,7 @@ fn reels(name: &str) -> Vec<PathBuf> {
     reels
 }
 
-/// What lies in the folder of fixtures under a name.
+/// The contents of a named file in the folder of fixtures.
 fn fixture(name: &str) -> PathBuf {
     let package = Path::new(env!("CARGO_MANIFEST_DIR"));
     package.join("fixtures").join(name)
@@ -156,14 +156,14 @@ fn read_text(path: &Path) -> String {
 }
 
 impl PanelFixture {
-    /// What a run of `panel` printed for the reel is what it should.
+    /// Checks what a run of `panel` printed for the reel.
     pub fn check(&self, printed: &str) -> Result<(), String> {
         same_lines(&self.name, &self.printed, printed)
     }
 }
 
 impl StreamFixture {
-    /// Every picture of the reel, made by `reconstruct`, has the line and the hash expected, and is within 1 a pel of the
+    /// Checks that every picture of the reel, made by `reconstruct`, has the expected line and hash, and is within 1 per pel of the
     /// other codec's.
     pub fn check(&self, reconstruct: Reconstruct) -> Result<(), String> {
         let mut lines = play(&self.reel, NO_LIMITS, reconstruct);
@@ -180,8 +180,8 @@ impl StreamFixture {
         }
     }
 
-    /// Every slice of the stream, turned into records, gives those of the reel; so the pictures' files are those of the reel.
-    /// Answers how many slices there are.
+    /// Checks that the stream's slices, turned into records, are those of the reel, so that the pictures' files are too.
+    /// Returns how many slices there are.
     pub fn check_slices(&self, read_slice: ReadSlice) -> Result<usize, String> {
         let pictures = stream::pictures(&self.stream)?;
         let files = stream::files_of_reel(&self.reel)?;
@@ -198,7 +198,7 @@ impl StreamFixture {
         Ok(slices)
     }
 
-    /// The stream played, its slices read and its pictures made by these entries: each has the line and the hash expected.
+    /// Plays the stream with these entries, and checks that each picture has the expected line and hash.
     pub fn check_stream(&self, entries: &Entries) -> Result<(), String> {
         let reel = stream::reel(&self.stream, entries.read_slice)?;
         let mut lines = play(&reel, NO_LIMITS, entries.reconstruct);
@@ -207,13 +207,13 @@ impl StreamFixture {
     }
 }
 
-/// What a buffer holds before a slice is read: each byte that is written, or left, shows.
+/// What a buffer holds before a slice is read, so that each byte written or left untouched shows.
 fn pattern(length: usize) -> Vec<u8> {
     (0..length).map(|at| (91 * at + 37) as u8).collect()
 }
 
 impl SliceFixture {
-    /// Reading the slice gives the answer and the records, and leaves every other byte of the buffer as it was.
+    /// Checks that reading the slice gives the expected answer and records, and leaves every other byte of the buffer as it was.
     pub fn check(&self, read_slice: ReadSlice) -> Result<(), String> {
         let mut buffer = pattern(self.buffer_length);
         let mut expected = buffer.clone();

@@ -1,5 +1,5 @@
-//! Tests of the definitions against the world: another decoder of Format 3, cases made for both decoders, fixtures of
-//! another codec, and the IEEE P1180 measurement. Nothing here is shared with the crates that are tested.
+//! Tests the definitions against the world: a second decoder of Format 3, cases for both decoders, fixtures from another codec,
+//! and the IEEE P1180 measurement. It shares no code with the crates under test.
 
 use std::path::Path;
 use std::process::ExitCode;
@@ -19,7 +19,7 @@ pub mod random;
 pub mod sha256;
 pub mod stream;
 
-/// How a program ends: a failure is told.
+/// Ends a program: prints the error of a failure.
 pub fn exit_code(program: &str, result: Result<(), String>) -> ExitCode {
     match result {
         Ok(()) => ExitCode::SUCCESS,
@@ -30,7 +30,7 @@ pub fn exit_code(program: &str, result: Result<(), String>) -> ExitCode {
     }
 }
 
-/// The program after a leading `--panel`, if there is one, and the other arguments.
+/// The program named by a leading `--panel`, if any, and the other arguments.
 pub fn panel_argument(arguments: &[String]) -> Result<(Option<Program<'_>>, &[String]), String> {
     match arguments {
         [option, path, rest @ ..] if option == "--panel" => {

@@ -1,4 +1,4 @@
-//! The exported library behind safe functions. Nothing checks these declarations against it: the comparison does.
+//! The exported library behind safe functions. These declarations are not checked against the header; the comparison tests them.
 #![allow(unsafe_code)]
 
 use crate::decoder::entries::{Entries, Shown};
@@ -75,12 +75,12 @@ extern "C" {
     ) -> u32;
 }
 
-/// What an answer's field holds before the call, so that one that is not written shows.
+/// What a result holds before the call, so that one that is not written shows.
 const UNWRITTEN: usize = 0x5a5a_5a5a;
 
 fn reconstruct(file: &[u8], forward: &[u8], backward: &[u8], output: &mut [u8]) -> Answer {
     let (mut place, mut made) = (UNWRITTEN, UNWRITTEN);
-    // SAFETY: each pointer is of a live slice or number, and goes with its slice's length.
+    // SAFETY: each pointer belongs to a live slice or number, and goes with its slice's length.
     let number = unsafe {
         format3_reconstruct(
             file.as_ptr(),
@@ -104,23 +104,23 @@ fn reconstruct(file: &[u8], forward: &[u8], backward: &[u8], output: &mut [u8]) 
 
 fn transform(coefficients: &[i16; 64]) -> (u32, [i16; 64]) {
     let mut residues = [UNWRITTEN as i16; 64];
-    // SAFETY: both pointers are of live arrays of 64 numbers.
+    // SAFETY: both pointers belong to live arrays of 64 numbers.
     let number = unsafe { format3_transform(coefficients, &mut residues) };
     (number, residues)
 }
 
 fn coefficient(entry: Coefficient, level: i32, scale: i32, weight: i32) -> (u32, i16) {
     let mut coefficient = UNWRITTEN as i16;
-    // SAFETY: the pointer is of a live number.
+    // SAFETY: the pointer belongs to a live number.
     let number = unsafe { entry(level, scale, weight, &mut coefficient) };
     (number, coefficient)
 }
 
-/// A negative f_code or residual comes to one far above its range, as it does in C.
+/// A negative f_code or residual wraps to one far above its range, as in C.
 fn vector(f_code: i32, past: i32, code: i32, residual: i32) -> (u32, i32) {
     let mut vector = UNWRITTEN as i32;
     let (f_code, residual) = (f_code as u32, residual as u32);
-    // SAFETY: the pointer is of a live number.
+    // SAFETY: the pointer belongs to a live number.
     let number = unsafe { format3_vector(f_code, past, code, residual, &mut vector) };
     (number, vector)
 }
@@ -131,7 +131,7 @@ fn show_record(file: &[u8], offset: usize) -> (u32, Shown) {
         start: UNWRITTEN,
         length: UNWRITTEN,
     };
-    // SAFETY: the file's pointer goes with its length, the others are of live numbers.
+    // SAFETY: the file's pointer goes with its length; the others belong to live numbers.
     let number = unsafe {
         format3_show_record(
             file.as_ptr(),
@@ -153,7 +153,7 @@ fn read_slice(slice: &[u8], given: Given, records: &mut [u8]) -> SliceAnswer {
         bit: UNWRITTEN,
     };
     let [forward_f_code, backward_f_code] = given.f_codes;
-    // SAFETY: each slice's pointer goes with its length, the others are of live numbers.
+    // SAFETY: each slice's pointer goes with its length; the others belong to live numbers.
     answer.number = unsafe {
         format3_read_slice(
             slice.as_ptr(),

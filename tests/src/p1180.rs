@@ -1,4 +1,4 @@
-//! The measurement of IEEE P1180 (ISO/IEC 11172-2, Annex A): an inverse transform against the cosine sum in floating point.
+//! The IEEE P1180 measurement (ISO/IEC 11172-2, Annex A): compares an inverse transform with the cosine sum in floating point.
 
 use std::f64::consts::PI;
 
@@ -9,13 +9,13 @@ const BLOCKS: usize = 10_000;
 /// The ranges of the blocks' pels: -L..H.
 const RANGES: [(i32, i32); 3] = [(256, 255), (5, 5), (300, 300)];
 
-const MOST_PEAK: f64 = 1.0;
-const MOST_PLACE_SQUARE: f64 = 0.06;
-const MOST_SQUARE: f64 = 0.02;
-const MOST_PLACE_MEAN: f64 = 0.015;
-const MOST_MEAN: f64 = 0.0015;
+const MAX_PEAK: f64 = 1.0;
+const MAX_PLACE_SQUARE: f64 = 0.06;
+const MAX_SQUARE: f64 = 0.02;
+const MAX_PLACE_MEAN: f64 = 0.015;
+const MAX_MEAN: f64 = 0.0015;
 
-/// What is measured over the blocks of one range: the worst of the 64 places, and all places together.
+/// The errors over the blocks of one range: the worst of the 64 raster indices, and all of them together.
 #[derive(Debug)]
 pub struct Figures {
     pub low: i32,
@@ -30,11 +30,11 @@ pub struct Figures {
 
 impl Figures {
     pub fn met(&self) -> bool {
-        self.peak <= MOST_PEAK
-            && self.place_square <= MOST_PLACE_SQUARE
-            && self.square <= MOST_SQUARE
-            && self.place_mean <= MOST_PLACE_MEAN
-            && self.mean <= MOST_MEAN
+        self.peak <= MAX_PEAK
+            && self.place_square <= MAX_PLACE_SQUARE
+            && self.square <= MAX_SQUARE
+            && self.place_mean <= MAX_PLACE_MEAN
+            && self.mean <= MAX_MEAN
     }
 
     pub fn line(&self) -> String {
@@ -53,7 +53,7 @@ impl Figures {
     }
 }
 
-/// The figures for each range, and for each negated.
+/// The errors for each range, and for each range negated.
 pub fn measure(transform: Transform) -> Vec<Figures> {
     let cosines = Cosines::new();
     RANGES
@@ -117,7 +117,7 @@ fn rounded(value: f64, low: f64, high: f64) -> f64 {
     (value + 0.5).floor().clamp(low, high)
 }
 
-/// The generator that the standard gives, on 32 bits.
+/// The standard's random number generator, on 32 bits.
 struct StandardRandom {
     state: u32,
 }
@@ -156,7 +156,7 @@ impl Cosines {
     }
 }
 
-/// At each place (row, column): the sum of `factor(row, i) * factor(column, j) * block[i][j]`.
+/// At each row and column: the sum of `factor(row, i) * factor(column, j) * block[i][j]`.
 fn both_ways(block: &[f64; 64], factor: impl Fn(usize, usize) -> f64) -> [f64; 64] {
     let rows: [f64; 64] = std::array::from_fn(|at| {
         let (i, column) = (at / 8, at % 8);

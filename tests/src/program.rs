@@ -1,4 +1,4 @@
-//! Runs a program `panel` on reels, which come to its standard input in different ways.
+//! Runs a program `panel` on reels that reach its standard input in different ways.
 
 use std::fs::File;
 use std::io::{Error, ErrorKind, Write};
@@ -9,19 +9,19 @@ use std::process::{Child, Command, Stdio};
 
 use crate::random::Random;
 
-/// A program by its path.
+/// A program, by its path.
 #[derive(Clone, Copy)]
 pub struct Program<'a>(pub &'a Path);
 
 impl Program<'_> {
-    /// What it prints for a reel that is written to it at once.
+    /// What it prints for a reel that arrives in one piece.
     pub fn run(self, reel: &[u8]) -> Result<String, String> {
         let (process, _) = self.write_whole(reel)?;
         self.printed(process)
     }
 
-    /// What it prints for a reel that comes in random pieces. Each is a datagram, so that a read gets one and no more; they
-    /// are short, as a read loses what its buffer can't hold of one.
+    /// What it prints for a reel that arrives in random pieces. Each is a datagram, so that a read gets just one; they are short,
+    /// since a read loses what its buffer can't hold.
     pub fn run_in_pieces(self, reel: &[u8], random: &mut Random) -> Result<String, String> {
         let (ours, theirs) = UnixDatagram::pair().map_err(|error| self.told(error))?;
         let process = self.start(OwnedFd::from(theirs).into())?;
@@ -39,13 +39,13 @@ impl Program<'_> {
         self.printed(process)
     }
 
-    /// What it prints for a reel that is its standard input itself.
+    /// What it prints for a reel whose file is its standard input.
     pub fn run_on_file(self, reel: &Path) -> Result<String, String> {
         let file = File::open(reel).map_err(|error| format!("{}: {error}", reel.display()))?;
         self.printed(self.start(file.into())?)
     }
 
-    /// It ends without reading the whole of a reel that is longer than any that it plays, and prints only `long`.
+    /// Checks that it stops before the end of a reel that is too long to play, and prints only `long`.
     pub fn require_long(self, length: usize) -> Result<(), String> {
         let (process, read_whole) = self.write_whole(&vec![0; length])?;
         let printed = self.printed(process)?;
@@ -56,7 +56,7 @@ impl Program<'_> {
         Ok(())
     }
 
-    /// The program with a reel written to it at once, and whether all of it was taken.
+    /// Runs the program with a reel in one piece, and says whether it read all of it.
     fn write_whole(self, reel: &[u8]) -> Result<(Child, bool), String> {
         let mut process = self.start(Stdio::piped())?;
         let mut input = process.stdin.take().ok_or("no standard input")?;
@@ -72,7 +72,7 @@ impl Program<'_> {
             .map_err(|error| self.told(error))
     }
 
-    /// Whether what was written was taken, or the program has stopped reading before: it may, where a reel is too long.
+    /// Whether the write succeeded, or the program had stopped reading before, as it may if a reel is too long.
     fn took<T>(self, written: Result<T, Error>) -> Result<bool, String> {
         use ErrorKind::{BrokenPipe, ConnectionRefused, ConnectionReset};
         match written {

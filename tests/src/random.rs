@@ -1,15 +1,15 @@
-//! A small generator of random numbers (xorshift64*): the same seed gives the same cases everywhere.
+//! A small random number generator (xorshift64*): the same seed gives the same cases everywhere.
 
 pub struct Random(u64);
 
 impl Random {
-    /// Each part of a seed is mixed in, so that near seeds give unlike numbers.
+    /// Mixes in each part of a seed, so that similar seeds give unrelated numbers.
     pub fn new(seed: &[u64]) -> Random {
         let mut state = 0x9e37_79b9_7f4a_7c15;
         for part in seed {
             state = mixed(state ^ part).wrapping_add(0x9e37_79b9_7f4a_7c15);
         }
-        // The state 0 would stay 0.
+        // A state of 0 would stay 0.
         Random(state.max(1))
     }
 
@@ -20,7 +20,7 @@ impl Random {
         self.0.wrapping_mul(0x2545_f491_4f6c_dd1d)
     }
 
-    /// A number below `bound`, which is above 0.
+    /// A number below `bound`, which must be above 0.
     pub fn below(&mut self, bound: usize) -> usize {
         ((self.number() >> 32) as usize) % bound
     }
@@ -30,7 +30,7 @@ impl Random {
         low + self.below((high - low + 1) as usize) as i64
     }
 
-    /// True once in `times`.
+    /// True with a chance of one in `times`.
     pub fn once_in(&mut self, times: usize) -> bool {
         self.below(times) == 0
     }

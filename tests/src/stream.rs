@@ -1,5 +1,5 @@
-//! MPEG-1 video elementary streams (ISO/IEC 11172-2, 2.4.2): the headers of sequences, groups and pictures taken apart, and the
-//! slices as they stand. Turning these into Format 3 files and reels is left to a reader of slices.
+//! Parses MPEG-1 video elementary streams (ISO/IEC 11172-2, 2.4.2): the headers of sequences, groups and pictures. The slices stay
+//! as they are; a reader of slices is needed to turn them into Format 3 files and reels.
 
 use crate::decoder::file::{HEADER, INTRA, MATRIX, NON_INTRA, VERSION};
 use crate::decoder::{Given, ReadSlice};
@@ -10,13 +10,13 @@ pub struct Picture<'a> {
     pub given: Given,
     /// The full-pel flags, forward and backward.
     pub full_pel: [bool; 2],
-    /// The matrices that the sequence header loads, intra and non-intra.
+    /// The matrices that the sequence header loads: intra and non-intra.
     pub matrices: [Option<[u8; 64]>; 2],
     /// The bytes of each slice, up to the next start code.
     pub slices: Vec<&'a [u8]>,
 }
 
-/// What a sequence header says of every picture after it.
+/// What a sequence header says about every picture after it.
 #[derive(Clone)]
 struct Sequence {
     width: u32,
@@ -33,7 +33,7 @@ const EXTENSION: u8 = 0xb5;
 const SEQUENCE_END: u8 = 0xb7;
 const GROUP: u8 = 0xb8;
 
-/// The parts of a stream, each from its start code to the next one. What stands before the first must be zeros.
+/// The parts of a stream, each from one start code to the next. Only zeros may come before the first.
 fn parts(stream: &[u8]) -> Result<Vec<&[u8]>, String> {
     let starts: Vec<usize> = (0..stream.len())
         .filter(|at| stream[*at..].starts_with(&[0, 0, 1]) && stream.len() > at + 3)
@@ -76,7 +76,7 @@ pub fn pictures(stream: &[u8]) -> Result<Vec<Picture<'_>>, String> {
     Ok(pictures)
 }
 
-/// The bits of a header, the most significant of each byte first.
+/// The bits of a header, most significant first.
 struct Fields<'a> {
     bytes: &'a [u8],
     at: usize,
@@ -98,7 +98,7 @@ impl Fields<'_> {
     }
 }
 
-/// horizontal_size, vertical_size, what concerns display and buffering, and a matrix after each load flag that is set.
+/// horizontal_size, vertical_size, fields for display and buffering, and a matrix after each load flag that is set.
 fn sequence_header(fields: &mut Fields) -> Result<Sequence, String> {
     let [width, height] = [fields.bits(12)?, fields.bits(12)?].map(|pels| pels.div_ceil(16));
     for skipped in [4, 4, 18, 1, 10, 1] {
@@ -112,7 +112,7 @@ fn sequence_header(fields: &mut Fields) -> Result<Sequence, String> {
     })
 }
 
-/// A matrix, in the order of the stream, if the flag before it says that it is loaded.
+/// A matrix, in the stream's order, if the flag before it is set.
 fn matrix(fields: &mut Fields) -> Result<Option<[u8; 64]>, String> {
     if !fields.flag()? {
         return Ok(None);
@@ -124,7 +124,7 @@ fn matrix(fields: &mut Fields) -> Result<Option<[u8; 64]>, String> {
     Ok(Some(weights))
 }
 
-/// temporal_reference, picture_coding_type, vbv_delay; of P and B a full-pel flag and an f_code, of B another two.
+/// temporal_reference, picture_coding_type, vbv_delay; in P and B a full-pel flag and an f_code, in B two more.
 fn picture_header<'a>(fields: &mut Fields, sequence: &Sequence) -> Result<Picture<'a>, String> {
     fields.bits(10)?;
     let picture_type = fields.bits(3)?;
@@ -154,7 +154,7 @@ fn picture_header<'a>(fields: &mut Fields, sequence: &Sequence) -> Result<Pictur
     })
 }
 
-/// Longer than the records of any slice of at most 396 macroblocks: none has more than 1,200 bytes.
+/// Longer than the records of any slice of at most 396 macroblocks: none of these has more than 1,200 bytes.
 const RECORDS: usize = 6 + 396 * 1200;
 
 impl Picture<'_> {
@@ -186,7 +186,7 @@ impl Picture<'_> {
         Ok(records)
     }
 
-    /// The records of its slices, each in turn, are what a file has after its matrices.
+    /// The records of all its slices: what a file has after its matrices.
     pub fn check_records(&self, file: &[u8], read_slice: ReadSlice) -> Result<(), String> {
         let start = self.file_start();
         let mut left = file
@@ -203,7 +203,7 @@ impl Picture<'_> {
         }
     }
 
-    /// A Format 3 file of the picture.
+    /// The picture's Format 3 file.
     fn file(&self, read_slice: ReadSlice) -> Result<Vec<u8>, String> {
         let mut file = self.file_start();
         for slice in &self.slices {
@@ -224,7 +224,7 @@ pub fn reel(stream: &[u8], read_slice: ReadSlice) -> Result<Vec<u8>, String> {
     Ok(reel)
 }
 
-/// The files of a reel that is whole.
+/// The files of a reel that isn't cut.
 pub fn files_of_reel(reel: &[u8]) -> Result<Vec<&[u8]>, String> {
     let mut files = Vec::new();
     let mut left = reel;

@@ -1,4 +1,4 @@
-//! The comparison itself: it finds nothing between the other decoder and itself, and finds wrong implementations.
+//! Tests the comparison itself: it finds no difference between the other decoder and itself, but finds wrong implementations.
 
 use format3_tests::compare::{changed_fields, coefficients, pictures, transforms, vectors};
 use format3_tests::compare_slices::{
@@ -8,7 +8,7 @@ use format3_tests::decoder::{Answer, Entries, ReadSlice, Reconstruct, SliceAnswe
 
 const SEED: u64 = 2;
 
-/// All comparisons of entries, on few pictures; the first difference.
+/// Makes all comparisons of entries, on few pictures, and gives the first difference.
 fn compare(tested: &Entries) -> Result<(), String> {
     pictures(tested, SEED, 200)?;
     transforms(tested, SEED, 200)?;
@@ -32,7 +32,7 @@ fn require_found(name: &str, wrong: Entries) {
     assert!(compare(&wrong).is_err(), "{name} was not found");
 }
 
-/// The wrong panels of document 01's checklist.
+/// The wrong implementations that document 01's checklist names.
 #[test]
 fn wrong_panels_are_found() {
     let refuses_all: Reconstruct = |_, _, _, _| Answer {
@@ -117,7 +117,7 @@ fn wrong_entries_are_found() {
     require_found("a start where a record is refused", starts_where_refused);
 }
 
-/// Readers that differ from the other decoder's in one rule.
+/// Readers that break one rule each.
 #[test]
 fn wrong_readers_of_slices_are_found() {
     const REFUSED: SliceAnswer = SliceAnswer {

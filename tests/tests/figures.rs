@@ -1,4 +1,4 @@
-//! The other decoder against "Figures to check against" of document 01, and its worked reel.
+//! Tests the other decoder against document 01's "Figures to check against" and its sample reel.
 
 mod common;
 
@@ -50,7 +50,7 @@ fn sizes() {
     assert_eq!(refused, Err(Refusal::Header));
 }
 
-/// An I-picture of one macroblock whose first block has a DC difference and these pairs.
+/// An I-picture of one macroblock whose first block has this DC difference and these pairs.
 fn intra_picture(difference: i16, pairs: &[u8]) -> Vec<u8> {
     let count = pairs.len() / 3;
     let first = [&difference.to_be_bytes()[..], &[count as u8], pairs].concat();
@@ -58,7 +58,7 @@ fn intra_picture(difference: i16, pairs: &[u8]) -> Vec<u8> {
     file_of(&[I, SLICE, &macroblock])
 }
 
-/// The answer's number for a first block of a DC difference and one pair of run 0 and a level.
+/// The answer's number for a first block with this DC difference and one pair, of run 0 and this level.
 fn intra_number(difference: i16, level: i16) -> u32 {
     let [high, low] = level.to_be_bytes();
     let file = intra_picture(difference, &[0, high, low]);
@@ -98,7 +98,7 @@ fn vectors_that_fit() {
     assert!(!fits(two_wide, 0, [-1, 0]));
 }
 
-/// The reel that document 01 gives in hexadecimal, and the three lines that it prints.
+/// The reel that document 01 gives in hexadecimal, and the three lines printed for it.
 #[test]
 fn the_worked_reel() {
     let intra = "00000029 03 0008 01 01010100000000 0004 03 080000 0016 04 100001";

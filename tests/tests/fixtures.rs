@@ -1,4 +1,4 @@
-//! The other decoder against every fixture.
+//! Tests the other decoder against every fixture.
 
 use format3_tests::decoder::panel::{play, text, PANEL_LIMITS};
 use format3_tests::decoder::reconstruct;
@@ -19,7 +19,7 @@ fn streams_have_the_pictures_of_the_fixtures() {
     }
 }
 
-/// The other codec's pictures stand beside two of the streams; those of `mat64` are equal.
+/// Another codec's pictures are stored beside two of the streams; those of `mat64` are equal to ours.
 #[test]
 fn pictures_of_the_other_codec_are_there() {
     let fixtures = stream_fixtures();

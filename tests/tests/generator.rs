@@ -1,4 +1,4 @@
-//! The generator makes legal cases that are accepted, and damaged ones that bring about every answer.
+//! Tests the generator: its legal cases are accepted, and its damaged ones produce every answer.
 
 use format3_tests::compare::{require_every_answer, Counts};
 use format3_tests::compare_slices::{require_every_slice_answer, slices, SliceCounts};
@@ -43,7 +43,7 @@ fn reels_bring_about_every_answer_and_word() {
     assert!(words.iter().any(|word| word.starts_with("cut ")));
 }
 
-/// Each field of small pictures, at and just past the ends of its range, brings about every refusal that a field can.
+/// Each field of small pictures, at and just past the ends of its range, produces every refusal that a field can cause.
 #[test]
 fn changed_fields_bring_about_every_refusal_of_a_field() {
     let mut counts = Counts::default();
@@ -54,14 +54,14 @@ fn changed_fields_bring_about_every_refusal_of_a_field() {
             counts[answer.number as usize] += 1;
         }
     }
-    // No field empties the file or changes what is lent as a reference.
+    // No field empties the file or changes the references that are lent.
     for answer in [1, 20, 21] {
         counts[answer] += 1;
     }
     assert_eq!(require_every_answer(&counts), Ok(()));
 }
 
-/// All answers, and, as `slices` itself asks, every word of Annex B.
+/// All answers occur and, as `slices` itself checks, every word of Annex B.
 #[test]
 fn slices_bring_about_every_answer_and_code() {
     let counts = slices(&ENTRIES, SEED, 6000).expect("every code stands in a slice");
@@ -81,7 +81,7 @@ fn few_slices_are_told_to_lack_codes() {
     assert!(slices(&ENTRIES, SEED, 10).is_err());
 }
 
-/// Bits, bytes, lengths and numbers of small slices, each changed in turn, bring about every answer to a slice.
+/// Small slices with each bit, byte, length and number changed in turn produce every answer to a slice.
 #[test]
 fn changed_slices_bring_about_every_answer() {
     let mut counts = SliceCounts::new();

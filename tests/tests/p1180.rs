@@ -1,4 +1,4 @@
-//! The IEEE P1180 measurement on the other decoder's transform, and on wrong ones.
+//! Makes the IEEE P1180 measurement on the other decoder's transform, and on wrong ones.
 
 use format3_tests::decoder::ENTRIES;
 use format3_tests::p1180::{measure, zero_gives_zero};
@@ -14,7 +14,7 @@ fn the_transform_meets_every_limit() {
     }
 }
 
-/// One that rounds down instead of to the nearest (DC 4 is half a level), and one of zeros.
+/// One rounds down instead of to the nearest (DC 4 is half a level); the other gives zeros.
 #[test]
 fn wrong_transforms_miss_a_limit() {
     let downwards = |coefficients: &[i16; 64]| {

@@ -1,4 +1,4 @@
-//! How reels come to a program: whole or in pieces, and what a program that reads wrongly shows.
+//! Tests how reels reach a program, whole or in pieces, and that programs which read wrongly are found.
 
 use std::path::{Path, PathBuf};
 

@@ -1,4 +1,4 @@
-//! The other decoder against readings of document 01 that its words leave to be settled.
+//! Tests the other decoder against settled readings of document 01, where its words leave a choice.
 
 mod common;
 
@@ -11,12 +11,12 @@ use format3_tests::decoder::{reconstruct, ENTRIES};
 /// The header of a P-picture of one macroblock.
 const P: &[u8] = &[1, 1, 1, 2, 0, 1, 0, 0];
 
-/// An intra macroblock without AC: each block is a DC difference of 0 and no pair.
+/// An intra macroblock without AC: each block has a DC difference of 0 and no pairs.
 const GREY: &[u8] = &[
     4, 16, 0, 1, 0, 0, 0, 0, 0, 0, 0, 0, 0, 0, 0, 0, 0, 0, 0, 0, 0, 0,
 ];
 
-/// The answer with references of the length that the first header's type uses, `macroblocks` of them.
+/// The answer, with references of `macroblocks` macroblocks in each direction that the first header's type uses.
 fn answer_with(file: &[u8], macroblocks: usize) -> (u32, usize, usize) {
     let bytes = vec![100; 384 * macroblocks];
     let picture_type = file.get(6).copied().unwrap_or(0);
@@ -34,7 +34,7 @@ fn answer(file: &[u8]) -> (u32, usize, usize) {
     answer_with(file, 1)
 }
 
-/// The number for a picture whose last record is a macroblock of this body.
+/// The number for a picture whose last record is a macroblock with this body.
 fn macroblock_number(header: &[u8], body: &[u8]) -> u32 {
     let (number, ..) = answer(&file_of(&[header, SLICE, &[&[4], body].concat()]));
     number
@@ -124,14 +124,14 @@ fn macroblock_fields_as_they_stand() {
     assert_eq!(macroblock_number(I, &[16, 0, 1, 0, 0, 1, 63]), 16);
 }
 
-/// Vector 1 leaves a picture of one macroblock; a byte too many is refused before that.
+/// Vector 1 leaves a picture of one macroblock; an extra byte is refused before that.
 #[test]
 fn bytes_left_over_before_vectors() {
     assert_eq!(macroblock_number(P, &[2, 0, 1, 1, 0, 0, 0]), 18);
     assert_eq!(macroblock_number(P, &[2, 0, 1, 1, 0, 0, 0, 0]), 6);
 }
 
-/// Three macroblocks side by side: the second record would skip one.
+/// Three macroblocks side by side: the second record tries to skip one.
 #[test]
 fn skips() {
     let p = &[1, 3, 1, 2, 0, 1, 0, 0];
@@ -145,7 +145,7 @@ fn skips() {
     assert_eq!(number(&[p, SLICE, next, &[4, 2, 0, 3]]), (13, 27, 1));
 }
 
-/// A B skip repeats the last vector and is tested at its own place: two macroblocks to the right, it fits the first alone.
+/// A B skip repeats the last vector and is tested at its own address: two macroblocks further right, it fits only the first.
 #[test]
 fn a_skip_that_does_not_fit() {
     let header = &[1, 3, 1, 3, 0, 4, 0, 1];

@@ -1,4 +1,4 @@
-//! The other decoder's reader of raw slices, against the fixtures, and its tables.
+//! Tests the other decoder's reader of raw slices against the fixtures, and its tables.
 
 use format3_tests::decoder::annex_b::{self, Increment};
 use format3_tests::decoder::bits::Bits;
@@ -32,7 +32,7 @@ fn streams_play_to_the_pictures_of_the_fixtures() {
     }
 }
 
-/// A wrong answer, and a byte that is written past the records or where the slice is refused, are told.
+/// Reports a wrong answer, and a byte written past the records or for a refused slice.
 #[test]
 fn a_fixture_is_not_met_by_a_wrong_reader() {
     let unmet = |read_slice| {
@@ -59,7 +59,7 @@ fn a_fixture_is_not_met_by_a_wrong_reader() {
     );
 }
 
-/// The answers of a text of bits at a list of words: at each of its starts, and whole.
+/// The answers for a text of bits and a list of words: for each start of the text, and for the whole.
 fn answers<W: AsRef<str>, V: Copy>(words: &[(W, V)], text: &str) -> Vec<Option<Refusal>> {
     let answer = |length| {
         let mut bits = Bits::of_text(text[..length].into());
@@ -68,7 +68,7 @@ fn answers<W: AsRef<str>, V: Copy>(words: &[(W, V)], text: &str) -> Vec<Option<R
     (0..=text.len()).map(answer).collect()
 }
 
-/// The shortest texts that begin no word, in order: where one more bit makes one, the other may go on.
+/// The shortest texts that begin no word, in order: a text that begins a word is tried with either bit after it.
 fn begin_no_code<W: AsRef<str>, V: Copy>(words: &[(W, V)]) -> Vec<String> {
     let mut found = Vec::new();
     let mut begun = vec![String::new()];
@@ -84,8 +84,8 @@ fn begin_no_code<W: AsRef<str>, V: Copy>(words: &[(W, V)]) -> Vec<String> {
     found
 }
 
-/// No word is the start of another; each is read where it stands, and is 25 before its end. The shortest texts that begin no word
-/// are these.
+/// No word is the start of another: each is read as itself, and is 25 before its end. The shortest texts that begin no word are
+/// `no_codes`.
 fn check_table<W: AsRef<str>, V: Copy>(words: &[(W, V)], no_codes: &str) {
     for (word, _) in words {
         let mut expected = vec![Some(Refusal::SliceCut); word.as_ref().len()];
@@ -153,7 +153,7 @@ fn records_of_accepted_slices_are_whole() {
     assert!(accepted > 500);
 }
 
-/// A version and the header of these numbers.
+/// A version and the header with these numbers.
 fn file_start(given: Given) -> Vec<u8> {
     let header = given.fields().map(|field| field as u8);
     [&[3, 0, 8, 1][..], &header].concat()

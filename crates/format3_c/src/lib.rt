@@ -1,19 +1,14 @@
-// The entries for C and Rust. Each returns the answer's number, 0 or that of a refusal, and writes the rest of its answer through the
-// pointers that are lent for it. A slice is a pointer and a length. include/format3.h says the same in words.
+// The entries (crate `entries`) for C and Rust. Each returns the answer's number, 0 or that of a refusal, and writes the rest of its
+// answer through the pointers that are lent for it. A slice is a pointer and a length. include/format3.h says the same in words.
 ghost use mathlib.Core.Path.{_≡_};
 ghost use mathlib.Core.Bool.{true, false};
-ghost use Rattle.transform.specs.Transform.{inverseTransform};
-ghost use Rattle.transform.specs.Answer.{transformNumber, transformResidues};
-ghost use Rattle.coefficient.specs.Answer.{coefficientNumber, coefficientValue};
-ghost use Rattle.motion.specs.Vector.{decodedNumber, decodedVector};
-ghost use Rattle.format3.specs.Record.{recordOf, answerOf, kindOf, startOf, bodyLengthOf};
-ghost use Rattle.picture.specs.Picture.{pictureOf};
-ghost use Rattle.raw_slice.specs.Answer.{given, rawSliceOutcome};
-use format3::record;
-use format3::record::Record;
-use motion::vector;
-use picture::reader;
-use raw_slice::entry;
+ghost use Rattle.decode_coefficients.specs.Answer.{coefficientNumber, coefficientValue};
+ghost use Rattle.decode_idct.specs.Transform.{inverseTransform};
+ghost use Rattle.decode_idct.specs.Answer.{transformNumber, transformResidues};
+ghost use Rattle.decode_vectors.specs.Vector.{vectorNumber, vectorValue};
+ghost use Rattle.format3_records.specs.Record.{recordOf, recordNumber, kindOf, bodyStartOf, bodyLengthOf};
+ghost use Rattle.format3_picture.specs.Picture.{pictureOf};
+ghost use Rattle.mpeg1_reader.specs.Answer.{givenFields, rawSliceOutcome};
 
 // The picture of a Format 3 file, from its references into the lent output: number, place, made.
 #[no_mangle]
@@ -26,11 +21,11 @@ pub extern "C" fn format3_reconstruct(
     made: &mut usize,
 ) -> u32
     ensures number { λ r. ⌜ r ≡ pictureOf inverseTransform (now (file .entry)) (now (forward .entry)) (now (backward .entry)) (now (output .entry)) .number ⌝ }
-    ensures output { λ _. ⌜ now (output .exit) ≡ pictureOf inverseTransform (now (file .entry)) (now (forward .entry)) (now (backward .entry)) (now (output .entry)) .output ⌝ }
     ensures place { λ _. ⌜ now (place .exit) ≡ pictureOf inverseTransform (now (file .entry)) (now (forward .entry)) (now (backward .entry)) (now (output .entry)) .place ⌝ }
     ensures made { λ _. ⌜ now (made .exit) ≡ pictureOf inverseTransform (now (file .entry)) (now (forward .entry)) (now (backward .entry)) (now (output .entry)) .made ⌝ }
+    ensures output { λ _. ⌜ now (output .exit) ≡ pictureOf inverseTransform (now (file .entry)) (now (forward .entry)) (now (backward .entry)) (now (output .entry)) .output ⌝ }
 {
-    let answer = reader::reconstruct(file, forward, backward, output);
+    let answer = entries::reconstruct(file, forward, backward, output);
     *place = answer.place;
     *made = answer.made;
     answer.number
@@ -42,7 +37,7 @@ pub extern "C" fn format3_transform(coefficients: &[i16; 64], residues: &mut [i1
     ensures number { λ r. ⌜ r ≡ transformNumber (now (coefficients .entry)) ⌝ }
     ensures residues { λ _. ⌜ now (residues .exit) ≡ transformResidues (now (coefficients .entry)) ⌝ }
 {
-    let answer = transform::transform(*coefficients);
+    let answer = entries::transform(*coefficients);
     let values = answer.residues;
     *residues = values;
     answer.number
@@ -59,7 +54,7 @@ pub extern "C" fn format3_intra_coefficient(
     ensures number { λ r. ⌜ r ≡ coefficientNumber level scale weight ⌝ }
     ensures coefficient { λ _. ⌜ now (coefficient .exit) ≡ coefficientValue true level scale weight ⌝ }
 {
-    let answer = coefficient::coefficient(true, level, scale, weight);
+    let answer = entries::intra_coefficient(level, scale, weight);
     let value = answer.value;
     *coefficient = value;
     answer.number
@@ -76,13 +71,13 @@ pub extern "C" fn format3_non_intra_coefficient(
     ensures number { λ r. ⌜ r ≡ coefficientNumber level scale weight ⌝ }
     ensures coefficient { λ _. ⌜ now (coefficient .exit) ≡ coefficientValue false level scale weight ⌝ }
 {
-    let answer = coefficient::coefficient(false, level, scale, weight);
+    let answer = entries::non_intra_coefficient(level, scale, weight);
     let value = answer.value;
     *coefficient = value;
     answer.number
 }
 
-// A vector from its code and residual and the past, not doubled.
+// A component of a vector from its code, its residual and the past (its predictor), not doubled.
 #[no_mangle]
 pub extern "C" fn format3_vector(
     f_code: u32,
@@ -91,16 +86,16 @@ pub extern "C" fn format3_vector(
     residual: u32,
     vector: &mut i32,
 ) -> u32
-    ensures number { λ r. ⌜ r ≡ decodedNumber «f_code» past code residual ⌝ }
-    ensures vector { λ _. ⌜ now (vector .exit) ≡ decodedVector «f_code» past code residual ⌝ }
+    ensures number { λ r. ⌜ r ≡ vectorNumber «f_code» past code residual ⌝ }
+    ensures vector { λ _. ⌜ now (vector .exit) ≡ vectorValue «f_code» past code residual ⌝ }
 {
-    let decoded = vector::decode_vector(f_code, past, code, residual);
+    let decoded = entries::vector(f_code, past, code, residual);
     let value = decoded.vector;
     *vector = value;
     decoded.number
 }
 
-// The record at an offset: its kind, and where its body starts and how long that is; zeros where it is refused.
+// The record at an offset: its kind, and where its body starts and how long that is; zeros if it is refused.
 #[no_mangle]
 pub extern "C" fn format3_show_record(
     file: &[u8],
@@ -109,32 +104,20 @@ pub extern "C" fn format3_show_record(
     start: &mut usize,
     length: &mut usize,
 ) -> u32
-    ensures number { λ r. ⌜ r ≡ answerOf (recordOf (now (file .entry)) offset) ⌝ }
+    ensures number { λ r. ⌜ r ≡ recordNumber (recordOf (now (file .entry)) offset) ⌝ }
     ensures kind { λ _. ⌜ now (kind .exit) ≡ kindOf (recordOf (now (file .entry)) offset) ⌝ }
-    ensures start { λ _. ⌜ now (start .exit) ≡ startOf (recordOf (now (file .entry)) offset) ⌝ }
+    ensures start { λ _. ⌜ now (start .exit) ≡ bodyStartOf (recordOf (now (file .entry)) offset) ⌝ }
     ensures length { λ _. ⌜ now (length .exit) ≡ bodyLengthOf (recordOf (now (file .entry)) offset) ⌝ }
 {
-    match record::record_at(file, offset) {
-        Record::Found {
-            kind: found,
-            start: from,
-            length: count,
-        } => {
-            *kind = found;
-            *start = from;
-            *length = count;
-            refusals::ACCEPTED
-        }
-        Record::Refused(refusal) => {
-            *kind = 0;
-            *start = 0;
-            *length = 0;
-            refusals::number(refusal)
-        }
-    }
+    let shown = entries::show_record(file, offset);
+    *kind = shown.kind;
+    *start = shown.start;
+    *length = shown.length;
+    shown.number
 }
 
-// The records of one raw slice, laid into the lent buffer: number, bytes written, and the byte and bit where the refused code or the unread rest starts.
+// The records of one raw slice, written into the lent buffer: number, bytes written, and the byte and bit where the refused code
+// or the unread rest starts.
 #[no_mangle]
 pub extern "C" fn format3_read_slice(
     slice: &[u8],
@@ -148,13 +131,13 @@ pub extern "C" fn format3_read_slice(
     byte: &mut usize,
     bit: &mut usize,
 ) -> u32
-    ensures number { λ r. ⌜ r ≡ rawSliceOutcome (given width height «coding_type» «forward_f_code» «backward_f_code») (now (slice .entry)) (now (records .entry)) .answer .number ⌝ }
-    ensures records { λ _. ⌜ now (records .exit) ≡ rawSliceOutcome (given width height «coding_type» «forward_f_code» «backward_f_code») (now (slice .entry)) (now (records .entry)) .buffer ⌝ }
-    ensures written { λ _. ⌜ now (written .exit) ≡ rawSliceOutcome (given width height «coding_type» «forward_f_code» «backward_f_code») (now (slice .entry)) (now (records .entry)) .answer .written ⌝ }
-    ensures byte { λ _. ⌜ now (byte .exit) ≡ rawSliceOutcome (given width height «coding_type» «forward_f_code» «backward_f_code») (now (slice .entry)) (now (records .entry)) .answer .byte ⌝ }
-    ensures bit { λ _. ⌜ now (bit .exit) ≡ rawSliceOutcome (given width height «coding_type» «forward_f_code» «backward_f_code») (now (slice .entry)) (now (records .entry)) .answer .bit ⌝ }
+    ensures number { λ r. ⌜ r ≡ rawSliceOutcome (givenFields width height «coding_type» «forward_f_code» «backward_f_code») (now (slice .entry)) (now (records .entry)) .answer .number ⌝ }
+    ensures records { λ _. ⌜ now (records .exit) ≡ rawSliceOutcome (givenFields width height «coding_type» «forward_f_code» «backward_f_code») (now (slice .entry)) (now (records .entry)) .buffer ⌝ }
+    ensures written { λ _. ⌜ now (written .exit) ≡ rawSliceOutcome (givenFields width height «coding_type» «forward_f_code» «backward_f_code») (now (slice .entry)) (now (records .entry)) .answer .written ⌝ }
+    ensures byte { λ _. ⌜ now (byte .exit) ≡ rawSliceOutcome (givenFields width height «coding_type» «forward_f_code» «backward_f_code») (now (slice .entry)) (now (records .entry)) .answer .byte ⌝ }
+    ensures bit { λ _. ⌜ now (bit .exit) ≡ rawSliceOutcome (givenFields width height «coding_type» «forward_f_code» «backward_f_code») (now (slice .entry)) (now (records .entry)) .answer .bit ⌝ }
 {
-    let answer = entry::read_slice(
+    let answer = entries::read_slice(
         slice,
         width,
         height,

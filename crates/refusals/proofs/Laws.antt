@@ -1,4 +1,4 @@
--- Laws of the refusals' numbers: each leads back to its refusal. Assumes nothing.
+-- The refusals' numbers are distinct: each leads back to its refusal. Assumes nothing.
 use mathlib.Core.Path.{_≡_, refl, sym, ap, _∙_}
 use mathlib.Core.Bool.{Bool, cond, true, _&&_}
 use mathlib.Core.List.{List, [], _∷_}
@@ -8,10 +8,9 @@ use lib.Dec.{leb}
 use lib.ListN.{getD}
 use Rattle.refusals.specs.declared.Refusal.{Refusal}
 use Rattle.refusals.specs.declared.Refusal.the-variants as R
-use Rattle.refusals.specs.Refusal.{numberOf}
-use Rattle.refusals.specs.Theorems.{NumbersDiffer, NeverAccepted}
+use Rattle.refusals.specs.Refusal.{accepted, numberOf}
 
--- the refusals by their numbers; at 0 and 23, which no refusal has, stands the first
+-- the refusals by number; 0 and 23, which no refusal has, hold the first one
 byNumber : List Refusal
 byNumber =
     R.FileEmpty ∷
@@ -74,16 +73,18 @@ back R.SliceCode = refl
 back R.SliceCut = refl
 back R.RecordsLength = refl
 
-pub numbers-differ : NumbersDiffer
+-- two refusals never share a number
+pub numbers-differ : (a b : Refusal) → numberOf a ≡ numberOf b → a ≡ b
 numbers-differ a b same = sym (back a) ∙ ap refusalOf same ∙ back b
 
-pub never-accepted : NeverAccepted
+-- and none has the number of acceptance
+pub never-accepted : (refusal : Refusal) → numberOf refusal ≡ accepted → ⊥
 unfolding refusalOf byNumber
 never-accepted refusal e =
     let first : refusal ≡ R.FileEmpty = sym (back refusal) ∙ ap refusalOf e in
     let none : numberOf R.FileEmpty ≡ 0 = sym (ap numberOf first) ∙ e in
     omega arith
 
--- ---- the refusals of a record after the header: 3 to 6 and 9 to 18
+-- ---- the refusals that a record after the header can cause: 3 to 6 and 9 to 18
 abbrev pub ofRecord : Refusal → Bool
 ofRecord refusal = leb 3 (numberOf refusal) && cond (leb (numberOf refusal) 6) true (leb 9 (numberOf refusal) && leb (numberOf refusal) 18)

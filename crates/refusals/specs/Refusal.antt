@@ -1,4 +1,4 @@
--- The refusals and their numbers (document 01, "Refusals by who can cause them", and request No. 2). No other definition holds a refusal's number.
+-- The refusals and their numbers (document 01, "Refusals by who can cause them", and request No. 2); no other definition holds one.
 use Prim.Native.Nat.{ℕ}
 use Rattle.refusals.specs.declared.Refusal.{Refusal}
 use Rattle.refusals.specs.declared.Refusal.the-variants.{
@@ -29,7 +29,7 @@ use Rattle.refusals.specs.declared.Refusal.the-variants.{
   RecordsLength,
 }
 
--- the answer's number where nothing is refused
+-- the number of an acceptance
 abbrev pub accepted : ℕ
 accepted = 0
 
@@ -48,36 +48,36 @@ numberOf OutOfTurn = 5
 numberOf BodyLength = 6
 -- the file ends with macroblocks or the header missing
 numberOf FileEnds = 7
--- a header field
+-- a header field is illegal
 numberOf Header = 8
 -- a matrix: which above 1, given twice, a weight 0, intra first weight not 8
 numberOf Matrix = 9
--- a quantizer scale
+-- a quantizer scale is not 1..31
 numberOf QuantizerScale = 10
 -- a slice's start is not the next address
 numberOf SliceStart = 11
--- a macroblock's type
+-- a macroblock's type is not legal in a picture of this type
 numberOf MacroblockType = 12
--- an address increment
+-- an address increment is illegal
 numberOf AddressIncrement = 13
--- a vector's code or residual
+-- a motion code or its residual is out of range
 numberOf VectorCode = 14
--- a pattern
+-- a coded block pattern is not 1..63
 numberOf Pattern = 15
--- a block's count, level, or position past 63
+-- a count or a level is out of range, or a position is past 63
 numberOf Coefficient = 16
 -- a DC difference outside -255..255, or a DC outside 0..2040
 numberOf DcCoefficient = 17
 -- a vector doesn't fit
 numberOf VectorOutside = 18
--- the length of the output, of the forward and of the backward reference
+-- the output, the forward or the backward reference has the wrong length
 numberOf OutputLength = 19
 numberOf ForwardLength = 20
 numberOf BackwardLength = 21
 -- a number out of range, given straight to the coefficient, transform or vector entry
 numberOf NumberOutOfRange = 22
--- request No. 2, raw slices: "24 when the bits left, however they went on, begin no code (a forbidden level is none), the row isn't in the picture, or
--- a code takes an increment past 396 or a coefficient past position 63"
+-- request No. 2, raw slices: "24 when the bits left, however they went on, begin no code (a forbidden level is none), the row isn't in the
+-- picture, or a code takes an increment past 396 or a coefficient past position 63"
 numberOf SliceCode = 24
 -- "25 when the bytes end before the first macroblock, or one begun, is whole"
 numberOf SliceCut = 25

@@ -1,8 +1,8 @@
-// The refusals of every public entry, and their numbers. An answer is this number; 0 is an acceptance.
+// The refusals of every public entry, and their numbers in answers; 0 is an acceptance.
 ghost use mathlib.Core.Path.{_≡_};
 ghost use Rattle.refusals.specs.Refusal.{numberOf};
 
-// Why something is refused, by who can cause it.
+// Why something is refused, grouped by who can cause it.
 pub enum Refusal {
     // Caused by the writer of the file.
     FileEmpty,
@@ -29,7 +29,7 @@ pub enum Refusal {
     ForwardLength,
     BackwardLength,
     NumberOutOfRange,
-    // Of a slice's bits: the first two caused by the recorder, the last by the caller.
+    // From a raw slice: the first two caused by the writer of the slice, the last by the caller.
     SliceCode,
     SliceCut,
     RecordsLength,
@@ -38,7 +38,7 @@ pub enum Refusal {
 // The number of an acceptance.
 pub const ACCEPTED: u32 = 0;
 
-// The number by which an answer names a refusal.
+// The number that an answer gives for a refusal.
 pub fn number(refusal: Refusal) -> u32
     ensures { λ r. ⌜ r ≡ numberOf refusal ⌝ }
 {

@@ -1,4 +1,4 @@
--- Laws of parsing: what holds of every value that a parser gives, and how a reader's answers follow a parser's steps. Assumes nothing.
+-- Laws of parsing: what holds for every parsed value, and how the code's readers follow a parser's steps. Assumes nothing.
 use mathlib.Core.Path.{_≡_, refl, sym, ap, subst, _∙_}
 use mathlib.Core.Bool.{Bool, true, false, cond}
 use mathlib.Core.List.{List, [], _++_, append-assoc}
@@ -7,9 +7,9 @@ use native.Mathlib.Omega.{arith}
 use lib.ListN.{drop, length-drop}
 use lib.Seq.{drop-drop}
 use Rattle.refusals.specs.declared.Refusal.{Refusal}
-use Rattle.symbols.specs.Guard.{need_else_then_}
+use Rattle.symbols.specs.Guard.{require_else_then_}
 pub use Rattle.symbols.specs.Parsed.{All, here, none}
-use Rattle.symbols.specs.Parsed.{Result, Parsed, parsed, refused, Parser, bind, _then_, give, refuse, value, stopped, Finds}
+use Rattle.symbols.specs.Parsed.{Result, Parsed, parsed, refused, Parser, bind, _then_, give, refuse, value, stopped, ParsesAs}
 
 module _ {Left Reason A : Type 0} {P : A → Left → Type 0} where
   pub all-then : {B : Type 0} {Q : B → Left → Type 0} {x : Result Left Reason B} {f : B → Left → Result Left Reason A}
@@ -17,10 +17,10 @@ module _ {Left Reason A : Type 0} {P : A → Left → Type 0} where
   all-then (here q) r = r _ _ q
   all-then none r = none
 
-  pub all-need : (test : Bool) (reason : Reason) (p : Left → Result Left Reason A) (left : Left) → (test ≡ true → All P (p left)) → All P ((need test else refuse reason then p) left)
-  unfolding need_else_then_
-  all-need true reason p left r = r refl
-  all-need false reason p left r = none
+  pub all-require : (test : Bool) (reason : Reason) (p : Left → Result Left Reason A) (left : Left) → (test ≡ true → All P (p left)) → All P ((require test else refuse reason then p) left)
+  unfolding require_else_then_
+  all-require true reason p left r = r refl
+  all-require false reason p left r = none
 
   pub all-cond : (test : Bool) (p q : Left → Result Left Reason A) (left : Left) → (test ≡ true → All P (p left)) → (test ≡ false → All P (q left)) → All P (cond test p q left)
   all-cond true p q left r s = r refl
@@ -50,7 +50,7 @@ pub all-any : {Left Reason A : Type 0} (x : Result Left Reason A) → All (λ a 
 all-any (parsed a left) = here tt
 all-any (refused reason) = none
 
--- ---- a list that is parsed one at a time: what is still to be parsed comes behind what was
+-- ---- a list parsed element by element: the rest of the list follows what was parsed
 module _ {Left Reason A : Type 0} where
   abbrev pub after : List A → Result Left Reason (List A) → Result Left Reason (List A)
   after some x = bind x λ more. give (some ++ more)
@@ -63,31 +63,31 @@ module _ {Left Reason A : Type 0} where
   after-after a b (parsed more left) = ap (λ (l : List A). parsed l left) (sym (append-assoc a b more))
   after-after a b (refused reason) = refl
 
--- ---- two readers, one behind the other
+-- ---- two readers in sequence
 module _ {A B : Type 0} (p : Parser A) (f : A → Parser B) (part : List ℕ) where
-  pub first-stops : {refusal : Refusal} → Finds p part (stopped refusal) → Finds (p then f) part (stopped refusal)
+  pub first-stops : {refusal : Refusal} → ParsesAs p part (stopped refusal) → ParsesAs (p then f) part (stopped refusal)
   first-stops e = rw e
 
-  module _ {a : A} {n : ℕ} (first : Finds p part (value a n)) where
-    pub second-stops : {refusal : Refusal} → Finds (f a) (drop n part) (stopped refusal) → Finds (p then f) part (stopped refusal)
+  module _ {a : A} {n : ℕ} (first : ParsesAs p part (value a n)) where
+    pub second-stops : {refusal : Refusal} → ParsesAs (f a) (drop n part) (stopped refusal) → ParsesAs (p then f) part (stopped refusal)
     second-stops e = rw (first .0) e
 
-    pub second-finds : {b : B} {m : ℕ} → Finds (f a) (drop n part) (value b m) → Finds (p then f) part (value b (n + m))
+    pub second-finds : {b : B} {m : ℕ} → ParsesAs (f a) (drop n part) (value b m) → ParsesAs (p then f) part (value b (n + m))
     second-finds {b} {m} second =
         (rw (first .0, ← drop-drop m n part) (second .0), omega (arith, first .1, second .1, length-drop n part))
 
--- the value of the last reader, put to use
-pub last-finds : {A B : Type 0} (p : Parser A) (g : A → B) (part : List ℕ) {a : A} {n : ℕ} → Finds p part (value a n) → Finds (p then λ x. give (g x)) part (value (g a) n)
+-- a function of the last reader's value
+pub last-finds : {A B : Type 0} (p : Parser A) (g : A → B) (part : List ℕ) {a : A} {n : ℕ} → ParsesAs p part (value a n) → ParsesAs (p then λ x. give (g x)) part (value (g a) n)
 last-finds p g part found = (rw (found .0), found .1)
 
--- ---- a value that is made of what was parsed: what that was
+-- ---- a value computed from a parsed one: which one that was
 pub record MadeOf {A B : Type 0} (p : Parser A) (g : A → B) (part : List ℕ) (b : B) (n : ℕ) : Type 0 where
   pub source : A
-  pub found : Finds p part (value source n)
+  pub found : ParsesAs p part (value source n)
   pub is : g source ≡ b
 
 module _ {A B : Type 0} (p : Parser A) (g : A → B) (part : List ℕ) where
-  pub made-of : {b : B} {n : ℕ} → Finds (p then λ x. give (g x)) part (value b n) → MadeOf p g part b n
+  pub made-of : {b : B} {n : ℕ} → ParsesAs (p then λ x. give (g x)) part (value b n) → MadeOf p g part b n
   made-of {b} {n} found = go (p part) refl (found .0)
     where
       go : (x : Parsed A) → p part ≡ x → bind x (λ a. give (g a)) ≡ parsed b (drop n part) → MadeOf p g part b n
@@ -96,7 +96,7 @@ module _ {A B : Type 0} (p : Parser A) (g : A → B) (part : List ℕ) where
           record { source = a; found = (e ∙ ap (parsed a) left, found .1); is = cc }
       go (refused refusal) e same = absurd (let z : _≡_ {A = ℕ} 0 1 = cc in omega arith)
 
-  pub stopped-before : {refusal : Refusal} → Finds (p then λ x. give (g x)) part (stopped refusal) → Finds p part (stopped refusal)
+  pub stopped-before : {refusal : Refusal} → ParsesAs (p then λ x. give (g x)) part (stopped refusal) → ParsesAs p part (stopped refusal)
   stopped-before {refusal} found = go (p part) refl found
     where
       go : (x : Parsed A) → p part ≡ x → bind x (λ a. give (g a)) ≡ refused refusal → p part ≡ refused refusal

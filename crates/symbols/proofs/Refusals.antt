@@ -1,14 +1,14 @@
--- Which refusals a parser gives: those of a record. Assumes nothing.
+-- Which refusals a parser gives: only those that a record can cause. Assumes nothing.
 use mathlib.Core.Bool.{Bool, true, false}
 use mathlib.Core.List.{List}
 use Prim.Native.Nat.{ℕ}
 use lib.Dec.{T}
 use Rattle.refusals.specs.declared.Refusal.{Refusal}
 use Rattle.refusals.proofs.Laws.{ofRecord}
-use Rattle.symbols.specs.Guard.{need_else_then_}
-use Rattle.symbols.specs.Parsed.{Parsed, parsed, refused, Parser, bind, refuse, given_else_read_}
+use Rattle.symbols.specs.Guard.{require_else_then_}
+use Rattle.symbols.specs.Parsed.{Parsed, parsed, refused, Parser, bind, refuse, optional_default_read_}
 
--- a value, or a refusal of a record
+-- a value, or a refusal that a record can cause
 pub data OfRecord {A : Type 0} : Parsed A → Type 0 where
   legal : {a : A} {rest : List ℕ} → OfRecord (parsed a rest)
   refused-by : {refusal : Refusal} → T (ofRecord refusal) → OfRecord (refused refusal)
@@ -18,11 +18,11 @@ module _ {A : Type 0} where
   of-then legal r = r _ _
   of-then (refused-by t) r = refused-by t
 
-  pub of-need : (test : Bool) (refusal : Refusal) (p : Parser A) (bytes : List ℕ) → T (ofRecord refusal) → OfRecord (p bytes) → OfRecord ((need test else refuse refusal then p) bytes)
-  unfolding need_else_then_
+  pub of-need : (test : Bool) (refusal : Refusal) (p : Parser A) (bytes : List ℕ) → T (ofRecord refusal) → OfRecord (p bytes) → OfRecord ((require test else refuse refusal then p) bytes)
+  unfolding require_else_then_
   of-need true refusal p bytes t r = r
   of-need false refusal p bytes t r = refused-by t
 
-  pub of-given : (present : Bool) (absent : A) (p : Parser A) (bytes : List ℕ) → OfRecord (p bytes) → OfRecord ((given present else absent read p) bytes)
+  pub of-given : (present : Bool) (absent : A) (p : Parser A) (bytes : List ℕ) → OfRecord (p bytes) → OfRecord ((optional present default absent read p) bytes)
   of-given true absent p bytes r = r
   of-given false absent p bytes r = legal

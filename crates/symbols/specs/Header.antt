@@ -1,7 +1,6 @@
--- The header of a picture, and which numbers are legal in one (document 01, kind 1, and refusal 8).
-use mathlib.Core.Path.{_≡_}
+-- The header of a picture, and which of its numbers are legal (document 01, kind 1, and refusal 8).
 use mathlib.Core.Bool.{Bool, true, false, _&&_}
-use Prim.Native.Nat.{ℕ, _≤_}
+use Prim.Native.Nat.{ℕ}
 use lib.Dec.{leb, eqb}
 use Rattle.refusals.specs.declared.Refusal.the-variants as Refusal
 use Rattle.symbols.specs.declared.header.HeaderFields.{HeaderFields}
@@ -9,8 +8,8 @@ use Rattle.symbols.specs.declared.header.VectorCoding.{VectorCoding}
 use Rattle.symbols.specs.declared.header.Header.{Header}
 use Rattle.symbols.specs.declared.header.HeaderAnswer.{HeaderAnswer}
 use Rattle.symbols.specs.declared.header.HeaderAnswer.the-variants.{Legal, Refused}
-use Rattle.symbols.specs.Guard.{need_else_then_}
-use Rattle.symbols.specs.Size.{legalSize, SizeWithin}
+use Rattle.symbols.specs.Guard.{require_else_then_}
+use Rattle.symbols.specs.Size.{legalSize}
 
 -- "type (1 I, 2 P, 3 B)"
 abbrev pub typeI : ℕ
@@ -29,7 +28,8 @@ usesForward type = leb typeP type
 abbrev pub usesBackward : ℕ → Bool
 usesBackward type = leb typeB type
 
--- "full-pel forward flag (0 or 1)"; "An f_code is 1..7 where the type uses that direction (P forward, B both); where it doesn't, flag and f_code are 0"
+-- "full-pel forward flag (0 or 1)";
+-- "An f_code is 1..7 where the type uses that direction (P forward, B both); where it doesn't, flag and f_code are 0"
 abbrev pub legalCoding : Bool → ℕ → ℕ → Bool
 legalCoding true flag code = leb flag 1 && leb 1 code && leb code 7
 legalCoding false flag code = eqb flag 0 && eqb code 0
@@ -40,32 +40,20 @@ legalCodings f =
     && legalCoding (usesForward (f .«coding_type»)) (f .«full_pel_forward») (f .«forward_f_code»)
     && legalCoding (usesBackward (f .«coding_type»)) (f .«full_pel_backward») (f .«backward_f_code»)
 
--- the legality of a header, over its numbers
+-- whether the numbers of a header are legal
 unfoldable pub legalHeader : HeaderFields → Bool
 legalHeader f = legalSize (f .width) (f .height) && legalCodings f
 
-abbrev pub codingOf : ℕ → ℕ → VectorCoding
-codingOf flag code = record { «full_pel» = eqb flag 1; «f_code» = code }
+abbrev pub vectorCodingOf : ℕ → ℕ → VectorCoding
+vectorCodingOf flag code = record { «full_pel» = eqb flag 1; «f_code» = code }
 
 abbrev pub headerValue : HeaderFields → Header
 headerValue f = record {
   size = record { width = f .width; height = f .height };
   «coding_type» = f .«coding_type»;
-  forward = codingOf (f .«full_pel_forward») (f .«forward_f_code»);
-  backward = codingOf (f .«full_pel_backward») (f .«backward_f_code»);
+  forward = vectorCodingOf (f .«full_pel_forward») (f .«forward_f_code»);
+  backward = vectorCodingOf (f .«full_pel_backward») (f .«backward_f_code»);
 }
 
 unfoldable pub headerWith : HeaderFields → HeaderAnswer
-headerWith f = need legalHeader f else Refused Refusal.Header then Legal (headerValue f)
-
--- what the code relies on of a legal header; the limits 48 and 36 are not among it
-pub record CodingWithin (used : Bool) (c : VectorCoding) : Type 0 where
-  pub least : used ≡ true → 1 ≤ c .«f_code»
-  pub most : c .«f_code» ≤ 7
-
-pub record HeaderWithin (h : Header) : Type 0 where
-  pub size : SizeWithin 396 (h .size)
-  pub first-type : typeI ≤ h .«coding_type»
-  pub last-type : h .«coding_type» ≤ typeB
-  pub forward : CodingWithin (usesForward (h .«coding_type»)) (h .forward)
-  pub backward : CodingWithin (usesBackward (h .«coding_type»)) (h .backward)
+headerWith f = require legalHeader f else Refused Refusal.Header then Legal (headerValue f)

@@ -9,3 +9,4 @@ pub mod Pair
 pub mod Block
 pub mod Macroblock
 pub mod Slice
+pub mod Requires

@@ -1,4 +1,4 @@
--- The symbols of a macroblock.
+-- The symbols of a macroblock: those before its blocks, and its blocks.
 use mathlib.Core.List.{List}
 use Prim.Native.Nat.{ℕ}
 use Rattle.symbols.specs.declared.vector_codes.Vectors.{Vectors}
@@ -11,10 +11,10 @@ pub record Macroblock : Type 0 where
   pub symbols : MacroblockSymbols
   pub blocks : List Block
 
--- the symbols before the blocks, from their parts
+-- the symbols before the blocks, put together from head, vectors and pattern
 abbrev pub symbolsWith : MacroblockHead → Vectors → ℕ → MacroblockSymbols
 symbolsWith head vectors pattern = record {
-  flags = head .flags;
+  «macroblock_type» = head .«macroblock_type»;
   increment = head .increment;
   scale = head .scale;
   forward = vectors .forward;

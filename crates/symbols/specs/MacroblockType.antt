@@ -1,46 +1,47 @@
--- A macroblock's type (document 01, kind 4, and refusal 12).
+-- A macroblock's type: the parts that it has, and which types are legal (document 01, kind 4, and refusal 12).
 use mathlib.Core.Bool.{Bool, false, cond, _||_}
 use mathlib.Core.List.{List, [], _∷_}
 use Prim.Native.Nat.{ℕ, _/_, _%_}
 use lib.Dec.{eqb}
 use Rattle.symbols.specs.Header.{typeI, typeP}
 
--- "Type is a sum of 1 scale given, 2 forward, 4 backward, 8 pattern, 16 intra"
-abbrev pub scaleGiven : ℕ
-scaleGiven = 1
+-- "Type is a sum of 1 scale given, 2 forward, 4 backward, 8 pattern, 16 intra": the standard's macroblock_quant,
+-- macroblock_motion_forward, macroblock_motion_backward, macroblock_pattern and macroblock_intra
+abbrev pub scalePart : ℕ
+scalePart = 1
 
-abbrev pub forward : ℕ
-forward = 2
+abbrev pub forwardPart : ℕ
+forwardPart = 2
 
-abbrev pub backward : ℕ
-backward = 4
+abbrev pub backwardPart : ℕ
+backwardPart = 4
 
-abbrev pub pattern : ℕ
-pattern = 8
+abbrev pub patternPart : ℕ
+patternPart = 8
 
-abbrev pub intra : ℕ
-intra = 16
+abbrev pub intraPart : ℕ
+intraPart = 16
 
--- whether a part is in the sum
-abbrev pub gives : ℕ → ℕ → Bool
-gives flags part = eqb (flags / part % 2) 1
+-- whether a type has a part: whether the part is in the sum
+abbrev pub hasPart : ℕ → ℕ → Bool
+hasPart type part = eqb (type / part % 2) 1
 
-abbrev pub givesScale : ℕ → Bool
-givesScale flags = gives flags scaleGiven
+abbrev pub hasScale : ℕ → Bool
+hasScale type = hasPart type scalePart
 
-abbrev pub givesForward : ℕ → Bool
-givesForward flags = gives flags forward
+abbrev pub hasForward : ℕ → Bool
+hasForward type = hasPart type forwardPart
 
-abbrev pub givesBackward : ℕ → Bool
-givesBackward flags = gives flags backward
+abbrev pub hasBackward : ℕ → Bool
+hasBackward type = hasPart type backwardPart
 
-abbrev pub givesPattern : ℕ → Bool
-givesPattern flags = gives flags pattern
+abbrev pub hasPattern : ℕ → Bool
+hasPattern type = hasPart type patternPart
 
 abbrev pub isIntra : ℕ → Bool
-isIntra flags = gives flags intra
+isIntra type = hasPart type intraPart
 
--- whether a number stands in a list
+-- whether a list contains a number
 abbrev pub among : ℕ → List ℕ → Bool
 among n [] = false
 among n (m ∷ l) = eqb n m || among n l
@@ -56,4 +57,4 @@ abbrev pub typesOfB : List ℕ
 typesOfB = 2 ∷ 4 ∷ 6 ∷ 10 ∷ 11 ∷ 12 ∷ 13 ∷ 14 ∷ 15 ∷ 16 ∷ 17 ∷ []
 
 unfoldable pub legalType : ℕ → ℕ → Bool
-legalType coding flags = among flags (cond (eqb coding typeI) typesOfI (cond (eqb coding typeP) typesOfP typesOfB))
+legalType coding type = among type (cond (eqb coding typeI) typesOfI (cond (eqb coding typeP) typesOfP typesOfB))

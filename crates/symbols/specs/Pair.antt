@@ -11,9 +11,9 @@ firstPosition intra = cond intra 1 0
 abbrev pub lastPosition : ℕ
 lastPosition = 63
 
--- where a pair lands, if a run of 0 lands at `next`; and `next` for the pair after it ("each later one at run plus 1 further on")
-abbrev pub positionOf : ℕ → Pair → ℕ
-positionOf next pair = next + pair .run
+-- where a pair lands if a run of 0 would land at `next`, and the `next` of the pair after it ("each later one at run plus 1 further on")
+abbrev pub pairPosition : ℕ → Pair → ℕ
+pairPosition next pair = next + pair .run
 
 abbrev pub afterPair : ℕ → Pair → ℕ
-afterPair next pair = positionOf next pair + 1
+afterPair next pair = pairPosition next pair + 1

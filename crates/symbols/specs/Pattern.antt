@@ -2,18 +2,18 @@
 use mathlib.Core.Bool.{Bool, cond}
 use Prim.Native.Nat.{ℕ, _-_, _/_, _%_, _^_}
 use lib.Dec.{eqb, ltb}
-use Rattle.symbols.specs.MacroblockType.{givesPattern, isIntra}
+use Rattle.symbols.specs.MacroblockType.{hasPattern, isIntra}
 
--- the patterns of all six blocks and of none
+-- the patterns with all six blocks and with none
 abbrev pub allBlocks : ℕ
 allBlocks = 63
 
 abbrev pub noBlock : ℕ
 noBlock = 0
 
--- the pattern of the coded blocks: of all for intra ("An intra macroblock has all six blocks"), of none where the type gives no pattern, else the one read
+-- the coded blocks: all if intra ("An intra macroblock has all six blocks"), none if the type has no pattern, else the pattern read
 abbrev pub codedPattern : {A : Type 0} → ℕ → (ℕ → A) → A → A
-codedPattern flags known read = cond (isIntra flags) (known allBlocks) (cond (givesPattern flags) read (known noBlock))
+codedPattern type known read = cond (isIntra type) (known allBlocks) (cond (hasPattern type) read (known noBlock))
 
 -- "with 32 the first Y block and 1 Cr": whether a block, counted from 0, is coded
 unfoldable pub isCoded : ℕ → ℕ → Bool

@@ -1,4 +1,4 @@
--- The symbols of a slice.
+-- The symbols of a slice: its header and its macroblocks.
 use mathlib.Core.List.{List}
 use Prim.Native.Nat.{ℕ}
 use Rattle.symbols.specs.Macroblock.{Macroblock}

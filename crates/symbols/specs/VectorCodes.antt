@@ -1,4 +1,4 @@
--- The codes of motion vectors that are not given.
+-- The codes of motion vectors that are not given: all zeros.
 use lib.IntN.{pos}
 use Rattle.symbols.specs.declared.vector_codes.VectorCode.{VectorCode}
 use Rattle.symbols.specs.declared.vector_codes.VectorCodes.{VectorCodes}

@@ -1,4 +1,4 @@
-// The header of a picture: its numbers, and which are legal.
+// The header of a picture: its numbers, and which of them are legal.
 ghost use mathlib.Core.Path.{_≡_};
 ghost use Rattle.symbols.specs.Header.{usesForward, usesBackward, legalCoding, legalCodings, headerWith};
 use crate::size::NewSize;
@@ -12,9 +12,9 @@ pub const P_PICTURE: u8 = 2;
 
 pub const B_PICTURE: u8 = 3;
 
-const LAST_F_CODE: u8 = 7;
+const MAX_F_CODE: u8 = 7;
 
-// The numbers of a header, as they stand in its record.
+// The numbers of a header, as stored in its record.
 pub struct HeaderFields {
     pub width: u8,
     pub height: u8,
@@ -25,7 +25,7 @@ pub struct HeaderFields {
     pub backward_f_code: u8,
 }
 
-// How the vectors of one direction are coded; false and 0 where the picture has none.
+// How the vectors of one direction are coded; false and 0 if the picture doesn't use it.
 pub struct VectorCoding {
     pub full_pel: bool,
     pub f_code: u8,
@@ -43,14 +43,14 @@ pub enum HeaderAnswer {
     Refused(Refusal),
 }
 
-// Whether a picture of this type has forward vectors.
+// Whether a picture of this type uses forward vectors.
 pub fn uses_forward(coding: u8) -> bool
     ensures { λ r. ⌜ r ≡ usesForward coding ⌝ }
 {
     P_PICTURE <= coding
 }
 
-// Whether a picture of this type has backward vectors.
+// Whether a picture of this type uses backward vectors.
 pub fn uses_backward(coding: u8) -> bool
     ensures { λ r. ⌜ r ≡ usesBackward coding ⌝ }
 {
@@ -68,7 +68,7 @@ fn legal_coding(used: bool, flag: u8, code: u8) -> bool
         if code < 1 {
             return false;
         }
-        return code <= LAST_F_CODE;
+        return code <= MAX_F_CODE;
     }
     if flag != 0 {
         return false;
@@ -76,7 +76,7 @@ fn legal_coding(used: bool, flag: u8, code: u8) -> bool
     code == 0
 }
 
-// Whether the type is legal, and the vectors of both directions are coded as the type has them.
+// Whether the type is legal, and both directions are coded as the type requires.
 fn legal_codings(fields: HeaderFields) -> bool
     ensures { λ r. ⌜ r ≡ legalCodings fields ⌝ }
 {
@@ -102,7 +102,7 @@ fn legal_codings(fields: HeaderFields) -> bool
     )
 }
 
-// The header with these numbers, where they are legal.
+// The header with these numbers, if they are legal.
 pub fn header_with(fields: HeaderFields) -> HeaderAnswer
     ensures { λ r. ⌜ r ≡ headerWith fields ⌝ }
 {

@@ -1,4 +1,4 @@
-// The symbols of a picture: what every syntax reads into, and every picture is made of.
+// The symbols of a picture: every syntax is read into them, and every picture is made from them.
 pub mod header;
 pub mod macroblock;
 pub mod macroblock_type;

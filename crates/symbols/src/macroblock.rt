@@ -1,16 +1,16 @@
 // The symbols of a macroblock before its blocks.
 use crate::vector_codes::VectorCodes;
 
-// The first of them; the scale is 0 where the type gives none.
+// The head: type, address increment, and scale, which is 0 if the type has none.
 pub struct MacroblockHead {
-    pub flags: u8,
+    pub macroblock_type: u8,
     pub increment: u16,
     pub scale: u8,
 }
 
-// All of them. The scale and the codes are 0 where they are not given; the pattern is that of the coded blocks.
+// The scale and the codes are 0 if they are not given; the pattern marks the coded blocks.
 pub struct MacroblockSymbols {
-    pub flags: u8,
+    pub macroblock_type: u8,
     pub increment: u16,
     pub scale: u8,
     pub forward: VectorCodes,

@@ -1,11 +1,12 @@
-// A macroblock's type: what it is the sum of, and which types are legal.
+// A macroblock's type: a sum of the parts that it has, and which types are legal.
 ghost use mathlib.Core.Path.{_≡_};
 ghost use Prim.Native.Nat.{_<_};
-ghost use Rattle.symbols.specs.MacroblockType.{gives, legalType};
+ghost use Rattle.symbols.specs.MacroblockType.{hasPart, legalType};
 use crate::header::I_PICTURE;
 use crate::header::P_PICTURE;
 
-// What a macroblock's type is the sum of.
+// The parts that a macroblock's type is the sum of: macroblock_quant, macroblock_motion_forward, macroblock_motion_backward,
+// macroblock_pattern and macroblock_intra in the standard.
 pub const SCALE_GIVEN: u8 = 1;
 
 pub const FORWARD: u8 = 2;
@@ -16,36 +17,36 @@ pub const PATTERN: u8 = 8;
 
 pub const INTRA: u8 = 16;
 
-// The legal types of each coding type, a bit for each.
+// The legal types for each picture coding type, one bit for each.
 const I_TYPES: u32 = (1 << 16) | (1 << 17);
 
 const P_TYPES: u32 = (1 << 2) | (1 << 8) | (1 << 9) | (1 << 10) | (1 << 11) | (1 << 16) | (1 << 17);
 
 const B_TYPES: u32 = (1 << 2) | (1 << 4) | (1 << 6) | (255 << 10);
 
-// Whether a part, as FORWARD, stands in the sum that a macroblock's type is.
-pub fn gives_part(flags: u8, part: u8) -> bool
+// Whether a macroblock's type includes a part, such as FORWARD.
+pub fn has_part(macroblock_type: u8, part: u8) -> bool
     requires { ⌜ 0 < part ⌝ }
-    ensures { λ r. ⌜ r ≡ gives flags part ⌝ }
+    ensures { λ r. ⌜ r ≡ hasPart «macroblock_type» part ⌝ }
 {
-    flags / part % 2 == 1
+    macroblock_type / part % 2 == 1
 }
 
 // Whether a macroblock's type is legal in a picture of this coding type.
-pub fn legal_type(coding: u8, flags: u8) -> bool
-    ensures { λ r. ⌜ r ≡ legalType coding flags ⌝ }
+pub fn legal_type(coding: u8, macroblock_type: u8) -> bool
+    ensures { λ r. ⌜ r ≡ legalType coding «macroblock_type» ⌝ }
 {
-    if 31 < flags {
+    if 31 < macroblock_type {
         return false;
     }
     if coding == I_PICTURE {
-        let types = I_TYPES >> flags;
+        let types = I_TYPES >> macroblock_type;
         return types % 2 == 1;
     }
     if coding == P_PICTURE {
-        let types = P_TYPES >> flags;
+        let types = P_TYPES >> macroblock_type;
         return types % 2 == 1;
     }
-    let types = B_TYPES >> flags;
+    let types = B_TYPES >> macroblock_type;
     types % 2 == 1
 }

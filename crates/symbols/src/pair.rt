@@ -1,11 +1,11 @@
-// The pairs of a block.
+// A pair, a run and a level: the coefficients of a block are coded as pairs.
 ghost use mathlib.Core.Path.{_≡_};
 ghost use Rattle.symbols.specs.Pair.{firstPosition};
 
 // The last position of a block, in zigzag order.
 pub const LAST_POSITION: usize = 63;
 
-// How many positions are passed over, and the level behind them.
+// The number of positions to skip, and the level after them.
 pub struct Pair {
     pub run: u8,
     pub level: i16,

@@ -1,12 +1,12 @@
-// Which of a macroblock's six blocks are coded.
+// The coded block pattern: which of a macroblock's six blocks are coded.
 ghost use mathlib.Core.Path.{_≡_};
 ghost use Prim.Native.Nat.{_<_};
 ghost use Rattle.symbols.specs.Pattern.{isCoded};
 
-// The pattern of all six.
+// The pattern with all six blocks coded.
 pub const ALL_BLOCKS: u8 = 63;
 
-// Whether a block is coded: 32 in the pattern for the first, 1 for the last.
+// Whether a block is coded: 32 in the pattern marks the first block, 1 the last.
 pub fn is_coded(pattern: u8, block: usize) -> bool
     requires { ⌜ block < 6 ⌝ }
     ensures { λ r. ⌜ r ≡ isCoded pattern block ⌝ }

@@ -1,6 +1,7 @@
 // The picture's size in macroblocks.
 ghost use mathlib.Core.Path.{_≡_};
-ghost use Rattle.symbols.specs.Size.{sizeOf, count, bytes, SizeWithin};
+ghost use Rattle.symbols.specs.Size.{maxMacroblocks, sizeOf, macroblockCount, pictureBytes};
+ghost use Rattle.symbols.specs.Requires.{SizeWithin};
 
 pub struct PictureSize {
     pub width: usize,
@@ -13,29 +14,29 @@ pub enum NewSize {
 }
 
 impl PictureSize {
-    pub const WIDEST: usize = 48;
+    pub const MAX_WIDTH: usize = 48;
 
-    pub const HIGHEST: usize = 36;
+    pub const MAX_HEIGHT: usize = 36;
 
-    pub const MOST: usize = 396;
+    pub const MAX_MACROBLOCKS: usize = 396;
 
-    // The size, where it is at least 1 by 1 and within the limits.
+    // The size, if it is at least 1 by 1 and within the limits.
     pub fn new(width: usize, height: usize) -> NewSize
         ensures { λ r. ⌜ r ≡ sizeOf width height ⌝ }
     {
         if width < 1 {
             return NewSize::Beyond;
         }
-        if Self::WIDEST < width {
+        if Self::MAX_WIDTH < width {
             return NewSize::Beyond;
         }
         if height < 1 {
             return NewSize::Beyond;
         }
-        if Self::HIGHEST < height {
+        if Self::MAX_HEIGHT < height {
             return NewSize::Beyond;
         }
-        if Self::MOST < width * height {
+        if Self::MAX_MACROBLOCKS < width * height {
             return NewSize::Beyond;
         }
         NewSize::Fits(PictureSize { width, height })
@@ -43,16 +44,16 @@ impl PictureSize {
 
     // The count of macroblocks.
     pub fn macroblocks(self) -> usize
-        requires { ⌜ SizeWithin 396 self ⌝ }
-        ensures { λ r. ⌜ r ≡ count self ⌝ }
+        requires { ⌜ SizeWithin maxMacroblocks self ⌝ }
+        ensures { λ r. ⌜ r ≡ macroblockCount self ⌝ }
     {
         self.width * self.height
     }
 
     // The picture's length in bytes.
     pub fn bytes(self) -> usize
-        requires { ⌜ SizeWithin 396 self ⌝ }
-        ensures { λ r. ⌜ r ≡ bytes self ⌝ }
+        requires { ⌜ SizeWithin maxMacroblocks self ⌝ }
+        ensures { λ r. ⌜ r ≡ pictureBytes self ⌝ }
     {
         let macroblocks = self.width * self.height;
         384 * macroblocks

@@ -1,13 +1,13 @@
-// The constant tables, side by side: cosines, zigzag order and default matrices.
-// A constant array is built anew at each use: copy it to a local and lend that, or read it at literal indices in another constant.
+// The constant tables: cosines, zigzag order and default matrices.
+// The compiler rebuilds a constant array at each use: copy it to a local and lend that, or read it at literal indices in another constant.
 ghost use mathlib.Core.Path.{_≡_};
 ghost use Rattle.tables.specs.Tables.{cosines, zigzag, defaultIntra, defaultNonIntra};
 
 // cos(i × pi / 16) × 2^20 for i from 1 to 7.
 pub const COSINES: [i64; 7] = [1028428, 968758, 871859, 741455, 582558, 401273, 204567];
 
-// The place in a block, 8 × row + column, of each position in zigzag order.
-pub const ZIGZAG: [u8; 64] = [
+// The raster index in a block, 8 × row + column, of each position in zigzag order.
+const ZIGZAG: [u8; 64] = [
     0,
     1,
     8,
@@ -75,7 +75,7 @@ pub const ZIGZAG: [u8; 64] = [
 ];
 
 // The default matrices, row by row.
-pub const DEFAULT_INTRA: [u8; 64] = [
+const DEFAULT_INTRA: [u8; 64] = [
     8,
     16,
     19,
@@ -142,9 +142,9 @@ pub const DEFAULT_INTRA: [u8; 64] = [
     83,
 ];
 
-pub const DEFAULT_NON_INTRA: [u8; 64] = [16; 64];
+const DEFAULT_NON_INTRA: [u8; 64] = [16; 64];
 
-pub fn cosine_table() -> [i64; 7]
+fn cosine_table() -> [i64; 7]
     ensures { λ r. ⌜ r ≡ cosines ⌝ }
 {
     COSINES

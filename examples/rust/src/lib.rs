@@ -1,10 +1,10 @@
-//! Format 3 pictures through the exported library, behind safe functions: slices for pointers and lengths, and results for
-//! numbers. The borrow checker sees to what `format3.h` asks of a caller, so nothing here can be called wrongly.
+//! Safe Rust functions over the exported library: slices instead of pointers and lengths, `Result`s instead of numbers.
+//! The borrow checker ensures what `format3.h` asks of the caller, so nothing here can be called wrongly.
 
 mod ffi;
 mod refusal;
 
-/// Reels, and the references that their pictures are predicted from.
+/// Reels, and the references that their pictures need.
 pub mod reel;
 
 pub use refusal::Refusal;
@@ -12,7 +12,7 @@ pub use refusal::Refusal;
 /// The bytes of a macroblock: 256 of Y, 64 of Cb and 64 of Cr.
 pub const MACROBLOCK_BYTES: usize = 384;
 
-/// A picture that was not accepted: why, where in the file, and how many macroblocks were written before.
+/// A refused picture: why, where in the file, and how many macroblocks were written before.
 #[derive(Clone, Copy, Debug, PartialEq, Eq)]
 pub struct Refused {
     pub refusal: Refusal,
@@ -20,7 +20,7 @@ pub struct Refused {
     pub made: usize,
 }
 
-/// A record of a file: its kind, and its body as the bytes of the file themselves.
+/// A record of a file: its kind, and its body, which borrows the file's bytes.
 #[derive(Clone, Copy, Debug, PartialEq, Eq)]
 pub struct Record<'a> {
     pub kind: u8,
@@ -29,8 +29,8 @@ pub struct Record<'a> {
     pub end: usize,
 }
 
-/// What a raw slice is read with, as in a header: width and height in macroblocks, the picture's type (1 I, 2 P, 3 B), and the
-/// f_codes, 0 for a direction that the type doesn't use.
+/// The numbers that a raw slice is read with, as in a header: width and height in macroblocks, the picture's type (1 I, 2 P, 3 B),
+/// and the f_codes, 0 for a direction that the type doesn't use.
 #[derive(Clone, Copy, Debug, PartialEq, Eq)]
 pub struct SliceNumbers {
     pub width: u32,
@@ -40,29 +40,29 @@ pub struct SliceNumbers {
     pub backward_f_code: u32,
 }
 
-/// A place in a slice: a byte, and a bit of it, the most significant being 0.
+/// A position in a slice: a byte, and a bit within it; bit 0 is the most significant.
 #[derive(Clone, Copy, Debug, PartialEq, Eq)]
 pub struct BitPlace {
     pub byte: usize,
     pub bit: usize,
 }
 
-/// A slice that was not accepted: why, and where the code starts that is refused.
+/// A refused slice: why, and where the refused code starts.
 #[derive(Clone, Copy, Debug, PartialEq, Eq)]
 pub struct RefusedSlice {
     pub refusal: Refusal,
     pub place: BitPlace,
 }
 
-/// Turns the bytes of a slice, from its start code up to the next one, into records at the start of `records`. Gives how many
-/// bytes they are, and where in the slice what is left of it starts. Where the slice is refused, `records` is as it was.
+/// Turns the bytes of a slice, from its start code up to the next one, into records at the start of `records`. Returns how many
+/// bytes they take, and where the unread rest of the slice starts. A refused slice leaves `records` as it was.
 pub fn read_slice(
     slice: &[u8],
     numbers: SliceNumbers,
     records: &mut [u8],
 ) -> Result<(usize, BitPlace), RefusedSlice> {
     let (mut written, mut byte, mut bit) = (0, 0, 0);
-    // SAFETY: each pointer is of a live slice, with its length, or of a live number, and what is written overlaps nothing.
+    // SAFETY: each pointer belongs to a live slice, with its length, or to a live number, and what is written overlaps nothing.
     let number = unsafe {
         ffi::format3_read_slice(
             slice.as_ptr(),
@@ -84,8 +84,8 @@ pub fn read_slice(
     Ok((written, place))
 }
 
-/// Decodes a file into `output`, and gives the count of its macroblocks. A reference that is not used is empty. Where the
-/// picture is refused, `output` holds the macroblocks made before, and is else as it was.
+/// Decodes a file into `output` and returns its count of macroblocks. An unused reference must be empty. If the picture is
+/// refused, `output` holds the macroblocks before the refusal and is otherwise unchanged.
 pub fn reconstruct(
     file: &[u8],
     forward: &[u8],
@@ -93,7 +93,7 @@ pub fn reconstruct(
     output: &mut [u8],
 ) -> Result<usize, Refused> {
     let (mut place, mut made) = (0, 0);
-    // SAFETY: each pointer is of a live slice, with its length, or of a live number, and what is written overlaps nothing.
+    // SAFETY: each pointer belongs to a live slice, with its length, or to a live number, and what is written overlaps nothing.
     let number = unsafe {
         ffi::format3_reconstruct(
             file.as_ptr(),
@@ -117,47 +117,47 @@ pub fn reconstruct(
     Ok(made)
 }
 
-/// The residues of 64 coefficients in -2048..2047, row by row.
+/// The inverse transform of 64 coefficients in -2048..2047, row by row.
 pub fn transform(coefficients: &[i16; 64]) -> Result<[i16; 64], Refusal> {
     let mut residues = [0; 64];
-    // SAFETY: both pointers are of live arrays of 64 numbers, apart from each other.
+    // SAFETY: both pointers belong to separate live arrays of 64 numbers.
     let number = unsafe { ffi::format3_transform(coefficients, &mut residues) };
     Refusal::of(number)?;
     Ok(residues)
 }
 
-/// The intra AC coefficient of a level in -255..255, with a scale in 1..31 and a weight in 1..255.
+/// The intra AC coefficient for a level in -255..255, a scale in 1..31 and a weight in 1..255.
 pub fn intra_coefficient(level: i32, scale: i32, weight: i32) -> Result<i16, Refusal> {
     let mut coefficient = 0;
-    // SAFETY: the pointer is of a live number.
+    // SAFETY: the pointer belongs to a live number.
     let number = unsafe { ffi::format3_intra_coefficient(level, scale, weight, &mut coefficient) };
     Refusal::of(number)?;
     Ok(coefficient)
 }
 
-/// The coefficient of a level where the macroblock is not intra, with the same ranges.
+/// The non-intra coefficient for a level, with the same ranges.
 pub fn non_intra_coefficient(level: i32, scale: i32, weight: i32) -> Result<i16, Refusal> {
     let mut coefficient = 0;
-    // SAFETY: the pointer is of a live number.
+    // SAFETY: the pointer belongs to a live number.
     let number =
         unsafe { ffi::format3_non_intra_coefficient(level, scale, weight, &mut coefficient) };
     Refusal::of(number)?;
     Ok(coefficient)
 }
 
-/// A component of a vector from its code and residual and the past, not doubled.
+/// A component of a vector, from its code, its residual and the past (the predictor); not doubled.
 pub fn vector(f_code: u32, past: i32, code: i32, residual: u32) -> Result<i32, Refusal> {
     let mut vector = 0;
-    // SAFETY: the pointer is of a live number.
+    // SAFETY: the pointer belongs to a live number.
     let number = unsafe { ffi::format3_vector(f_code, past, code, residual, &mut vector) };
     Refusal::of(number)?;
     Ok(vector)
 }
 
-/// The record at an offset of a file. The first is at 1.
+/// The record at an offset of a file. The first record is at 1.
 pub fn show_record(file: &[u8], offset: usize) -> Result<Record<'_>, Refusal> {
     let (mut kind, mut start, mut length) = (0, 0, 0);
-    // SAFETY: the file's pointer goes with its length, the others are of live numbers apart from each other.
+    // SAFETY: the file's pointer goes with its length; the others belong to separate live numbers.
     let number = unsafe {
         ffi::format3_show_record(
             file.as_ptr(),

@@ -1,9 +1,9 @@
-//! A reel: per picture in coded order a 4-byte big-endian length and a Format 3 file.
+//! Decodes reels: per picture, in coded order, a 4-byte big-endian length and a Format 3 file.
 
 use crate::{reconstruct, show_record, Refused, MACROBLOCK_BYTES};
 
-/// Decodes the pictures of a reel one after another: a P picture from the last accepted I or P picture, a B picture from the
-/// last two, the newer one as backward.
+/// Decodes the pictures of a reel in order: a P picture is predicted from the last accepted I or P picture, a B picture from
+/// the last two, the newer one as backward.
 #[derive(Default)]
 pub struct Decoder {
     older: Vec<u8>,
@@ -21,9 +21,9 @@ const P: u8 = 2;
 const B: u8 = 3;
 
 impl Decoder {
-    /// The picture's bytes: the planes Y, Cb and Cr, each row by row.
+    /// Decodes a file. Returns the picture's bytes: the planes Y, Cb and Cr, each row by row.
     pub fn decode(&mut self, file: &[u8]) -> Result<Vec<u8>, Refused> {
-        // A file without a header is refused whatever is lent.
+        // A file without a header is refused, whatever the buffers are.
         let header = header_of(file).unwrap_or(Header {
             macroblocks: 0,
             picture_type: 0,
@@ -53,7 +53,7 @@ fn header_of(file: &[u8]) -> Option<Header> {
     }
 }
 
-/// The files of a reel. One that is cut ends it, as `Err` with the offset of its length.
+/// The files of a reel. A cut file ends it, as `Err` with the offset of its length.
 pub fn files(reel: &[u8]) -> impl Iterator<Item = Result<&[u8], usize>> {
     let mut offset = 0;
     std::iter::from_fn(move || {

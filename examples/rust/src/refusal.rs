@@ -1,4 +1,4 @@
-//! The refusals, by who can cause them.
+//! The refusals, grouped by who can cause them.
 
 #[derive(Clone, Copy, Debug, PartialEq, Eq)]
 pub enum Refusal {
@@ -35,7 +35,7 @@ pub enum Refusal {
 }
 
 impl Refusal {
-    /// All of them, in the order of their numbers.
+    /// All refusals, in the order of their numbers.
     pub const ALL: [Refusal; 25] = [
         Refusal::FileEmpty,
         Refusal::Version,
@@ -64,7 +64,7 @@ impl Refusal {
         Refusal::RecordsLength,
     ];
 
-    /// What an answer's number says: 0 is an acceptance.
+    /// The meaning of an answer's number: 0 is `Ok`.
     pub(crate) fn of(number: u32) -> Result<(), Refusal> {
         if number == 0 {
             return Ok(());

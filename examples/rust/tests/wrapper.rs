@@ -1,4 +1,4 @@
-//! The safe functions, at figures of document 01.
+//! Tests the safe functions against figures of document 01.
 
 use format3::{
     intra_coefficient, non_intra_coefficient, read_slice, reconstruct, show_record, transform,
@@ -6,7 +6,7 @@ use format3::{
 };
 use format3::{BitPlace, Refusal, Refused, RefusedSlice, SliceNumbers};
 
-/// The worked reel's first file: a grey picture of one macroblock.
+/// The first file of document 01's reel: a grey picture of one macroblock.
 fn grey() -> Vec<u8> {
     let mut file = vec![3, 0, 8, 1, 1, 1, 1, 0, 0, 0, 0, 0, 4, 3, 8, 0, 0];
     file.extend([0, 22, 4, 16, 0, 1]);
@@ -78,7 +78,7 @@ fn coefficients_vectors_and_blocks() {
     assert_eq!(transform(&block), Err(Refusal::NumberOutOfRange));
 }
 
-/// The grey picture's one slice, and what it is read with.
+/// The grey picture as one slice, and the numbers that it is read with.
 const GREY_SLICE: [u8; 9] = [0, 0, 1, 1, 0x43, 0x94, 0xa5, 0x22, 0x20];
 const GREY_NUMBERS: SliceNumbers = SliceNumbers {
     width: 1,
@@ -123,7 +123,7 @@ fn refused_slices() {
     assert_eq!(records, [7; 29]);
 }
 
-/// There is no 23.
+/// The number 23 is not used.
 #[test]
 fn refusals_stand_in_the_order_of_their_numbers() {
     for (number, refusal) in (1..=22).chain(24..).zip(Refusal::ALL) {

@@ -1,6 +1,6 @@
-//! `compare [--panel PROGRAM] [COUNT [SEED]]`: the exported library against the other decoder on COUNT single pictures, ten times
-//! as many raw slices and the edges of every other entry, and the program `panel`, if given, on COUNT reels and on one that is far too long. A
-//! small COUNT fails: it brings about too few answers.
+//! `compare [--panel PROGRAM] [COUNT [SEED]]`: compares the exported library with the other decoder on COUNT single pictures, ten
+//! times as many raw slices, and the edges of every other entry; and the program `panel`, if given, on COUNT reels and one that is far
+//! too long. A small COUNT fails, because its cases don't produce every answer.
 
 use std::process::ExitCode;
 
@@ -13,11 +13,11 @@ use format3_tests::compare_slices::{
 use format3_tests::library::ENTRIES;
 use format3_tests::{exit_code, panel_argument};
 
-/// Enough for every size of a picture that fits: they take turns in every fourth case.
+/// Enough for every legal picture size: every fourth case takes the next one.
 const COUNT: u64 = 4000;
 const SEED: u64 = 1;
 
-/// Far more bytes than a program reads and a pipe holds.
+/// Far more bytes than the program reads or a pipe holds.
 const LONG: usize = 1 << 20;
 
 fn main() -> ExitCode {

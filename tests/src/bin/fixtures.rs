@@ -1,4 +1,4 @@
-//! `fixtures [--panel PROGRAM]`: the exported library, and the program `panel`, if given, against the fixtures.
+//! `fixtures [--panel PROGRAM]`: checks the exported library, and the program `panel` if given, against the fixtures.
 
 use std::process::ExitCode;
 
@@ -35,7 +35,7 @@ fn run(arguments: &[String]) -> Result<(), String> {
     }
 }
 
-/// Each reel at once, in pieces, and as the file that it is.
+/// Runs each reel in one piece, in random pieces, and from its file.
 fn check_panel(program: Program) -> Result<(), String> {
     let random = &mut Random::new(&[1]);
     for fixture in panel_fixtures() {

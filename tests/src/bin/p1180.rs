@@ -1,4 +1,4 @@
-//! `p1180`: the IEEE P1180 measurement of the exported transform.
+//! `p1180`: makes the IEEE P1180 measurement of the exported transform.
 
 use std::process::ExitCode;
 

@@ -1,5 +1,5 @@
-//! `ppm REEL FOLDER`: the numbered pictures in FOLDER, which the example in C makes of REEL, against the other decoder's, in
-//! colours worked out here by ITU-R BT.601 in real numbers: each within 1. The pictures of REEL are all of one size.
+//! `ppm REEL FOLDER`: compares the numbered pictures that the C example made of REEL in FOLDER with the other decoder's. Colours are
+//! computed here in floating point by ITU-R BT.601 and may differ by 1. All pictures of REEL must have one size.
 
 use std::fs;
 use std::path::Path;
@@ -41,7 +41,7 @@ fn read(path: &Path) -> Result<Vec<u8>, String> {
     fs::read(path).map_err(|error| format!("{}: {error}", path.display()))
 }
 
-/// The same length, and every byte within 1.
+/// The lengths are equal, and every byte is within 1.
 fn same_colours(written: &[u8], expected: &[u8]) -> Result<(), String> {
     if written.len() != expected.len() {
         return Err(format!("{} bytes, not {}", written.len(), expected.len()));
@@ -70,7 +70,7 @@ fn ppm(size: Size, picture: &[u8]) -> Vec<u8> {
     ppm
 }
 
-/// Red, green and blue: luma is a sum of their shares, and the chroma are the scaled differences of blue and red from it.
+/// Red, green and blue: luma is their weighted sum, and chroma are the scaled differences of blue and red from it.
 fn colours(luma: u8, cb: u8, cr: u8) -> [u8; 3] {
     const RED: f64 = 0.299;
     const BLUE: f64 = 0.114;

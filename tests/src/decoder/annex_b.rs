@@ -1,5 +1,5 @@
-//! Annex B of ISO/IEC 11172-2: each table as a list of words, strings of bits as they are read, with their values, in the order of
-//! the standard.
+//! Annex B of ISO/IEC 11172-2: each table as a list of words with their values, in the standard's order. A word is a string of bits
+//! in reading order.
 
 use std::sync::LazyLock;
 
@@ -9,21 +9,21 @@ use Increment::Count;
 /// Words, each with its value.
 pub type Words<V> = [(&'static str, V)];
 
-/// What a word of Table B.1 says.
+/// The meaning of a word of Table B.1.
 #[derive(Clone, Copy, Debug, PartialEq, Eq)]
 pub enum Increment {
     Count(usize),
     Stuffing,
-    /// 33 more, to be added to what comes after it.
+    /// Adds 33 to the increment that follows.
     Escape,
 }
 
-/// What a word of Tables B.5c to B.5e says, without the bits that come after it in the same code.
+/// The meaning of a word of Tables B.5c to B.5e, without the bits that follow it in the same code.
 #[derive(Clone, Copy, Debug, PartialEq, Eq)]
 pub enum Coefficient {
-    /// A run and a level; a sign comes after it.
+    /// A run and a level; a sign follows.
     Pair(usize, i64),
-    /// A run and a level come after it.
+    /// A run and a level follow.
     Escape,
     EndOfBlock,
 }
@@ -70,7 +70,7 @@ pub const INCREMENTS: &Words<Increment> = &[
 /// Table B.2a, macroblock_type of I-pictures, as type bytes of Format 3.
 pub const I_TYPES: &Words<u8> = &[("1", 16), ("01", 17)];
 
-/// Table B.2b, of P-pictures.
+/// Table B.2b, the same for P-pictures.
 pub const P_TYPES: &Words<u8> = &[
     ("1", 10),
     ("01", 8),
@@ -81,7 +81,7 @@ pub const P_TYPES: &Words<u8> = &[
     ("000001", 17),
 ];
 
-/// Table B.2c, of B-pictures.
+/// Table B.2c, the same for B-pictures.
 pub const B_TYPES: &Words<u8> = &[
     ("10", 6),
     ("11", 14),
@@ -163,7 +163,7 @@ pub const PATTERNS: &Words<u8> = &[
     ("000000010", 39),
 ];
 
-/// Table B.4, motion_horizontal_forward_code and its like.
+/// Table B.4, motion_horizontal_forward_code and the other three.
 pub const MOTION_CODES: &Words<i64> = &[
     ("00000011001", -16),
     ("00000011011", -15),
@@ -226,7 +226,7 @@ pub const CHROMA_DC_SIZES: &Words<usize> = &[
     ("11111110", 8),
 ];
 
-/// Tables B.5c to B.5e, but for the words of a run of 0 with a level of 1 and of the end of a block.
+/// Tables B.5c to B.5e, without the words for run 0 with level 1 and for the end of block.
 const COEFFICIENTS: &Words<Coefficient> = &[
     ("011", Pair(1, 1)),
     ("0100", Pair(0, 2)),

@@ -1,14 +1,14 @@
-//! The bits of a slice, and a code read from those that are left.
+//! The bits of a slice, and reading a code from them.
 
 use super::refusals::Refusal;
 
-/// Bits in the order they are read, as a text of `0` and `1`, and how many of them are read.
+/// Bits in reading order, as a text of `0` and `1`, and how many of them are read.
 pub struct Bits {
     text: String,
     pub at: usize,
 }
 
-/// A reading that ends: why, and at which bit.
+/// A refusal: why, and at which bit.
 #[derive(Clone, Copy, Debug, PartialEq, Eq)]
 pub struct Stop {
     pub refusal: Refusal,
@@ -16,7 +16,7 @@ pub struct Stop {
 }
 
 impl Bits {
-    /// The bits of bytes, the most significant of each first.
+    /// The bits of bytes, most significant first.
     pub fn of_bytes(bytes: &[u8]) -> Bits {
         Bits::of_text(bytes.iter().map(|byte| format!("{byte:08b}")).collect())
     }
@@ -25,13 +25,13 @@ impl Bits {
         Bits { text, at: 0 }
     }
 
-    /// All the bits that are left.
+    /// All bits left.
     pub fn left(&self) -> &str {
         &self.text[self.at..]
     }
 
-    /// The value of the word that the bits left start with. "24 when the bits left, however they went on, begin no code";
-    /// where they are the start of a word and end in it, 25.
+    /// The value of the word that the bits left start with. "24 when the bits left, however they went on, begin no code"; 25 when
+    /// they end within a word.
     pub fn code<W: AsRef<str>, V: Copy>(&mut self, words: &[(W, V)]) -> Result<V, Stop> {
         let left = self.left();
         let found = words
@@ -54,7 +54,7 @@ impl Bits {
         })
     }
 
-    /// A number in so many bits, at least one: every word of that length is a code.
+    /// A number of this many bits, at least one: every word of that length is a code.
     pub fn number(&mut self, width: usize) -> Result<usize, Stop> {
         let Some(word) = self.left().get(..width) else {
             return Err(Stop {
@@ -69,7 +69,7 @@ impl Bits {
         Ok(number)
     }
 
-    /// What is read in several steps but is one code: where one of them stops, the code is refused at its start.
+    /// Reads one code in several steps: if one of them stops, the code is refused at its start.
     pub fn one_code<V>(
         &mut self,
         read: impl FnOnce(&mut Bits) -> Result<V, Stop>,

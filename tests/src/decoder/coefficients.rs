@@ -1,9 +1,9 @@
-//! "Coefficients (2.4.4.1 to 2.4.4.3)".
+//! "Coefficients (2.4.4.1 to 2.4.4.3)": from levels to coefficients.
 
 /// Sixty-four weights or coefficients, row by row. "Row is vertical frequency."
 pub type Block = [i64; 64];
 
-/// The standard's `scan[m][n]`: where the coefficient of row m and column n stands in zigzag order.
+/// The standard's `scan[m][n]`: the zigzag position of the coefficient in row m and column n.
 #[rustfmt::skip]
 const SCAN: [usize; 64] = [
      0,  1,  5,  6, 14, 15, 27, 28,
@@ -30,7 +30,7 @@ pub const DEFAULT_INTRA_MATRIX: Block = [
 
 pub const DEFAULT_NON_INTRA_MATRIX: Block = [16; 64];
 
-/// The same sixty-four numbers row by row, from zigzag order.
+/// Reorders 64 numbers from zigzag order to row by row.
 pub fn from_zigzag(zigzag: &Block) -> Block {
     SCAN.map(|position| zigzag[position])
 }
@@ -62,7 +62,7 @@ fn limited(result: i64) -> i64 {
 /// "Pasts are 1024 at a slice's start and after any skipped or non-intra macroblock."
 pub const FIRST_DC_PAST: i64 = 1024;
 
-/// The levels of a block by their place in zigzag order, each scaled by `scaled(level, weight)`.
+/// The levels of a block by zigzag position, each scaled by `scaled(level, weight)`.
 pub fn coefficients(levels: &Block, matrix: &Block, scaled: impl Fn(i64, i64) -> i64) -> Block {
     let levels = from_zigzag(levels);
     std::array::from_fn(|place| scaled(levels[place], matrix[place]))

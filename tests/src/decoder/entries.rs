@@ -1,4 +1,4 @@
-//! The public entries besides `reconstruct`, each with its refusal, and all of them as one table.
+//! The public entries other than `reconstruct`, each with its refusal, and all entries as one table.
 
 use super::coefficients::{intra_ac, non_intra};
 use super::file::record;
@@ -7,7 +7,7 @@ use super::slice::ReadSlice;
 use super::transform::inverse_transform;
 use super::vectors::{code_legal, decoded, f_of, residual_legal};
 
-/// What a record shown by itself is: its kind, and where its body lies in the file.
+/// A record shown by itself: its kind, and where its body is in the file.
 #[derive(Clone, Copy, Debug, PartialEq, Eq)]
 pub struct Shown {
     pub kind: u8,
@@ -15,13 +15,13 @@ pub struct Shown {
     pub length: usize,
 }
 
-/// From a file, a forward and a backward reference to a picture in the output.
+/// Makes a picture in the output from a file, a forward and a backward reference.
 pub type Reconstruct = fn(&[u8], &[u8], &[u8], &mut [u8]) -> Answer;
 
-/// From 64 coefficients to 64 residues, row by row.
+/// Turns 64 coefficients into 64 residues, row by row.
 pub type Transform = fn(&[i16; 64]) -> (u32, [i16; 64]);
 
-/// The entries of an implementation. A number beside a value is 0, or that of a refusal.
+/// The entries of an implementation. A number beside a value is 0 or a refusal's.
 #[derive(Clone, Copy)]
 pub struct Entries {
     pub reconstruct: Reconstruct,

@@ -1,4 +1,4 @@
-//! "The Format 3 file": its records, and the fields of the header, matrix and slice records.
+//! "The Format 3 file": its records, and the fields of header, matrix and slice records.
 
 use super::coefficients::{from_zigzag, Block};
 use super::refusals::{require, Refusal};
@@ -16,7 +16,7 @@ pub const MACROBLOCK: u8 = 4;
 pub struct Record<'a> {
     pub kind: u8,
     pub body: &'a [u8],
-    /// The offset just past the record.
+    /// The offset just after the record.
     pub end: usize,
 }
 
@@ -26,7 +26,7 @@ pub fn version(file: &[u8]) -> Result<(), Refusal> {
     require(*first == VERSION, Refusal::Version)
 }
 
-/// The record whose length stands at `offset`. "3 record cut: fewer than 3 bytes left, length 0, or past the end."
+/// The record whose length is at `offset`. "3 record cut: fewer than 3 bytes left, length 0, or past the end."
 /// "4 kind not 1..4."
 pub fn record(file: &[u8], offset: usize) -> Result<Record<'_>, Refusal> {
     let left = file.get(offset..).ok_or(Refusal::RecordCut)?;
@@ -53,7 +53,7 @@ pub enum PictureType {
     B,
 }
 
-/// A direction's full-pel flag and f_code; an f_code of 0 where the type doesn't use that direction.
+/// A direction's full-pel flag and f_code; the f_code is 0 if the type doesn't use that direction.
 #[derive(Clone, Copy, Debug, PartialEq, Eq)]
 pub struct Direction {
     pub full_pel: bool,
@@ -69,7 +69,7 @@ pub struct Header {
 }
 
 impl PictureType {
-    /// "(P forward, B both)": whether the type uses the forward, and the backward direction.
+    /// "(P forward, B both)": whether the type uses the forward and the backward direction.
     pub fn uses(self) -> [bool; 2] {
         match self {
             PictureType::I => [false, false],
@@ -132,7 +132,7 @@ fn direction(used: bool, flag: u8, f_code: u8) -> Result<Direction, Refusal> {
     })
 }
 
-/// The place of the intra matrix among the two; the non-intra one is the other.
+/// The index of the intra matrix; the other one is non-intra.
 pub const INTRA: usize = 0;
 pub const NON_INTRA: usize = 1;
 

@@ -5,13 +5,13 @@ use super::file::{Direction, Header, PictureType};
 use super::refusals::{require, Refusal};
 use super::vectors::{code_legal, decoded, f_of, residual_legal, Vector, Vectors};
 
-/// What a slice hands from macroblock to macroblock.
+/// What a slice carries from macroblock to macroblock. A past is a predictor.
 #[derive(Clone, Debug)]
 pub struct SliceState {
     pub scale: i64,
-    /// Of Y, Cb and Cr.
+    /// For Y, Cb and Cr.
     pub dc_pasts: [i64; 3],
-    /// Of the forward and the backward direction.
+    /// For the forward and the backward direction.
     pub vector_pasts: [Vector; 2],
     pub last: Last,
 }
@@ -75,12 +75,12 @@ pub fn legal_types(picture_type: PictureType) -> &'static [u8] {
     }
 }
 
-/// What a macroblock record says, its vectors decoded.
+/// What a macroblock record says, with its vectors decoded.
 pub struct Macroblock {
-    /// How many macroblocks before its own it skips.
+    /// How many macroblocks it skips before its own.
     pub skipped: usize,
     pub intra: bool,
-    /// As they are used, doubled where the full-pel flag says so; none for intra.
+    /// The vectors as used, doubled if the full-pel flag is set; none for intra.
     pub vectors: Vectors,
     /// Four of Y, then Cb, then Cr.
     pub blocks: [Option<CodedBlock>; 6],
@@ -89,13 +89,13 @@ pub struct Macroblock {
 }
 
 pub struct CodedBlock {
-    /// Of intra blocks alone.
+    /// Only for intra blocks.
     pub dc: Option<i64>,
-    /// The levels by their place in zigzag order.
+    /// The levels by zigzag position.
     pub levels: Block,
 }
 
-/// The part of the body that is not yet read. "A field that isn't wholly inside its record is refused by 6."
+/// The unread part of the body. "A field that isn't wholly inside its record is refused by 6."
 struct Fields<'a>(&'a [u8]);
 
 impl Fields<'_> {
@@ -123,7 +123,7 @@ impl Fields<'_> {
 }
 
 /// "Kind 4, macroblock: type byte, 2-byte address increment, then as the type says: scale; forward codes; backward codes;
-/// pattern byte; blocks." `next_address` is the first that is not yet made.
+/// pattern byte; blocks." `next_address` is the first address without a macroblock.
 pub fn macroblock(
     body: &[u8],
     header: &Header,
@@ -187,7 +187,7 @@ fn increment(
     Ok(increment)
 }
 
-/// The vectors of the directions that the type uses, and the pasts they leave.
+/// The vectors of the directions that the type uses, and the new pasts.
 fn vectors(
     fields: &mut Fields,
     header: &Header,
@@ -243,7 +243,7 @@ fn pattern(fields: &mut Fields, macroblock_type: MacroblockType) -> Result<u8, R
     Ok(pattern)
 }
 
-/// The blocks that the pattern names, and the DC pasts they leave.
+/// The blocks that the pattern codes, and the new DC pasts.
 fn blocks(
     fields: &mut Fields,
     macroblock_type: MacroblockType,

@@ -1,6 +1,5 @@
-//! Another decoder of Format 3, for comparison only: written from document 01 alone, and its reader of raw slices from request
-//! No. 2 and Annex B of the standard, for clarity, not speed. Each module renders one heading, each function one sentence, which
-//! its comment quotes.
+//! A second decoder of Format 3, to compare with: written for clarity, not speed, from document 01 alone, and for raw slices from
+//! request No. 2 and Annex B. Each module follows one heading, and each function one sentence, which its comment quotes.
 
 pub mod annex_b;
 pub mod bits;

@@ -1,4 +1,4 @@
-//! "The program `panel` reads a reel": what it prints for each picture, and the pictures themselves.
+//! "The program `panel` reads a reel": the line it prints for each picture, and the pictures themselves.
 
 use super::entries::Reconstruct;
 use super::file::{self, Header, PictureType};
@@ -22,14 +22,14 @@ pub const NO_LIMITS: Limits = Limits {
     macroblocks: usize::MAX,
 };
 
-/// A line that is printed, the answer that it tells, and the picture's bytes where it was accepted.
+/// A printed line, the answer it shows, and the picture's bytes if it was accepted.
 pub struct Line {
     pub text: String,
     pub answer: Option<Answer>,
     pub picture: Option<Vec<u8>>,
 }
 
-/// What a reel prints, its pictures made by `reconstruct`.
+/// What is printed for a reel whose pictures `reconstruct` makes.
 pub fn play(reel: &[u8], limits: Limits, reconstruct: Reconstruct) -> Vec<Line> {
     if reel.len() > limits.reel_bytes {
         return vec![word("long".into())];
@@ -56,7 +56,7 @@ pub fn play(reel: &[u8], limits: Limits, reconstruct: Reconstruct) -> Vec<Line> 
     lines
 }
 
-/// The text that `panel` prints: its lines, each ended.
+/// The whole text that `panel` prints.
 pub fn text(lines: &[Line]) -> String {
     lines
         .iter()
@@ -78,7 +78,7 @@ fn file_at(reel: &[u8], offset: usize) -> Option<&[u8]> {
     rest.get(..u32::from_be_bytes(*length) as usize)
 }
 
-/// The last two accepted pictures of type I or P.
+/// The last two accepted I or P pictures.
 #[derive(Default)]
 struct References {
     older: Vec<u8>,
@@ -158,7 +158,7 @@ fn lent_bytes(size: Size, limits: Limits) -> usize {
     }
 }
 
-/// The sums of the planes' pels.
+/// The sum of each plane's pels.
 fn sums(size: Size, picture: &[u8]) -> [u64; 3] {
     size.planes().map(|plane| {
         let pels = &picture[plane.start..][..plane.width * plane.height];

@@ -1,4 +1,4 @@
-//! From the records of a file to the pels of a picture: the order of the tests, and what a refusal leaves.
+//! Makes a picture from the records of a file: the order of the tests, and what a refusal leaves.
 
 use super::coefficients::{
     coefficients, intra_ac, non_intra, Block, DEFAULT_INTRA_MATRIX, DEFAULT_NON_INTRA_MATRIX,
@@ -9,8 +9,8 @@ use super::refusals::{require, Answer, Refusal};
 use super::transform::inverse_transform;
 use super::vectors::{fits, prediction, Vectors};
 
-/// One file to one picture. "Order: 1, 2; in each record 3, 4, 5", then what its kind says.
-/// The output is written record by record, so a refusal leaves what the records before it made.
+/// Makes the picture of a file. "Order: 1, 2; in each record 3, 4, 5", then the tests of its kind.
+/// The output is written record by record, so a refusal leaves the macroblocks of the records before it.
 pub fn reconstruct(file: &[u8], forward: &[u8], backward: &[u8], output: &mut [u8]) -> Answer {
     let mut picture = Picture {
         references: [forward, backward],
@@ -39,15 +39,15 @@ struct Picture<'a> {
     references: [&'a [u8]; 2],
     output: &'a mut [u8],
     header: Option<Header>,
-    /// Intra, then non-intra, where given.
+    /// Intra, then non-intra, if given.
     matrices: [Option<Block>; 2],
     slice: Option<SliceState>,
-    /// "Made is the count of macroblocks written": also the next address.
+    /// "Made is the count of macroblocks written"; it is also the next address.
     made: usize,
 }
 
 impl Picture<'_> {
-    /// Reads the whole file; `place` is where it got to.
+    /// Reads the whole file; `place` is how far it got.
     fn read(&mut self, file: &[u8], place: &mut usize) -> Result<(), Refusal> {
         file::version(file)?;
         *place = 1;
@@ -58,7 +58,7 @@ impl Picture<'_> {
         require(self.whole(), Refusal::FileEnds)
     }
 
-    /// "A record acts wholly, its skipped macroblocks included, or not at all." Gives the offset after it.
+    /// "A record acts wholly, its skipped macroblocks included, or not at all." Returns the offset after it.
     fn record(&mut self, file: &[u8], offset: usize) -> Result<usize, Refusal> {
         let record = file::record(file, offset)?;
         require(self.in_turn(record.kind), Refusal::OutOfTurn)?;
@@ -98,7 +98,7 @@ impl Picture<'_> {
             .is_some_and(|header| self.made == header.size.macroblocks())
     }
 
-    /// The header's fields, then "19 output, 20 forward, 21 backward length. Output is 384 × N; a used reference too, an
+    /// Tests the header's fields, then "19 output, 20 forward, 21 backward length. Output is 384 × N; a used reference too, an
     /// unused one is empty."
     fn act_header(&mut self, body: &[u8]) -> Result<(), Refusal> {
         let header = file::header(body)?;
@@ -128,7 +128,7 @@ impl Picture<'_> {
         Ok(())
     }
 
-    /// "Last 18: skipped macroblocks in order, then its own, forward before backward." Then all of them are written.
+    /// "Last 18: skipped macroblocks in order, then its own, forward before backward." Then writes them all.
     fn act_macroblock(
         &mut self,
         header: &Header,
@@ -204,7 +204,7 @@ impl Picture<'_> {
     }
 }
 
-/// "Skipped: P copies with vector 0; B repeats the last macroblock's directions and vectors." No other picture skips.
+/// "Skipped: P copies with vector 0; B repeats the last macroblock's directions and vectors." An I picture skips none.
 fn skip_vectors(picture_type: PictureType, last: Last) -> Vectors {
     match (picture_type, last) {
         (PictureType::B, Last::Predicted(vectors)) => vectors,
@@ -219,7 +219,7 @@ fn require_fit(header: &Header, address: usize, vectors: Vectors) -> Result<(), 
     Ok(())
 }
 
-/// Where a block's first pel stands from its macroblock's in the plane: the four of Y left to right, top to bottom.
+/// The offset of a block's first pel from its macroblock's in the plane: the four Y blocks go left to right, top to bottom.
 fn block_corner(block: usize) -> (usize, usize) {
     if component(block) == 0 {
         (8 * (block % 2), 8 * (block / 2))

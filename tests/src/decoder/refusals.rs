@@ -1,4 +1,4 @@
-//! "Refusals by who can cause them", and those that requests add.
+//! "Refusals by who can cause them", and those that later requests add.
 
 #[derive(Clone, Copy, Debug, PartialEq, Eq)]
 pub enum Refusal {
@@ -35,7 +35,7 @@ impl Refusal {
     }
 }
 
-/// `Ok` where a test holds, else the refusal that it stands for.
+/// `Ok` if a test holds, else its refusal.
 pub fn require(holds: bool, refusal: Refusal) -> Result<(), Refusal> {
     if holds {
         Ok(())

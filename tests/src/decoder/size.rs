@@ -1,8 +1,8 @@
-//! "The picture and its size".
+//! "The picture and its size": limits, planes and addresses.
 
-const MOST_WIDE: usize = 48;
-const MOST_HIGH: usize = 36;
-pub const MOST_MACROBLOCKS: usize = 396;
+const MAX_WIDTH: usize = 48;
+const MAX_HEIGHT: usize = 36;
+pub const MAX_MACROBLOCKS: usize = 396;
 
 /// "With N macroblocks it is 384 × N bytes".
 pub const MACROBLOCK_BYTES: usize = 384;
@@ -26,16 +26,16 @@ pub struct Plane {
 impl Size {
     /// "A picture is at most 48 macroblocks wide, 36 high, 396 in all, and at least 1 by 1."
     pub fn new(width: usize, height: usize) -> Option<Size> {
-        let legal = (1..=MOST_WIDE).contains(&width)
-            && (1..=MOST_HIGH).contains(&height)
-            && width * height <= MOST_MACROBLOCKS;
+        let legal = (1..=MAX_WIDTH).contains(&width)
+            && (1..=MAX_HEIGHT).contains(&height)
+            && width * height <= MAX_MACROBLOCKS;
         legal.then_some(Size { width, height })
     }
 
-    /// Every size that fits.
+    /// Every legal size.
     pub fn all() -> Vec<Size> {
-        (1..=MOST_WIDE)
-            .flat_map(|width| (1..=MOST_HIGH).filter_map(move |height| Size::new(width, height)))
+        (1..=MAX_WIDTH)
+            .flat_map(|width| (1..=MAX_HEIGHT).filter_map(move |height| Size::new(width, height)))
             .collect()
     }
 
@@ -66,7 +66,7 @@ impl Size {
 }
 
 impl Plane {
-    /// Where the pel at column `x` of line `y` lies in the picture's bytes: "each row by row".
+    /// The index in the picture's bytes of the pel at column `x` of line `y`: "each row by row".
     pub fn offset(self, x: usize, y: usize) -> usize {
         self.start + y * self.width + x
     }

@@ -5,7 +5,7 @@ use super::annex_b::{self, Coefficient, Increment, Words};
 use super::bits::{Bits, Stop};
 use super::file::{self, Header, PictureType, MACROBLOCK, SLICE};
 use super::refusals::Refusal;
-use super::size::MOST_MACROBLOCKS;
+use super::size::MAX_MACROBLOCKS;
 
 /// "Picture size, type and f_codes are given as in a header."
 #[derive(Clone, Copy, Debug, PartialEq, Eq)]
@@ -27,11 +27,11 @@ pub struct SliceAnswer {
     pub bit: usize,
 }
 
-/// From the bytes of a slice to records in the buffer.
+/// Turns the bytes of a slice into records in the buffer.
 pub type ReadSlice = fn(&[u8], Given, &mut [u8]) -> SliceAnswer;
 
 impl Given {
-    /// The fields of a header of these numbers, its flags 0.
+    /// The fields of a header with these numbers and both flags 0.
     pub fn fields(self) -> [u32; 7] {
         let [forward, backward] = self.f_codes;
         [
@@ -45,7 +45,7 @@ impl Given {
         ]
     }
 
-    /// "A wrong given number is 8": the header of these numbers.
+    /// "A wrong given number is 8": the header with these numbers.
     pub fn header(self) -> Result<Header, Refusal> {
         let mut body = Vec::new();
         for field in self.fields() {
@@ -119,7 +119,7 @@ fn start_codes(height: usize) -> Vec<(String, usize)> {
     (1..=height).map(start_code).collect()
 }
 
-/// "Stuffing .. and extra information are dropped": extra_bit_slice, and where it is 1 a byte and another such bit.
+/// "Stuffing .. and extra information are dropped": extra_bit_slice and, if it is 1, a byte and another such bit.
 fn extra_information(bits: &mut Bits) -> Result<(), Stop> {
     while bits.number(1)? == 1 {
         bits.number(8)?;
@@ -145,7 +145,7 @@ fn increment(bits: &mut Bits) -> Result<usize, Stop> {
             Increment::Count(count) => (count, true),
         };
         sum += more;
-        require_code(sum <= MOST_MACROBLOCKS, start)?;
+        require_code(sum <= MAX_MACROBLOCKS, start)?;
         if last {
             return Ok(sum);
         }
@@ -155,7 +155,7 @@ fn increment(bits: &mut Bits) -> Result<usize, Stop> {
     }
 }
 
-/// `Ok` where a code that was read from `start` on may stand there.
+/// `Ok` if a code that was read from `start` on is allowed there.
 fn require_code(holds: bool, start: usize) -> Result<(), Stop> {
     let refused = Stop {
         refusal: Refusal::SliceCode,
@@ -202,7 +202,7 @@ fn types(picture_type: PictureType) -> &'static Words<u8> {
     }
 }
 
-/// A component's code and residual, "a byte each". The residual has f_code - 1 bits, and none where the code is 0.
+/// A component's code and residual, "a byte each". The residual has f_code - 1 bits, or none if the code is 0.
 fn motion(bits: &mut Bits, f_code: usize) -> Result<[u8; 2], Stop> {
     let code = bits.code(annex_b::MOTION_CODES)?;
     let residual = if f_code > 1 && code != 0 {
@@ -228,8 +228,8 @@ fn block(bits: &mut Bits, intra: bool, index: usize) -> Result<Vec<u8>, Stop> {
     Ok(body)
 }
 
-/// dct_dc_size, by the table of the block's component, and a dct_dc_differential of so many bits: one that starts with 0 is
-/// negative.
+/// dct_dc_size, by the table of the block's component, and a dct_dc_differential of that many bits, negative if it starts with
+/// a 0.
 fn dc_difference(bits: &mut Bits, index: usize) -> Result<i64, Stop> {
     let size = if index < 4 {
         bits.code(annex_b::LUMA_DC_SIZES)?
@@ -248,7 +248,7 @@ fn dc_difference(bits: &mut Bits, index: usize) -> Result<i64, Stop> {
     })
 }
 
-/// The runs and levels of a block up to its end. "24 when .. a code takes .. a coefficient past position 63".
+/// The runs and levels up to the end of the block. "24 when .. a code takes .. a coefficient past position 63".
 fn pairs(bits: &mut Bits, intra: bool) -> Result<Vec<(usize, i64)>, Stop> {
     let mut pairs = Vec::new();
     let mut words = match intra {

@@ -1,4 +1,4 @@
-//! "Inverse transform".
+//! "Inverse transform": the exact sum, without rounding in between.
 
 use super::coefficients::Block;
 
@@ -6,7 +6,7 @@ use super::coefficients::Block;
 const COSINES: [i64; 7] = [1028428, 968758, 871859, 741455, 582558, 401273, 204567];
 
 /// The table's number for cos(angle × pi / 16): "the entry of that size, with its sign".
-/// A multiple of 8 is never asked for: an odd number times a frequency from 1 to 7 is none.
+/// The angle is never a multiple of 8: an odd number times a frequency from 1 to 7 cannot be one.
 fn cosine(angle: usize) -> i64 {
     match angle % 32 {
         i @ 1..=7 => COSINES[i - 1],

@@ -1,11 +1,11 @@
-//! "Vectors and prediction (2.4.4.2, 2.4.4.3)".
+//! "Vectors and prediction (2.4.4.2, 2.4.4.3)": from codes to vectors, and from vectors to predicted pels.
 
 use super::size::{Plane, Size};
 
-/// Horizontal and vertical part, in half pels.
+/// Horizontal and vertical component, in half pels.
 pub type Vector = [i64; 2];
 
-/// The forward and the backward vector of a macroblock, where it uses them.
+/// A macroblock's forward and backward vector, if it uses them.
 pub type Vectors = [Option<Vector>; 2];
 
 /// "With f = 2^(f_code - 1)".
@@ -40,7 +40,7 @@ pub fn decoded(f: i64, past: i64, code: i64, residual: i64) -> i64 {
     }
 }
 
-/// "Luma takes the floor of half and the odd bit": whole pels, and 1 for a half pel more.
+/// "Luma takes the floor of half and the odd bit": whole pels, and 1 for an extra half pel.
 pub fn luma(vector: i64) -> (i64, i64) {
     (vector.div_euclid(2), vector.rem_euclid(2))
 }
@@ -67,7 +67,7 @@ pub fn mean(sum: i64, count: i64) -> i64 {
     (sum + count / 2) / count
 }
 
-/// The prediction at column `x` and line `y` of a plane from one reference, whose vector fits.
+/// The pel predicted at column `x` and line `y` of a plane from one reference, whose vector fits.
 fn from_reference(reference: &[u8], plane: Plane, x: usize, y: usize, vector: Vector) -> i64 {
     let split = if plane.side == 16 { luma } else { chroma };
     let [(right, half_right), (down, half_down)] = vector.map(split);
@@ -82,7 +82,7 @@ fn from_reference(reference: &[u8], plane: Plane, x: usize, y: usize, vector: Ve
     mean(sum, (1 + half_right) * (1 + half_down))
 }
 
-/// The prediction at column `x` and line `y` of a plane: of the one direction used, or the mean of both.
+/// The pel predicted at column `x` and line `y` of a plane: from the one direction used, or the mean of both.
 pub fn prediction(
     references: [&[u8]; 2],
     plane: Plane,

@@ -1,4 +1,4 @@
-//! Single pictures: one call of `reconstruct` each.
+//! Makes single pictures: each case is one call of `reconstruct`.
 
 use super::damage::damaged;
 use super::file::File;
@@ -14,9 +14,9 @@ pub struct Case {
     pub file: Vec<u8>,
     pub forward: Vec<u8>,
     pub backward: Vec<u8>,
-    /// The output before the call: random bytes, so that each byte that is written, or left, shows.
+    /// The output before the call: random bytes, so that each byte written or left untouched shows.
     pub output: Vec<u8>,
-    /// Nothing was damaged: the picture is to be accepted.
+    /// Nothing was damaged, so the picture must be accepted.
     pub legal: bool,
 }
 
@@ -24,7 +24,7 @@ pub struct Case {
 #[derive(Clone, Copy, PartialEq, Eq)]
 enum Fault {
     None,
-    /// Here and there a vector or a DC is just out of its range.
+    /// Now and then a vector or a DC is just out of range.
     Stray,
     Damage,
     /// The output or a reference has a wrong length.
@@ -39,11 +39,11 @@ const FAULTS: [Fault; 12] = {
     ]
 };
 
-/// A case by its seed and number.
+/// The case with this seed and number.
 pub fn case(seed: u64, number: u64) -> Case {
     let random = &mut Random::new(&[seed, number]);
     let header = numbered_header(random, number);
-    // Large pictures have short blocks, for the time that they take.
+    // Large pictures get short blocks, to save time.
     let most_pairs = if header.size.macroblocks() > 60 {
         5
     } else {
@@ -59,7 +59,7 @@ pub fn case(seed: u64, number: u64) -> Case {
         return case;
     }
     case.legal = false;
-    // Another fault may have damage besides, so that it matters what is tested first.
+    // Another fault may come with damage, so that the order of the tests matters.
     if fault == Fault::Damage || random.once_in(4) {
         case.file = damaged(random, &file);
     }
@@ -69,7 +69,7 @@ pub fn case(seed: u64, number: u64) -> Case {
     case
 }
 
-/// A picture that is legal but for its style's strays, its references and its output.
+/// A picture that is legal except for its style's strays, with references and output.
 fn written(random: &mut Random, header: Header, style: Style) -> (File, Case) {
     let file = picture(random, header, style);
     let bytes = header.size.bytes();
@@ -87,7 +87,7 @@ fn written(random: &mut Random, header: Header, style: Style) -> (File, Case) {
     (file, case)
 }
 
-/// The output, a reference, or more of them have another length than the header asks for.
+/// The output or a reference, or several of them, have the wrong length.
 fn lend_other_lengths(random: &mut Random, case: &mut Case) {
     let lent = [&mut case.output, &mut case.forward, &mut case.backward];
     let surely = random.below(3);

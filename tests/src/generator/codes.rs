@@ -1,14 +1,13 @@
-//! Legal slices: the codes of random symbols one after another. Every word of every table is as likely as any other there, so
-//! that all of them come up.
+//! Writes legal slices: codes of random symbols. Every word of a table is equally likely, so that all of them occur.
 
 use std::collections::BTreeSet;
 
 use crate::decoder::annex_b::{self, Coefficient, Increment, Words};
 use crate::decoder::file::{Header, PictureType};
-use crate::decoder::size::MOST_MACROBLOCKS;
+use crate::decoder::size::MAX_MACROBLOCKS;
 use crate::random::Random;
 
-/// Where in a slice a code stands.
+/// Where in a slice a code occurs.
 #[derive(Clone, Copy, Debug, PartialEq, Eq, PartialOrd, Ord)]
 pub enum Place {
     StartCode,
@@ -54,7 +53,7 @@ impl SliceStyle {
     }
 }
 
-/// The codes of a slice of a picture with this header.
+/// The codes of a slice in a picture with this header.
 pub fn slice(random: &mut Random, header: &Header, style: SliceStyle) -> Vec<Code> {
     let mut writer = Writer {
         random,
@@ -69,12 +68,12 @@ pub fn slice(random: &mut Random, header: &Header, style: SliceStyle) -> Vec<Cod
     writer.codes
 }
 
-/// The bytes of codes, the last filled up with zeros.
+/// The bytes of codes; the last byte is padded with zeros.
 pub fn bytes_of(codes: &[Code]) -> Vec<u8> {
     bytes_of_text(&codes.iter().map(|code| &code.1[..]).collect::<String>())
 }
 
-/// The bytes of a text of `0` and `1`, the last filled up with zeros.
+/// The bytes of a text of `0` and `1`; the last byte is padded with zeros.
 pub fn bytes_of_text(text: &str) -> Vec<u8> {
     let byte = |bits: &[u8]| {
         let set = bits.iter().enumerate().filter(|(_, bit)| **bit == b'1');
@@ -83,7 +82,7 @@ pub fn bytes_of_text(text: &str) -> Vec<u8> {
     text.as_bytes().chunks(8).map(byte).collect()
 }
 
-/// The bits of an escape: a run and a level's word.
+/// The bits of an escape: a run and the word of a level.
 pub fn escape(run: usize, level: &str) -> String {
     format!("000001{run:06b}{level}")
 }
@@ -109,7 +108,7 @@ impl Writer<'_> {
         self.number(place, number, width);
     }
 
-    /// Any word of a table. Gives its value.
+    /// Writes a random word of a table, and returns its value.
     fn any_word<V: Copy>(&mut self, place: Place, words: &Words<V>) -> V {
         let (word, value) = self.random.pick(words);
         self.code(place, word);
@@ -155,13 +154,13 @@ impl Writer<'_> {
         }
     }
 
-    /// Stuffing, then escapes, then a count: all of it 396 at the most.
+    /// Writes stuffing, then escapes, then an increment: at most 396 in all.
     fn increment(&mut self) {
         while self.random.once_in(self.style.stuffing_once_in) {
             self.code(Place::Increment, word_of(Increment::Stuffing));
         }
         if self.random.once_in(self.style.escape_once_in) {
-            let most = MOST_MACROBLOCKS / 33 - 1;
+            let most = MAX_MACROBLOCKS / 33 - 1;
             let escapes = self.random.pick(&[1, 1, 2, most]);
             for _ in 0..escapes {
                 self.code(Place::Increment, word_of(Increment::Escape));
@@ -197,7 +196,7 @@ impl Writer<'_> {
         }
     }
 
-    /// Pairs as long as they fit: at least one where the block isn't intra.
+    /// Writes pairs as long as they fit, and at least one in a non-intra block.
     fn coefficients(&mut self, intra: bool) {
         let (mut from, mut place, least) = match intra {
             true => (1, Place::NextCoefficient, 0),
@@ -240,7 +239,7 @@ impl Writer<'_> {
     }
 }
 
-/// The words of Tables B.5c to B.5e at a coefficient's place.
+/// The words of Tables B.5c to B.5e for a first or a later coefficient.
 fn coefficient_words(place: Place) -> &'static Words<Coefficient> {
     match place {
         Place::FirstCoefficient => &annex_b::FIRST_COEFFICIENTS,
@@ -255,8 +254,8 @@ pub fn word_of(increment: Increment) -> &'static str {
     found.expect("Table B.1 has every increment up to 33").0
 }
 
-/// What is to come up in the slices that are made: every word of every table at its place, coefficients with both signs, and
-/// every run and level of an escape.
+/// What the generated slices must contain: every word of every table at its place, coefficients with both signs, and every run and
+/// level of an escape.
 pub fn all_words() -> BTreeSet<Code> {
     let mut all = BTreeSet::new();
     let mut add = |place, words: Vec<String>| {
@@ -270,7 +269,7 @@ pub fn all_words() -> BTreeSet<Code> {
     add(Place::MotionCode, texts(annex_b::MOTION_CODES));
     add(Place::LumaDcSize, texts(annex_b::LUMA_DC_SIZES));
     add(Place::ChromaDcSize, texts(annex_b::CHROMA_DC_SIZES));
-    // A coefficient that isn't the first of its block comes after a position: a run of 63 would lead past the last.
+    // A later coefficient has at least one position before it, so a run of 63 would go past the last.
     for (place, runs) in [(Place::FirstCoefficient, 64), (Place::NextCoefficient, 63)] {
         all.extend(plain_coefficients(place).map(|word| (place, word)));
         all.extend((0..runs).map(|run| escaped_run(place, run)));
@@ -285,8 +284,7 @@ pub fn texts<V>(words: &Words<V>) -> Vec<String> {
     words.iter().map(|(word, _)| word.to_string()).collect()
 }
 
-/// The codes of a coefficient, the first of a block that isn't intra or another: of escapes those with the least and the
-/// greatest run.
+/// The codes of a coefficient, the first of a non-intra block or another; escapes only with run 0 and run 63.
 pub fn coefficient_texts(first: bool) -> Vec<String> {
     let place = if first {
         Place::FirstCoefficient
@@ -298,7 +296,7 @@ pub fn coefficient_texts(first: bool) -> Vec<String> {
     plain_coefficients(place).chain(escapes).collect()
 }
 
-/// The codes of a coefficient's place but for escapes.
+/// The codes of a first or later coefficient, without escapes.
 fn plain_coefficients(place: Place) -> impl Iterator<Item = String> {
     let words = coefficient_words(place).iter();
     words.flat_map(|(word, value)| match value {
@@ -308,17 +306,17 @@ fn plain_coefficients(place: Place) -> impl Iterator<Item = String> {
     })
 }
 
-/// An escape with any level, as it counts for its run.
+/// An escape as it counts for its run, with any level.
 fn escaped_run(place: Place, run: usize) -> Code {
     (place, escape(run, ""))
 }
 
-/// An escape with any run and at any place, as it counts for its level.
+/// An escape as it counts for its level, with any run and at any place.
 fn escaped_level(level: &str) -> Code {
     (Place::NextCoefficient, format!("000001, {level}"))
 }
 
-/// A code as it counts towards `all_words`: an escape counts for its run and for its level.
+/// What a code counts for in `all_words`: an escape counts for its run and for its level.
 pub fn counted(code: &Code) -> Vec<Code> {
     let (place, word) = code;
     let coefficient = matches!(place, Place::FirstCoefficient | Place::NextCoefficient);

@@ -1,11 +1,11 @@
-//! Damaged files: a field out of its range, cut, too long, out of order, or with bytes flipped.
+//! Damages files: fields out of range, cut, too long, out of order, or with bytes flipped.
 
 use std::collections::BTreeSet;
 
 use super::file::{put, Field, File};
 use crate::random::Random;
 
-/// The file's bytes, damaged in one way. It may happen to stay legal.
+/// The file's bytes, damaged in one way. They may happen to stay legal.
 pub fn damaged(random: &mut Random, file: &File) -> Vec<u8> {
     match random.below(10) {
         0..=4 => fields_changed(random, file),
@@ -17,8 +17,8 @@ pub fn damaged(random: &mut Random, file: &File) -> Vec<u8> {
     }
 }
 
-/// A field has one of the values worth a try, each name of a field being as likely as any other. Then perhaps some of the
-/// fields after it, or its record ends there, so that it matters what is tested first.
+/// Gives a field one of the values worth trying; each field name is equally likely. Perhaps changes some fields after it, or ends
+/// its record there, so that the order of the tests matters.
 fn fields_changed(random: &mut Random, file: &File) -> Vec<u8> {
     let names: BTreeSet<&str> = file.fields.iter().map(|field| field.name).collect();
     let name = random.pick(&Vec::from_iter(names));
@@ -48,7 +48,7 @@ impl Field {
     }
 }
 
-/// The file ends early: anywhere, or at the start of a record.
+/// Cuts the file: anywhere, or at the start of a record.
 fn cut(random: &mut Random, file: &File) -> Vec<u8> {
     let anywhere = random.below(file.bytes.len());
     let at_record = random.pick(&file.records);
@@ -57,7 +57,7 @@ fn cut(random: &mut Random, file: &File) -> Vec<u8> {
     bytes
 }
 
-/// More bytes follow: some random ones, or the file's last record once more.
+/// Appends bytes: some random ones, or the last record again.
 fn lengthened(random: &mut Random, file: &File) -> Vec<u8> {
     let mut bytes = file.bytes.clone();
     if random.once_in(2) {
@@ -69,7 +69,7 @@ fn lengthened(random: &mut Random, file: &File) -> Vec<u8> {
     bytes
 }
 
-/// A record is left out, said twice, or changes places with another.
+/// Drops a record, repeats it, or swaps it with another.
 fn reordered(random: &mut Random, file: &File) -> Vec<u8> {
     let mut records: Vec<Vec<u8>> = (0..file.records.len())
         .map(|index| file.record_bytes(index))
@@ -85,7 +85,7 @@ fn reordered(random: &mut Random, file: &File) -> Vec<u8> {
     [version, &records.concat()].concat()
 }
 
-/// A record's body is longer or shorter, and its length says so.
+/// Makes a record's body longer or shorter, and its length with it.
 fn body_resized(random: &mut Random, file: &File) -> Vec<u8> {
     let mut bytes = file.bytes.clone();
     let index = random.below(file.records.len());
@@ -103,7 +103,7 @@ fn body_resized(random: &mut Random, file: &File) -> Vec<u8> {
     bytes
 }
 
-/// Up to three bytes have a bit flipped or another value.
+/// Flips a bit or changes the value of up to three bytes.
 fn flipped(random: &mut Random, file: &File) -> Vec<u8> {
     let mut bytes = file.bytes.clone();
     for _ in 0..random.within(1, 3) {

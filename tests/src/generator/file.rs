@@ -1,8 +1,8 @@
-//! The bytes of a Format 3 file as they are written, and which field each of them is.
+//! Writes a Format 3 file, and remembers which field each byte belongs to.
 
 use crate::decoder::file::VERSION;
 
-/// A Format 3 file, with what a damage needs to know of it.
+/// A Format 3 file, with what is needed to damage it.
 #[derive(Clone)]
 pub struct File {
     pub bytes: Vec<u8>,
@@ -11,7 +11,7 @@ pub struct File {
     pub records: Vec<usize>,
 }
 
-/// A field of one or two bytes, and values worth a try in its place: the ends of its range and those just past them.
+/// A field of one or two bytes, and values worth trying in its place: the ends of its range and those just past them.
 #[derive(Clone)]
 pub struct Field {
     pub name: &'static str,
@@ -21,7 +21,7 @@ pub struct Field {
 }
 
 impl File {
-    /// A file of the version alone.
+    /// A file with only the version.
     pub fn versioned() -> File {
         let mut file = File::empty();
         file.byte("version", VERSION.into(), &[0, 2, 4, 255]);
@@ -47,7 +47,7 @@ impl File {
         self.bytes.extend(&bytes[8 - width..]);
     }
 
-    /// Writes a record of a kind, its body by `body`.
+    /// Writes a record of a kind; `body` writes its body.
     pub fn record(&mut self, kind: u8, body: impl FnOnce(&mut File)) {
         let start = self.bytes.len();
         self.records.push(start);
@@ -89,7 +89,7 @@ impl File {
         next.copied().unwrap_or(self.bytes.len())
     }
 
-    /// The file with each field in turn set to each of its other values; also with its record ended just after it.
+    /// The file with each field in turn set to each of its other values, and also with its record ended just after it.
     pub fn each_field_changed(&self) -> impl Iterator<Item = Vec<u8>> + '_ {
         self.fields.iter().flat_map(move |field| {
             field.others.iter().flat_map(move |value| {
@@ -101,7 +101,7 @@ impl File {
         })
     }
 
-    /// The file's bytes, a field of them changed, with the record ended just after it if it is a field of a body.
+    /// The file's bytes with one field changed; the record is ended just after it if the field is in a body.
     pub fn ended_after(&self, field: &Field, bytes: &[u8]) -> Vec<u8> {
         let mut ended = bytes.to_vec();
         let in_body = |index: &usize| {

@@ -1,4 +1,4 @@
-//! Cases for both decoders: single pictures, reels and raw slices, legal and damaged, from a seed.
+//! Makes cases for both decoders from a seed: single pictures, reels and raw slices, legal and damaged.
 
 mod cases;
 pub mod codes;

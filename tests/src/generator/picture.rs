@@ -1,4 +1,4 @@
-//! Legal pictures: a file of random symbols that no rule refuses, with extremes more often than chance would have them.
+//! Writes legal pictures: files of random symbols that no rule refuses, with extremes more often than by chance.
 
 use super::file::File;
 use super::{small_size, TYPES};
@@ -10,7 +10,7 @@ use crate::decoder::size::Size;
 use crate::decoder::vectors::{f_of, fits, Vector, Vectors};
 use crate::random::Random;
 
-/// How a picture is written: how many pairs a block has at the most, how often it skips, starts a slice, or is intra.
+/// How a picture is written: how many pairs a block has at most, and how often it skips, starts a slice, or is intra.
 #[derive(Clone, Copy)]
 pub struct Style {
     pub most_pairs: usize,
@@ -18,7 +18,7 @@ pub struct Style {
     pub most_skipped: usize,
     pub slice_once_in: usize,
     pub intra_once_in: usize,
-    /// Once in so many macroblocks something doesn't fit: a vector leaves the picture, or a DC its range. 0: never.
+    /// One macroblock in this many has something that doesn't fit: a vector or a DC out of range. 0: none.
     pub stray_once_in: usize,
 }
 
@@ -36,7 +36,7 @@ impl Style {
     }
 }
 
-/// The header of a case by its number: one in four takes its size from all that fit, in turn.
+/// The header of the case with this number: every fourth case takes the next of all legal sizes.
 pub fn numbered_header(random: &mut Random, number: u64) -> Header {
     let size = if number.is_multiple_of(4) {
         let sizes = Size::all();
@@ -48,7 +48,7 @@ pub fn numbered_header(random: &mut Random, number: u64) -> Header {
     random_header(random, picture_type, size)
 }
 
-/// A legal header of a type and size; each used direction has a random flag and f_code.
+/// A legal header of this type and size; each direction used has a random flag and f_code.
 pub fn random_header(random: &mut Random, picture_type: PictureType, size: Size) -> Header {
     let directions = picture_type.uses().map(|used| Direction {
         full_pel: used && random.once_in(2),
@@ -61,7 +61,7 @@ pub fn random_header(random: &mut Random, picture_type: PictureType, size: Size)
     }
 }
 
-/// A file of a header, perhaps matrices, and all the picture's macroblocks in slices.
+/// A file with a header, perhaps matrices, and all of the picture's macroblocks in slices.
 pub fn picture(random: &mut Random, header: Header, style: Style) -> File {
     let mut writer = Writer {
         random,
@@ -85,10 +85,10 @@ pub fn picture(random: &mut Random, header: Header, style: Style) -> File {
     writer.file
 }
 
-/// The ends of a scale's range, and those just past them.
+/// The ends of a scale's range, and the values just past them.
 const SCALE_ENDS: [i64; 5] = [0, 1, 31, 32, 255];
 
-/// An eighth of the DC past at a slice's start.
+/// The DC predictor at a slice's start, divided by 8.
 const FIRST_DC: i64 = 128;
 
 struct Writer<'a> {
@@ -98,10 +98,10 @@ struct Writer<'a> {
     style: Style,
     /// The next address.
     next: usize,
-    /// Eighths of the DC pasts, so that a difference is what lies between two of them.
+    /// The DC pasts (predictors) divided by 8, so that a coded difference is simply their difference.
     dc_pasts: [i64; 3],
     vector_pasts: [Vector; 2],
-    /// The last macroblock's vectors as used, where it may be followed by skipped ones.
+    /// The last macroblock's vectors as used, if skipped macroblocks may follow it.
     last: Option<Vectors>,
 }
 
@@ -142,7 +142,7 @@ impl Writer<'_> {
         });
     }
 
-    /// A slice record and its macroblocks: at least one.
+    /// Writes a slice record and its macroblocks, at least one.
     fn slice(&mut self) {
         let start = self.next as i64;
         let scale = self.scale();
@@ -202,7 +202,7 @@ impl Writer<'_> {
         chosen
     }
 
-    /// The increment, and what the skipped macroblocks leave of the pasts. Gives the macroblock's own address.
+    /// Writes the increment, and updates the pasts for skipped macroblocks. Returns the macroblock's own address.
     fn increment(&mut self, body: &mut File, stray: bool) -> usize {
         let left = self.header.size.macroblocks() - self.next;
         let skipped = self.skipped(left - 1, stray);
@@ -218,7 +218,7 @@ impl Writer<'_> {
         self.next + skipped
     }
 
-    /// How many macroblocks are skipped: where that is legal, and as far as the vectors to be repeated fit.
+    /// How many macroblocks to skip: only where that is legal, and only as long as the repeated vectors fit.
     fn skipped(&mut self, most: usize, stray: bool) -> usize {
         let Some(vectors) = self.last else {
             return 0;
@@ -234,7 +234,7 @@ impl Writer<'_> {
         (self.next..self.next + wanted).take_while(fit).count()
     }
 
-    /// The vectors of the directions used, and what the slice keeps of them.
+    /// Writes the vectors of the directions used, and keeps them as pasts.
     fn vectors(&mut self, body: &mut File, chosen: u8, address: usize, stray: bool) {
         let mut vectors = [None; 2];
         for (way, vector) in vectors.iter_mut().enumerate() {
@@ -254,7 +254,7 @@ impl Writer<'_> {
         self.last = may_skip.then_some(vectors);
     }
 
-    /// A vector that fits (or, stray, perhaps just doesn't), by its codes and residuals. Gives it as it is used.
+    /// Writes a vector that fits (or, if stray, perhaps just doesn't) as codes and residuals. Returns it as used.
     fn vector(&mut self, body: &mut File, way: usize, address: usize, stray: bool) -> Vector {
         let Direction { full_pel, f_code } = self.header.directions[way];
         let f = f_of(f_code);
@@ -283,7 +283,7 @@ impl Writer<'_> {
         self.random.pick(&[low, high, within, within])
     }
 
-    /// A code and residual whose difference is `difference`, or 32f from it. Where two do, either.
+    /// Writes a code and residual for `difference`, moved by 32f into range if needed; at 16f, either form.
     fn code_and_residual(&mut self, body: &mut File, f: i64, difference: i64) {
         let mut difference = difference;
         if difference.abs() > 16 * f || (difference.abs() == 16 * f && self.random.once_in(2)) {
@@ -299,7 +299,7 @@ impl Writer<'_> {
         body.byte("residual", residual, &[0, 1, f - 1, f, 255]);
     }
 
-    /// The pattern of the blocks that follow: written where the type has one.
+    /// The pattern of the blocks that follow; it is written if the type has one.
     fn pattern(&mut self, body: &mut File, chosen: u8) -> u8 {
         if chosen & 16 != 0 {
             return 63;
@@ -320,7 +320,7 @@ impl Writer<'_> {
         let first = usize::from(intra);
         let most = self.style.most_pairs.min(64 - first);
         let within = self.random.below(most + 1);
-        // A block without DC has a pair at least.
+        // A block without DC has at least one pair.
         let count = self
             .random
             .pick(&[within, within, within, most])
@@ -354,7 +354,7 @@ impl Writer<'_> {
         self.random.pick(&[-size, size])
     }
 
-    /// A DC difference: the DC stays in 0..2040, at its ends more often; stray, it leaves by one step.
+    /// A DC difference that keeps the DC in 0..2040, often at its ends; if stray, it leaves the range by one step.
     fn dc(&mut self, body: &mut File, component: usize, stray: bool) {
         let past = self.dc_pasts[component];
         let wanted = if stray && self.random.once_in(6) {

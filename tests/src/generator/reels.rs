@@ -1,4 +1,4 @@
-//! Reels for `panel`: pictures one after another, each behind its length.
+//! Makes reels for `panel`: pictures one after another, each preceded by its length.
 
 use super::damage::damaged;
 use super::file::File;
@@ -11,11 +11,11 @@ use crate::random::Random;
 
 pub struct Reel {
     pub bytes: Vec<u8>,
-    /// Nothing was damaged: every picture is to be accepted.
+    /// Nothing was damaged, so every picture must be accepted.
     pub legal: bool,
 }
 
-/// A reel by its seed and number, within the limits of `panel` but for a few that are too long.
+/// The reel with this seed and number, within the limits of `panel` except for a few that are too long.
 pub fn reel(seed: u64, number: u64) -> Reel {
     let random = &mut Random::new(&[seed, number, 0]);
     let legal = random.once_in(3);
@@ -55,7 +55,7 @@ fn legal_file(random: &mut Random, picture_type: PictureType, size: Size) -> Fil
     picture(random, header, style)
 }
 
-/// A picture that may be of another type or size than the reel's, damaged, or empty.
+/// A picture that may differ from the reel in type or size, or be damaged or empty.
 fn any_file(random: &mut Random, picture_type: PictureType, size: Size) -> Vec<u8> {
     let another_type = random.pick(&TYPES);
     let picture_type = random.pick(&[picture_type, picture_type, picture_type, another_type]);
@@ -85,7 +85,7 @@ fn any_size(random: &mut Random, size: Size) -> Size {
     }
 }
 
-/// The reel is cut, goes on too far, or is as long as `panel` reads, or longer. Three in four stay as they are.
+/// Cuts the reel, or makes it too long, or just as long as `panel` reads, or longer. Three in four stay as they are.
 fn damage(random: &mut Random, reel: &mut Vec<u8>) {
     let most = PANEL_LIMITS.reel_bytes;
     match random.below(32) {
@@ -102,7 +102,7 @@ fn damage(random: &mut Random, reel: &mut Vec<u8>) {
     }
 }
 
-/// A last file of zeros makes the reel `length` bytes long, where four more fit.
+/// Appends a file of zeros that makes the reel `length` bytes long, if there is room for its length field.
 fn pad(reel: &mut Vec<u8>, length: usize) {
     if let Some(left) = length.checked_sub(reel.len() + 4) {
         push(reel, &vec![0; left]);

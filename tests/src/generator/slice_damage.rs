@@ -1,11 +1,11 @@
-//! Damaged slices: codes that are no codes, or lead too far, and bits that are flipped, cut, lost or added.
+//! Damages slices: bits that are no code, codes that go too far, and bits flipped, cut, lost or added.
 
 use super::codes::{bytes_of, bytes_of_text, escape, word_of, Code, Place};
 use crate::decoder::annex_b::Increment;
 use crate::decoder::file::Header;
 use crate::random::Random;
 
-/// The bytes of a slice's codes, damaged in one way or two. They may happen to stay a legal slice.
+/// The bytes of a slice's codes, damaged in one or two ways. They may happen to stay a legal slice.
 pub fn damaged(random: &mut Random, codes: &[Code], header: &Header) -> Vec<u8> {
     let mut codes = codes.to_vec();
     let of_codes = random.below(3);
@@ -30,7 +30,7 @@ pub fn damaged_bytes(random: &mut Random, bytes: Vec<u8>) -> Vec<u8> {
     }
 }
 
-/// Another code, or none, stands in the place of one.
+/// Replaces a code, or removes it.
 fn damage_codes(random: &mut Random, codes: &mut Vec<Code>, header: &Header) {
     match random.below(6) {
         0 => codes[0].1 = wrong_start_code(random, header),
@@ -44,7 +44,7 @@ fn damage_codes(random: &mut Random, codes: &mut Vec<Code>, header: &Header) {
 
 const COEFFICIENTS: [Place; 2] = [Place::FirstCoefficient, Place::NextCoefficient];
 
-/// Puts other bits in the place of one of the codes at these places, or, where there is none, of any code.
+/// Replaces one of the codes at these places, or, if there is none, any code, by these bits.
 fn replace(
     random: &mut Random,
     codes: &mut [Code],
@@ -59,14 +59,14 @@ fn replace(
     codes[random.pick(&found)].1 = bits(random);
 }
 
-/// Row 0 or one past the picture's last, another code's number, or not 00 00 01.
+/// Row 0 or one past the picture's last, another start code's number, or not 00 00 01.
 fn wrong_start_code(random: &mut Random, header: &Header) -> String {
     let row = random.pick(&[0, header.size.height + 1, 0xaf, 0xb3, 0xff]);
     let start = random.pick(&[1, 1, 1, 0, 2, 0x80_0001]);
     format!("{start:024b}{row:08b}")
 }
 
-/// Up to thirteen escapes and an increment, or stuffing after an escape.
+/// Up to 13 escapes and an increment, or stuffing after an escape.
 fn wrong_increment(random: &mut Random) -> String {
     let escapes = random.pick(&[1, 11, 12, 13]);
     let count = random.within(1, 33) as usize;
@@ -86,7 +86,7 @@ fn forbidden_level(random: &mut Random) -> String {
     escape(random.below(64), &level)
 }
 
-/// Coefficients that end at position 63, or lead past it.
+/// Coefficients that end at position 63 or go past it.
 fn past_63(random: &mut Random) -> String {
     let run = random.within(61, 63) as usize;
     let far = escape(run, random.pick(&["00000001", "0000000010000000"]));
@@ -97,14 +97,14 @@ fn past_63(random: &mut Random) -> String {
     }
 }
 
-/// Bits that begin no code in most places: zeros, or ones, and perhaps the other after them.
+/// Bits that begin no code at most points: zeros, or ones, and perhaps the other after them.
 fn no_code(random: &mut Random) -> String {
     let count = random.within(5, 24) as usize;
     let bit = random.pick(&["0", "0", "1"]);
     bit.repeat(count) + random.pick(&["", "0", "1"])
 }
 
-/// Up to three bits are flipped.
+/// Flips up to three bits.
 fn flipped(random: &mut Random, mut bytes: Vec<u8>) -> Vec<u8> {
     for _ in 0..random.pick(&[1, 1, 2, 3]) {
         if !bytes.is_empty() {
@@ -115,8 +115,8 @@ fn flipped(random: &mut Random, mut bytes: Vec<u8>) -> Vec<u8> {
     bytes
 }
 
-/// The slice ends at any bit, at a code's start, or at any byte. A byte that is begun is filled up with zeros or ones; or nine bits
-/// of extra information come in as often as is needed for the slice to end with a byte.
+/// Ends the slice at any bit, at a code's start, or at any byte. An incomplete byte is padded with zeros or ones; or extra
+/// information, nine bits at a time, is inserted until the slice ends with a byte.
 fn cut(random: &mut Random, codes: &[Code]) -> Vec<u8> {
     let text: String = codes.iter().map(|code| &code.1[..]).collect();
     let before = random.below(codes.len());
@@ -135,7 +135,7 @@ fn cut(random: &mut Random, codes: &[Code]) -> Vec<u8> {
 /// The start code and the scale.
 const HEADER_BITS: usize = 32 + 5;
 
-/// More bytes follow: zeros, zeros and something else, a start code, or any.
+/// Appends bytes: zeros, zeros and something else, a start code, or any.
 fn lengthened(random: &mut Random, mut bytes: Vec<u8>) -> Vec<u8> {
     let zeros = random.pick(&[0, 1, 2, 5]);
     bytes.resize(bytes.len() + zeros, 0);
@@ -152,7 +152,7 @@ fn lengthened(random: &mut Random, mut bytes: Vec<u8>) -> Vec<u8> {
     bytes
 }
 
-/// Bytes are lost, or zeros come in between.
+/// Drops bytes, or inserts zeros.
 fn shifted(random: &mut Random, mut bytes: Vec<u8>) -> Vec<u8> {
     let at = random.below(bytes.len() + 1);
     let count = random.pick(&[1, 2]);

@@ -1,5 +1,5 @@
-//! Slices that end in a code: at every place of the syntax, every start of every word there, and the same with its last bit
-//! flipped, just before the slice's end and before more bits.
+//! Makes slices that end within a code: at every point of the syntax, with every start of every word there, and the same with the
+//! last bit flipped; each at the slice's end and before more bits.
 
 use std::collections::BTreeSet;
 
@@ -9,8 +9,8 @@ use crate::decoder::annex_b::{self, Increment};
 use crate::decoder::file::PictureType::{self, B, I, P};
 use crate::decoder::Given;
 
-/// A place of the syntax: the picture's type and f_code, the codes between the slice's header and it, and the words that may
-/// stand there.
+/// A point of the syntax: the picture's type and f_code, the codes from the slice's header to it, and the words allowed
+/// there.
 struct Edge {
     picture_type: PictureType,
     f_code: u32,
@@ -18,7 +18,7 @@ struct Edge {
     words: Vec<String>,
 }
 
-/// What comes after a word's start: nothing, so that the slice ends there; zeros; ones.
+/// What follows a word's start: nothing (the slice ends there), zeros, or ones.
 const AFTER: [&str; 3] = ["", "00000000", "11111111"];
 
 pub fn edge_slices() -> Vec<SliceCase> {
@@ -33,7 +33,7 @@ pub fn edge_slices() -> Vec<SliceCase> {
     cases
 }
 
-/// Every start of every word, the empty and the whole one too, and each with its last bit flipped.
+/// Every start of every word, from empty to whole, and each with its last bit flipped.
 fn starts(words: &[String]) -> BTreeSet<String> {
     let mut starts = BTreeSet::new();
     for word in words {
@@ -56,8 +56,8 @@ fn flipped(bit: &str) -> &str {
     }
 }
 
-/// A slice that ends with the text at the edge. A byte of extra information and the bit before it are nine bits: as many of them
-/// stand in its header as let it end with a byte.
+/// A slice that ends with this text at the edge. Extra information takes nine bits a byte; the header has as many of these as let
+/// the slice end with a byte.
 fn case(edge: &Edge, text: &str) -> SliceCase {
     let slice = |extra: usize| {
         let extra = "1 10101010".repeat(extra);
@@ -106,7 +106,7 @@ fn edge(picture_type: PictureType, before: &str, words: Vec<String>) -> Edge {
     }
 }
 
-/// At the first macroblock and after one, each after stuffing and escapes.
+/// At the first macroblock and at a later one, each also after stuffing and escapes.
 fn increments() -> Vec<Edge> {
     let [stuffing, escape] = [Increment::Stuffing, Increment::Escape].map(word_of);
     let mut edges = Vec::new();
@@ -137,7 +137,7 @@ fn vectors() -> Vec<Edge> {
     edges
 }
 
-/// DC sizes and differences; the first coefficient of a block, later ones, and those at the last positions and past them.
+/// DC sizes and differences; a block's first coefficient, later ones, and those at the last positions and past them.
 fn coefficients() -> Vec<Edge> {
     let chroma = "1 1".to_string() + &"100 10".repeat(4);
     let mut edges = vec![
@@ -156,7 +156,7 @@ fn coefficients() -> Vec<Edge> {
     edges
 }
 
-/// Some numbers of a width: every one begins and ends alike.
+/// Some numbers of this width: zeros, ones, and alternating bits.
 fn numbers(width: usize) -> Vec<String> {
     ["0", "1", "10"]
         .map(|bits| bits.repeat(width)[..width].to_string())

@@ -1,4 +1,4 @@
-//! Raw slices: one call of `read_slice` each.
+//! Makes raw slices: each case is one call of `read_slice`.
 
 use super::codes::{bytes_of, slice, Code, SliceStyle};
 use super::picture::{numbered_header, random_header};
@@ -15,11 +15,11 @@ use crate::random::Random;
 pub struct SliceCase {
     pub slice: Vec<u8>,
     pub given: Given,
-    /// The buffer before the call: random bytes, so that each byte that is written, or left, shows.
+    /// The buffer before the call: random bytes, so that each byte written or left untouched shows.
     pub buffer: Vec<u8>,
-    /// The codes that it was made of, before any damage.
+    /// The codes that it was made from, before any damage.
     pub codes: Vec<Code>,
-    /// Nothing was damaged: the slice is to be accepted.
+    /// Nothing was damaged, so the slice must be accepted.
     pub legal: bool,
 }
 
@@ -28,7 +28,7 @@ pub struct SliceCase {
 enum Fault {
     None,
     Damage,
-    /// A given number is out of its range.
+    /// A given number is out of range.
     Given,
     /// The buffer is too short for the records.
     Buffer,
@@ -42,7 +42,7 @@ const FAULTS: [Fault; 12] = {
     ]
 };
 
-/// A case by its seed and number.
+/// The case with this seed and number.
 pub fn slice_case(seed: u64, number: u64) -> SliceCase {
     let random = &mut Random::new(&[seed, number, 3]);
     let header = numbered_header(random, number);
@@ -53,7 +53,7 @@ pub fn slice_case(seed: u64, number: u64) -> SliceCase {
         return case;
     }
     case.legal = false;
-    // Another fault may have damage besides, so that it matters what is tested first.
+    // Another fault may come with damage, so that the order of the tests matters.
     if fault == Fault::Damage || random.once_in(4) {
         case.slice = damaged(random, &case.codes, &header);
         case.buffer = random_buffer(random, &case);
@@ -69,7 +69,7 @@ pub fn slice_case(seed: u64, number: u64) -> SliceCase {
     case
 }
 
-/// A legal slice in a buffer that holds its records. It may have zeros after its last code.
+/// A legal slice in a buffer that holds its records. Zeros may follow its last code.
 fn written(random: &mut Random, header: Header, style: SliceStyle) -> SliceCase {
     let codes = slice(random, &header, style);
     let mut case = SliceCase {
@@ -97,22 +97,22 @@ fn given(header: &Header) -> Given {
     }
 }
 
-/// More than the records of any slice that is made here.
+/// More than the records of any slice made here.
 const LARGE: usize = 1 << 20;
 
-/// The length of the records of an accepted slice; else 0.
+/// The length of an accepted slice's records, else 0.
 fn records_length(case: &SliceCase) -> usize {
     read_slice(&case.slice, case.given, &mut vec![0; LARGE]).written
 }
 
-/// A buffer that just holds the records, or one that is longer.
+/// A buffer that just holds the records, or a longer one.
 fn random_buffer(random: &mut Random, case: &SliceCase) -> Vec<u8> {
     let more = random.pick(&[0, 0, 1, 2, 100, 3000]);
     random.bytes(records_length(case) + more)
 }
 
-/// One or two of the numbers are at or just past an end of their ranges, or far out of them: also by 256, as if a byte of them
-/// were all that is looked at.
+/// Sets one or two of the numbers to an end of their range, just past it, or far outside: also 256 off, as if only their low byte
+/// counted.
 fn give_wrong_number(random: &mut Random, given: &mut Given) {
     for _ in 0..random.pick(&[1, 1, 2]) {
         let field = match random.below(5) {
@@ -182,8 +182,8 @@ pub fn long_slice_cases(seed: u64) -> Vec<SliceCase> {
 }
 
 impl SliceCase {
-    /// The case with each bit flipped, cut before each byte, followed by each of a few bytes, read with each of the given numbers
-    /// changed, and into buffers of each length that may matter.
+    /// The case with each bit flipped, cut before each byte, followed by each of a few bytes, read with each given number changed, and
+    /// into a buffer of each length that may matter.
     pub fn each_change(&self) -> Vec<SliceCase> {
         let mut cases = Vec::new();
         let mut add = |case: SliceCase| cases.push(case);
@@ -229,7 +229,7 @@ impl SliceCase {
 }
 
 impl Given {
-    /// The numbers with one of them changed in every way that is tried.
+    /// The given numbers with one of them changed in every way that is tried.
     fn each_change(self) -> Vec<Given> {
         let fields: [fn(&mut Given) -> &mut u32; 5] = [
             |given| &mut given.width,

@@ -1,4 +1,4 @@
-//! Files by hand.
+//! Builds files by hand for the tests.
 
 /// A file of records, each given as its kind and body.
 pub fn file_of(records: &[&[u8]]) -> Vec<u8> {

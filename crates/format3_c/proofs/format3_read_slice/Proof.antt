@@ -1,4 +1,4 @@
--- `format3_read_slice` meets its contract: it hands on the answer of the reader of raw slices, field by field. Assumes nothing.
+-- `format3_read_slice` meets its contract: it returns the answer of the reader of raw slices, field by field. Assumes nothing.
 use borrow.Author.Needs.{needs}
 use Rattle.format3_c.proofs.format3_read_slice.Statement.{statement}
 use Rattle.format3_c.proofs.format3_read_slice.Tie as tie

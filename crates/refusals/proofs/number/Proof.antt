@@ -1,4 +1,4 @@
--- `refusals::number` meets its contract: each arm is the clause of `numberOf` at its case. Assumes nothing.
+-- `refusals::number` meets its contract: each arm is a clause of `numberOf`. Assumes nothing.
 use borrow.Author.Needs.{needs}
 use Rattle.refusals.proofs.number.Statement.{statement}
 use Rattle.refusals.proofs.number.Tie as tie

@@ -9,12 +9,13 @@ use Rattle.symbols.specs.declared.header.HeaderFields.{HeaderFields}
 use Rattle.symbols.specs.declared.header.Header.{Header}
 use Rattle.symbols.specs.declared.header.HeaderAnswer.{HeaderAnswer}
 use Rattle.symbols.specs.declared.header.HeaderAnswer.the-variants.{Legal}
-use Rattle.symbols.specs.Header.{typeI, typeB, usesForward, usesBackward, legalCoding, legalCodings, legalHeader, codingOf, headerValue, headerWith, CodingWithin, HeaderWithin}
+use Rattle.symbols.specs.Header.{typeI, typeB, usesForward, usesBackward, legalCoding, legalCodings, legalHeader, vectorCodingOf, headerValue, headerWith}
+use Rattle.symbols.specs.Requires.{CodingWithin, HeaderWithin}
 use Rattle.symbols.specs.Size.{legalSize}
-use Rattle.symbols.proofs.Guard.{need-all, both}
+use Rattle.symbols.proofs.Guard.{require-all, both}
 use Rattle.symbols.proofs.Laws.Size.{legal-within}
 
-coding-within : (used : Bool) (flag code : ℕ) → legalCoding used flag code ≡ true → CodingWithin used (codingOf flag code)
+coding-within : (used : Bool) (flag code : ℕ) → legalCoding used flag code ≡ true → CodingWithin used (vectorCodingOf flag code)
 coding-within true flag code e =
     let top = both _ (leb code 7) e in
     let low = both (leb flag 1) _ (top .0) in
@@ -38,11 +39,11 @@ value-within f e =
       backward = coding-within _ (f .«full_pel_backward») (f .«backward_f_code») (backward .1);
     }
 
-pub record Sound (a : HeaderAnswer) : Type 0 where
+pub record LegalHeaderWithin (a : HeaderAnswer) : Type 0 where
   pub within : (h : Header) → a ≡ Legal h → HeaderWithin h
 
-pub made-within : (f : HeaderFields) → Sound (headerWith f)
+pub made-within : (f : HeaderFields) → LegalHeaderWithin (headerWith f)
 unfolding headerWith
-made-within f = need-all Sound (legalHeader f) _ (Legal (headerValue f))
+made-within f = require-all LegalHeaderWithin (legalHeader f) _ (Legal (headerValue f))
     (record { within = λ h e. absurd (let z : _≡_ {A = ℕ} 0 1 = cc in omega arith) })
     (λ legal. record { within = λ h e. let p : _≡_ {A = Header} (headerValue f) h = cc in subst HeaderWithin p (value-within f legal) })

@@ -1,4 +1,4 @@
--- The bits of the legal types. Assumes nothing.
+-- The code's bit masks of legal types agree with the lists. Assumes nothing.
 use mathlib.Core.Path.{_≡_, refl, sym}
 use mathlib.Core.Bool.{Bool, true, false, cond, Bool·beq}
 use mathlib.Core.List.{List, [], _∷_}
@@ -7,8 +7,8 @@ use native.Mathlib.Omega.{arith}
 use lib.Dec.{T, leb, eqb, leb→le}
 use lib.ListN.{length, getD}
 use borrow.Author.Tests.{ne-eqb}
-use Rattle.lists.specs.Test.{allBelow}
-use Rattle.lists.proofs.Test.{at-below}
+use Rattle.math.specs.Test.{allBelow}
+use Rattle.math.proofs.Test.{at-below}
 use Rattle.symbols.specs.Header.{typeI, typeP}
 use Rattle.symbols.specs.MacroblockType.{among, typesOfI, typesOfP, typesOfB, legalType}
 

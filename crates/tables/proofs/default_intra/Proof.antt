@@ -1,4 +1,4 @@
--- `tables::default_intra` meets its contract: the table is the standard's, entry by entry: one computed test. Assumes nothing.
+-- `tables::default_intra` meets its contract: one computed test compares the table with the standard's. Assumes nothing.
 use mathlib.Core.Path.{refl}
 use Rattle.tables.specs.Tables.{defaultIntra}
 use Rattle.tables.proofs.default_intra.Statement.{statement}

@@ -1,4 +1,4 @@
--- `tables::default_non_intra` meets its contract: sixty-four times 16. Assumes nothing.
+-- `tables::default_non_intra` meets its contract: all sixty-four weights are 16. Assumes nothing.
 use mathlib.Core.Path.{refl}
 use Rattle.tables.specs.Tables.{defaultNonIntra}
 use Rattle.tables.proofs.default_non_intra.Statement.{statement}

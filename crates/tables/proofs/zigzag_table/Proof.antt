@@ -1,6 +1,6 @@
--- `tables::zigzag_table` meets its contract: each entry is the place that the scan numbers so: one computed test of the whole table. Assumes nothing.
+-- `tables::zigzag_table` meets its contract: one computed test shows that the table inverts the standard's scan. Assumes nothing.
 use mathlib.Core.Path.{refl}
-use Rattle.lists.specs.Tab.{tab}
+use Rattle.math.specs.Tab.{tab}
 use Rattle.tables.specs.Tables.{zigzag, scan, indexOf}
 use Rattle.tables.proofs.zigzag_table.Statement.{statement}
 use Rattle.tables.proofs.zigzag_table.Tie as tie

@@ -1,5 +1,5 @@
-//! `reel_to_yuv REEL`: decodes a reel, and writes its pictures one after another, in coded order, to standard output: the
-//! planes Y, Cb and Cr of each, as players of raw video read them (yuv420p). Ends at the first that is not accepted.
+//! `reel_to_yuv REEL`: decodes a reel and writes its pictures in coded order to standard output: the planes Y, Cb and Cr of
+//! each, as raw video players read them (yuv420p). Stops at the first picture that is refused.
 
 use std::error::Error;
 use std::io::Write;

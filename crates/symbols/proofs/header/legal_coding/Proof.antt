@@ -1,4 +1,4 @@
--- `legal_coding` meets its contract: its tests are those of `legalCoding`, in the same order. Assumes nothing.
+-- `legal_coding` meets its contract: it makes the same tests as `legalCoding`, in the same order. Assumes nothing.
 use borrow.Author.Tests.{le-leb, lt-leb, eq-eqb, ne-eqb}
 use Rattle.symbols.proofs.header.legal_coding.Statement.{statement}
 use Rattle.symbols.proofs.header.legal_coding.Tie as tie

@@ -1,4 +1,4 @@
--- `legal_codings` meets its contract: its tests are those of `legalCodings`, in the same order. Assumes nothing.
+-- `legal_codings` meets its contract: it makes the same tests as `legalCodings`, in the same order. Assumes nothing.
 use mathlib.Core.Bool.{true, _&&_}
 use mathlib.Core.Path.{_≡_}
 use lib.Dec.{leb}

@@ -1,4 +1,4 @@
--- `legal_type` meets its contract: of the first 32 types the bits say which are legal, and above there is none. Assumes nothing.
+-- `legal_type` meets its contract: bits mark the legal types below 32, and none is higher. Assumes nothing.
 use borrow.Author.Tests.{eq-eqb, ne-eqb}
 use borrow.Author.Needs.{needs}
 use Rattle.symbols.specs.MacroblockType.{legalType}

@@ -1,4 +1,4 @@
--- `first_position` meets its contract: its test is that of the definition. Assumes nothing.
+-- `first_position` meets its contract: it makes the same test as the definition. Assumes nothing.
 use Rattle.symbols.specs.Pair.{firstPosition}
 use Rattle.symbols.proofs.pair.first_position.Statement.{statement}
 use Rattle.symbols.proofs.pair.first_position.Tie as tie

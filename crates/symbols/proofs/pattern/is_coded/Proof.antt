@@ -1,7 +1,7 @@
 -- `is_coded` meets its contract: a shift is a quotient by a power of 2. Assumes nothing.
-use Rattle.symbols.specs.Pattern.{isCoded}
 use mathlib.Core.Path.{refl}
 use borrow.Author.Needs.{needs}
+use Rattle.symbols.specs.Pattern.{isCoded}
 use Rattle.symbols.proofs.pattern.is_coded.Statement.{statement}
 use Rattle.symbols.proofs.pattern.is_coded.Tie as tie
 

@@ -1,1 +1,0 @@
-// The accuracy of the inverse transform (demand 3) and the ends around the cosines: definitions and statements (specs/), proofs (proofs/). No code.

@@ -1,6 +1,0 @@
-pub mod LookUp
-pub mod Level
-pub mod Rest
-pub mod Field
-pub mod SliceStart
-pub mod Range

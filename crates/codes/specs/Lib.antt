@@ -1,3 +1,0 @@
-pub mod LookUp
-pub mod SliceStart
-pub mod Difference

@@ -1,3 +1,0 @@
-pub mod Scaling
-pub mod Answer
-pub mod Theorems

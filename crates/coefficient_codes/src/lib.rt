@@ -1,2 +1,0 @@
-// The codes of coefficients, read from bits.
-pub mod coefficient;

@@ -1,0 +1,48 @@
+-- From the pairs of a block to its sixty-four coefficients (document 01, "Coefficients").
+use mathlib.Core.List.{List, [], _∷_}
+use Prim.Native.Nat.{ℕ}
+use lib.IntN.{ℤ, pos}
+use lib.ListN.{getD, set, replicate}
+use Rattle.tables.specs.Tables.{zigzag}
+use Rattle.symbols.specs.declared.pair.Pair.{Pair}
+use Rattle.symbols.specs.Pair.{pairPosition, afterPair, firstPosition}
+use Rattle.symbols.specs.Block.{Block, uncoded, coded}
+use Rattle.decode_coefficients.specs.Scaling.{coefficientOf}
+use Rattle.decode_coefficients.specs.declared.block.BlockCoding.{BlockCoding}
+use Rattle.decode_coefficients.specs.Dc.{dcOf}
+
+-- a level at its position in zigzag order
+pub record PositionedLevel : Type 0 where
+  pub position : ℕ
+  pub level : ℤ
+
+-- "The first pair lands at its run (intra: 1 plus run), each later one at run plus 1 further on"
+unfoldable pub positionedLevels : ℕ → List Pair → List PositionedLevel
+positionedLevels next [] = []
+positionedLevels next (p ∷ pairs) = record { position = pairPosition next p; level = p .level } ∷ positionedLevels (afterPair next p) pairs
+
+-- "in zigzag order": the raster index of a position, 8 × row + column
+abbrev pub rasterIndex : ℕ → ℕ
+rasterIndex position = getD zigzag position 0
+
+-- a level scaled with the weight at its raster index
+abbrev pub scaledLevel : BlockCoding → List ℕ → PositionedLevel → ℤ
+scaledLevel c matrix p = coefficientOf (c .intra) (p .level) (pos (c .scale)) (pos (getD matrix (rasterIndex (p .position)) 0))
+
+-- a block after these levels are stored in it, each scaled and at its raster index
+unfoldable pub withLevels : BlockCoding → List ℕ → List PositionedLevel → List ℤ → List ℤ
+withLevels c matrix [] block = block
+withLevels c matrix (p ∷ levels) block = withLevels c matrix levels (set block (rasterIndex (p .position)) (scaledLevel c matrix p))
+
+-- a block before its pairs: its DC, which is 0 if it is not intra, and zeros
+unfoldable pub dcBlock : ℤ → List ℤ
+dcBlock dc = set (replicate 64 (pos 0)) 0 dc
+
+-- the sixty-four coefficients of a block
+unfoldable pub blockCoefficients : BlockCoding → List ℕ → ℕ → ℤ → List Pair → List ℤ
+blockCoefficients c matrix first dc pairs = withLevels c matrix (positionedLevels first pairs) (dcBlock dc)
+
+-- the sixty-four coefficients of a block, with the past DC before it; all 0 if it is not coded
+abbrev pub coefficientsOf : BlockCoding → List ℕ → ℤ → Block → List ℤ
+coefficientsOf c matrix past uncoded = replicate 64 (pos 0)
+coefficientsOf c matrix past (coded difference pairs) = blockCoefficients c matrix (firstPosition (c .intra)) (dcOf (c .intra) past difference) pairs

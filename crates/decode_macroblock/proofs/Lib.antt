@@ -1,0 +1,13 @@
+pub mod PelLaws
+pub mod QuarterLaws
+pub mod LocationLaws
+pub mod CompensationLaws
+pub mod RunLaws
+pub mod BlocksLaws
+pub mod CopyLaws
+pub mod LumaLaws
+pub mod PutLaws
+pub mod OwnerLaws
+pub mod OrderLaws
+pub mod ByteLaws
+pub mod ResidueLaws

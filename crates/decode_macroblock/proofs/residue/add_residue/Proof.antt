@@ -1,0 +1,24 @@
+-- `residue::add_residue` meets its contract: only a coded block gets a residue. Assumes nothing.
+use mathlib.Core.Path.{sym, _∙_}
+use borrow.Author.Tests.{not-true, not-false}
+use borrow.Author.Needs.{needs}
+use Rattle.decode_macroblock.specs.Block.{withResidue}
+use Rattle.decode_macroblock.proofs.residue.add_residue.Statement.{statement}
+use Rattle.decode_macroblock.proofs.residue.add_residue.Tie as tie
+
+is-coded-requires : tie.Need-is-coded-requires
+is-coded-requires c κs = search needs
+
+returns : tie.Need-returns
+unfolding withResidue
+returns c = rw (sym (c .before .is-coded .ensures) ∙ not-true _ (c .if1 .taken))
+
+reconstruct-coded-block-requires : tie.Need-reconstruct-coded-block-requires
+reconstruct-coded-block-requires c κs = search needs
+
+returns-2 : tie.Need-returns-2
+unfolding withResidue
+returns-2 c = rw (sym (c .before .before .is-coded .ensures) ∙ not-false _ (c .before .if1 .left)) (c .reconstruct-coded-block .ensures)
+
+pub add-residue-spec : {M : Type 1} → statement M
+add-residue-spec = tie.close (tie.spec is-coded-requires returns reconstruct-coded-block-requires returns-2)

@@ -1,0 +1,9 @@
+pub mod Pel
+pub mod Location
+pub mod Compensation
+pub mod Fit
+pub mod Block
+pub mod Macroblock
+pub mod Owner
+pub mod Byte
+pub mod Requires

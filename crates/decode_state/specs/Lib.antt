@@ -1,0 +1,5 @@
+pub mod State
+pub mod Vectors
+pub mod Slice
+pub mod Plan
+pub mod Requires

@@ -1,0 +1,2 @@
+// Motion vectors decoded from their codes.
+pub mod vector;

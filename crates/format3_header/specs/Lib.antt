@@ -1,0 +1,3 @@
+pub mod Header
+pub mod Lengths
+pub mod FileStart

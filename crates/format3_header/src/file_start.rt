@@ -1,0 +1,71 @@
+// The start of a file: its version, its first record (the header), and the lengths of the lent buffers.
+ghost use mathlib.Core.Path.{_≡_};
+ghost use Rattle.format3_header.specs.FileStart.{firstHeader, fileStartOf};
+use crate::header;
+use crate::lengths;
+use format3_records::record;
+use format3_records::record::Record;
+use format3_records::turn;
+use format3_records::turn::Turn;
+use format3_records::verdict::Verdict;
+use refusals::Refusal;
+use symbols::header::Header;
+use symbols::header::HeaderAnswer;
+
+const VERSION: u8 = 3;
+
+pub enum FileStart {
+    // The header, and where the next record starts.
+    HeaderRead(Header, usize),
+    // A refusal and its place, a byte offset in the file.
+    Refused(Refusal, usize),
+}
+
+// Reads the start of the file, up to the header.
+pub fn first_header(file: &[u8]) -> FileStart
+    ensures { λ r. ⌜ r ≡ firstHeader (now (file .entry)) ⌝ }
+{
+    if file.len() < 1 {
+        return FileStart::Refused(Refusal::FileEmpty, 0);
+    }
+    if file[0] != VERSION {
+        return FileStart::Refused(Refusal::Version, 0);
+    }
+    if file.len() < 2 {
+        return FileStart::Refused(Refusal::FileEnds, 1);
+    }
+    match record::record_at(file, 1) {
+        Record::Refused(refusal) => FileStart::Refused(refusal, 1),
+        Record::Found {
+            kind,
+            start,
+            length,
+        } => {
+            let due = turn::in_turn(Turn::Start, kind);
+            if !due {
+                return FileStart::Refused(Refusal::OutOfTurn, 1);
+            }
+            let end = start + length;
+            match header::read_header(&file[start..end]) {
+                HeaderAnswer::Refused(refusal) => FileStart::Refused(refusal, 1),
+                HeaderAnswer::Legal(header) => FileStart::HeaderRead(header, end),
+            }
+        }
+    }
+}
+
+// Reads the start of the file, then tests the lengths of the lent buffers.
+pub fn read_file_start(file: &[u8], output: usize, forward: usize, backward: usize) -> FileStart
+    ensures { λ r. ⌜ r ≡ fileStartOf (now (file .entry)) output forward backward ⌝ }
+{
+    match first_header(file) {
+        FileStart::Refused(refusal, place) => FileStart::Refused(refusal, place),
+        FileStart::HeaderRead(header, end) => {
+            let lengths = lengths::lent_lengths(header, output, forward, backward);
+            match lengths {
+                Verdict::Refused(refusal) => FileStart::Refused(refusal, 1),
+                Verdict::Passed => FileStart::HeaderRead(header, end),
+            }
+        }
+    }
+}

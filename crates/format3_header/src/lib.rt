@@ -1,0 +1,4 @@
+// The start of a Format 3 file: its version, the header's record (kind 1), and the buffer lengths that the header requires of the caller.
+pub mod file_start;
+pub mod header;
+pub mod lengths;

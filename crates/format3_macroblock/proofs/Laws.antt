@@ -1,0 +1,9 @@
+pub mod Pairs
+pub mod Landing
+pub mod Blocks
+pub mod BlockArray
+pub mod Slice
+pub mod VectorCodes
+pub mod MacroblockHead
+pub mod Vectors
+pub mod Macroblock

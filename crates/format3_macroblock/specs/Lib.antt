@@ -1,0 +1,10 @@
+pub mod Pairs
+pub mod Landing
+pub mod Blocks
+pub mod Slice
+pub mod MacroblockHead
+pub mod VectorCodes
+pub mod Vectors
+pub mod Macroblock
+pub mod Decoding
+pub mod Requires

@@ -1,0 +1,10 @@
+pub mod RefusalLaws
+pub mod RecordLaws
+pub mod InvariantLaws
+pub mod StartLaws
+pub mod ReadLaws
+pub mod WriteLaws
+pub mod SymbolLaws
+pub mod ReaderLaws
+pub mod PictureLaws
+pub mod Alone

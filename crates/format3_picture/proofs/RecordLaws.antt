@@ -1,0 +1,186 @@
+-- The outcomes of a record: a refusal, a matrix or a slice that passes, or macroblocks that fit. Assumes nothing.
+use mathlib.Core.Bool.{Bool, true, false, cond}
+use mathlib.Core.List.{List, []}
+use mathlib.Core.Path.{_≡_, refl, sym, subst}
+use Prim.Native.Nat.{ℕ, _+_}
+use native.Mathlib.Omega.{arith}
+use lib.Dec.{T, eqb, eqb→eq}
+use lib.ListN.{length, take, drop}
+use Rattle.refusals.specs.declared.Refusal.{Refusal}
+use Rattle.refusals.proofs.Laws.{ofRecord}
+use Rattle.symbols.specs.Parsed.{Parsed, parsed, refused}
+use Rattle.symbols.specs.declared.slice.SliceHeader.{SliceHeader}
+use Rattle.symbols.specs.Macroblock.{Macroblock}
+use Rattle.symbols.proofs.Guard.{require-all}
+use Rattle.symbols.proofs.Parsed.{All, here}
+use Rattle.symbols.proofs.Refusals.{OfRecord, refused-by}
+use Rattle.decode_coefficients.specs.declared.matrices.Matrices.{Matrices}
+use Rattle.decode_macroblock.specs.declared.fit.Fit.{Fit}
+use Rattle.decode_macroblock.specs.declared.fit.Fit.the-variants.{Fits, Forward, Backward}
+use Rattle.decode_state.specs.Plan.{macroblocksOfPlan}
+use Rattle.format3_records.specs.Record.{matrixKind, sliceKind, recordOf}
+use Rattle.format3_records.specs.Turn.{inTurn}
+use Rattle.format3_records.specs.declared.record.Record.{Record}
+use Rattle.format3_records.specs.declared.record.Record.the-variants as Record
+use Rattle.format3_records.specs.declared.turn.Turn.{Turn}
+use Rattle.format3_records.specs.declared.turn.Turn.the-variants as Turn
+use Rattle.format3_records.specs.declared.verdict.Verdict.{Verdict}
+use Rattle.format3_records.specs.declared.verdict.Verdict.the-variants.{Passed, Refused}
+use Rattle.format3_matrices.specs.Matrix.{matrixVerdict, loadedWith}
+use Rattle.format3_matrices.proofs.Laws.Matrix.{passed-long}
+use Rattle.format3_macroblock.specs.Slice.{legalScale, sliceOf}
+use Rattle.format3_macroblock.specs.Macroblock.{macroblockOf}
+use Rattle.format3_macroblock.proofs.Laws.Slice.{slice-legal}
+use Rattle.format3_macroblock.proofs.Laws.Macroblock.{MacroblockLegal, macroblock-legal}
+use Rattle.format3_picture.specs.declared.state.PictureState.{PictureState}
+use Rattle.format3_picture.specs.Reconstruction.{planFor, coefficientsFor}
+use Rattle.format3_picture.specs.MacroblockRecord.{Applied, contextOf, refusedRecord, recordFit, stateAfter, planApplied, symbolsApplied, parsedApplied, macroblockApplied}
+use Rattle.format3_picture.specs.Step.{passedRecord, withMatrix, matrixApplied, withSlice, sliceStarted, sliceStartedFrom, sliceApplied, recordApplied, matricesAfter, RecordStep, stepWith, stepAt}
+use Rattle.format3_picture.specs.Symbols.{Symbol, starts, continues, none, sliceSymbol, macroblockSymbol, symbolOf, symbolAt}
+use Rattle.format3_picture.proofs.RefusalLaws.{of-slice, of-macroblock, VerdictOf, of-matrix, FoundOf, of-found}
+
+-- a record whose macroblocks fit
+abbrev pub madeRecord : Matrices → PictureState → Macroblock → Applied
+madeRecord q s m =
+    let p = planFor (s .header) (s .next) (s .slice) m in
+    record {
+      verdict = Passed;
+      state = stateAfter s p;
+      macroblocks = macroblocksOfPlan p (coefficientsFor q (s .slice) m);
+    }
+
+-- the outcomes of a record: the symbol that it gives, and its result
+pub data StepCases (q : Matrices) (s : PictureState) : Symbol → RecordStep → Type 0 where
+  refuses : {symbol : Symbol} {after : Matrices} {end : ℕ} (refusal : Refusal) → T (ofRecord refusal) → StepCases q s symbol (record { applied = refusedRecord refusal s; matrices = after; end = end })
+  matrix-passes : {after : Matrices} {end : ℕ} → inTurn (s .turn) matrixKind ≡ true → (body : List ℕ) → StepCases q s none (record { applied = passedRecord (withMatrix s body); matrices = after; end = end })
+  slice-starts : {end : ℕ} → inTurn (s .turn) sliceKind ≡ true → (header : SliceHeader) → legalScale (header .scale) ≡ true → header .start ≡ s .next
+      → StepCases q s (starts header) (record { applied = passedRecord (withSlice s (header .scale)); matrices = q; end = end })
+  macroblocks-made : {end : ℕ} → (s .turn ≡ Turn.Header → ⊥) → (m : Macroblock) → MacroblockLegal (contextOf s) m → StepCases q s (continues m) (record { applied = madeRecord q s m; matrices = q; end = end })
+
+module _ (q : Matrices) (s : PictureState) (end : ℕ) where
+  -- the result of a record, with the matrices after it
+  abbrev takes : Applied → Matrices → RecordStep
+  takes a after = record { applied = a; matrices = after; end = end }
+
+  matrix-way : inTurn (s .turn) matrixKind ≡ true → (body : List ℕ) (after : Matrices) → StepCases q s none (takes (matrixApplied s body) after)
+  unfolding matrixApplied
+  matrix-way turn body after = go (matrixVerdict body (s .loaded)) refl (of-matrix body (s .loaded))
+    where
+      go : (v : Verdict) → matrixVerdict body (s .loaded) ≡ v → VerdictOf v → StepCases q s none (takes (matrixApplied s body) after)
+      go Passed e t = rw e (matrix-passes turn body)
+      go (Refused refusal) e t = rw e (refuses refusal t)
+
+  slice-way : inTurn (s .turn) sliceKind ≡ true → (body : List ℕ) → StepCases q s (sliceSymbol (sliceOf body)) (takes (sliceApplied s body) q)
+  unfolding sliceStarted
+  slice-way turn body = go (sliceOf body) (of-slice body) (slice-legal body)
+    where
+      go : (x : Parsed SliceHeader) → OfRecord x → All (λ l rest. legalScale (l .scale) ≡ true) x → StepCases q s (sliceSymbol x) (takes (sliceStartedFrom s x) q)
+      go (refused refusal) (refused-by t) l = refuses refusal t
+      go (parsed l rest) t (here legal) =
+          require-all (λ (a : Applied). StepCases q s (starts l) (takes a q)) _ _ _ (refuses _ tt) λ start.
+          slice-starts turn l legal (eqb→eq (l .start) (s .next) (subst T (sym start) tt))
+
+  module _ (begun : s .turn ≡ Turn.Header → ⊥) where
+    fit-way : (m : Macroblock) → MacroblockLegal (contextOf s) m → StepCases q s (continues m) (takes (symbolsApplied q s m) q)
+    unfolding symbolsApplied planApplied
+    fit-way m legal = go (recordFit (s .header .size) (planFor (s .header) (s .next) (s .slice) m)) refl
+      where
+        go : (f : Fit) → recordFit (s .header .size) (planFor (s .header) (s .next) (s .slice) m) ≡ f → StepCases q s (continues m) (takes (symbolsApplied q s m) q)
+        go Fits e = rw e (macroblocks-made begun m legal)
+        go Forward e = rw e (refuses _ tt)
+        go Backward e = rw e (refuses _ tt)
+
+    macroblock-way : (body : List ℕ) → StepCases q s (macroblockSymbol (macroblockOf (contextOf s) body)) (takes (macroblockApplied q s body) q)
+    macroblock-way body = go (macroblockOf (contextOf s) body) (of-macroblock (contextOf s) body) (macroblock-legal (contextOf s) body)
+      where
+        go : (x : Parsed Macroblock) → OfRecord x → All (λ m rest. MacroblockLegal (contextOf s) m) x → StepCases q s (macroblockSymbol x) (takes (parsedApplied q s x) q)
+        go (refused refusal) (refused-by t) l = refuses refusal t
+        go (parsed m rest) t (here legal) = fit-way m legal
+
+  -- after the header, only a matrix or a slice is in turn
+  not-first : (turn : Turn) (kind : ℕ) → inTurn turn kind ≡ true → eqb kind matrixKind ≡ false → eqb kind sliceKind ≡ false → turn ≡ Turn.Header → ⊥
+  not-first turn kind e f g h = let z : _≡_ {A = Bool} false true = rw (f, g) at (rw h at e) in subst T (sym z) tt
+
+  applied-cases : (kind : ℕ) (body : List ℕ) → StepCases q s (symbolOf s kind body) (stepWith s q kind body end)
+  unfolding recordApplied
+  applied-cases kind body =
+      require-all (λ (a : Applied). StepCases q s (symbolOf s kind body) (takes a (matricesAfter kind body q))) _ _ _ (refuses _ tt) λ turn.
+      by-kind turn (eqb kind matrixKind) (eqb kind sliceKind) refl refl
+    where
+      by-kind : inTurn (s .turn) kind ≡ true → (is-matrix is-slice : Bool) → eqb kind matrixKind ≡ is-matrix → eqb kind sliceKind ≡ is-slice
+          → StepCases q s (symbolOf s kind body) (takes (cond (eqb kind matrixKind) (matrixApplied s body) (cond (eqb kind sliceKind) (sliceApplied s body) (macroblockApplied q s body))) (matricesAfter kind body q))
+      by-kind turn true is-slice e f = rw e (matrix-way (subst (λ (k : ℕ). inTurn (s .turn) k ≡ true) (eqb→eq kind matrixKind (subst T (sym e) tt)) turn) body (loadedWith body q))
+      by-kind turn false true e f = rw (e, f) (slice-way (subst (λ (k : ℕ). inTurn (s .turn) k ≡ true) (eqb→eq kind sliceKind (subst T (sym f) tt)) turn) body)
+      by-kind turn false false e f = rw (e, f) (macroblock-way (not-first (s .turn) kind turn e f) body)
+
+pub step-cases : (file : List ℕ) (at : ℕ) (s : PictureState) (q : Matrices) → StepCases q s (symbolAt file at s) (stepAt file at s q)
+unfolding stepAt symbolAt
+step-cases file at s q = go (recordOf file at) refl (of-found file at)
+  where
+    go : (r : Record) → recordOf file at ≡ r → FoundOf r → StepCases q s (symbolAt file at s) (stepAt file at s q)
+    go (Record.Refused refusal) e t = rw e (refuses refusal t)
+    go (Record.Found kind start n) e t = rw e (applied-cases q s (start + n) kind (take n (drop start file)))
+
+-- ---- which records make no macroblock
+pub matrix-makes-none : (s : PictureState) (body : List ℕ) → matrixApplied s body .macroblocks ≡ []
+unfolding matrixApplied
+matrix-makes-none s body = go (matrixVerdict body (s .loaded)) refl
+  where
+    go : (v : Verdict) → matrixVerdict body (s .loaded) ≡ v → matrixApplied s body .macroblocks ≡ []
+    go Passed e = rw e
+    go (Refused refusal) e = rw e
+
+pub slice-makes-none : (s : PictureState) (body : List ℕ) → sliceApplied s body .macroblocks ≡ []
+unfolding sliceStarted
+slice-makes-none s body = go (sliceOf body)
+  where
+    go : (x : Parsed SliceHeader) → sliceStartedFrom s x .macroblocks ≡ []
+    go (parsed l rest) = require-all (λ (a : Applied). a .macroblocks ≡ []) _ _ _ refl λ start. refl
+    go (refused refusal) = refl
+
+pub refused-makes-none : (q : Matrices) (s : PictureState) (file : List ℕ) (at : ℕ) (refusal : Refusal) → stepAt file at s q .applied .verdict ≡ Refused refusal → stepAt file at s q .applied .macroblocks ≡ []
+refused-makes-none q s file at refusal = go (step-cases file at s q)
+  where
+    go : {symbol : Symbol} {t : RecordStep} → StepCases q s symbol t → t .applied .verdict ≡ Refused refusal → t .applied .macroblocks ≡ []
+    go (refuses other t) e = refl
+    go (matrix-passes turn body) e = refl
+    go (slice-starts turn header legal start) e = refl
+    go (macroblocks-made begun m legal) e = let z : _≡_ {A = ℕ} 0 1 = cc in absurd (omega arith)
+
+-- ---- a record at an offset, by what is found there
+module _ (file : List ℕ) (at : ℕ) (s : PictureState) (q : Matrices) where
+  pub step-found : {kind start n : ℕ} → recordOf file at ≡ Record.Found kind start n → stepAt file at s q ≡ stepWith s q kind (take n (drop start file)) (start + n)
+  unfolding stepAt
+  step-found e = rw e
+
+  pub step-unfound : {refusal : Refusal} → recordOf file at ≡ Record.Refused refusal → stepAt file at s q ≡ record { applied = refusedRecord refusal s; matrices = q; end = at }
+  unfolding stepAt
+  step-unfound e = rw e
+
+-- ---- a matrix record that passes has the right length
+pub matrix-long : (q : Matrices) (s : PictureState) (body : List ℕ) → recordApplied q s matrixKind body .verdict ≡ Passed → length body ≡ 65
+unfolding recordApplied matrixApplied
+matrix-long q s body = require-all (λ (a : Applied). a .verdict ≡ Passed → length body ≡ 65) _ _ _ (λ e. let z : _≡_ {A = ℕ} 0 1 = cc in absurd (omega arith)) λ turn. go (matrixVerdict body (s .loaded)) refl
+  where
+    go : (v : Verdict) → matrixVerdict body (s .loaded) ≡ v → matrixApplied s body .verdict ≡ Passed → length body ≡ 65
+    go Passed e = λ p. passed-long body (s .loaded) e
+    go (Refused refusal) e = rw e (λ p. let z : _≡_ {A = ℕ} 0 1 = cc in absurd (omega arith))
+
+-- ---- the body of a record that is found starts three bytes on
+record Starts (at : ℕ) (r : Record) : Type 0 where
+  starts : (kind start n : ℕ) → r ≡ Record.Found kind start n → start ≡ at + 3
+
+refused-starts : {at : ℕ} {refusal : Refusal} → Starts at (Record.Refused refusal)
+refused-starts = record { starts = λ kind start n e. let z : _≡_ {A = ℕ} 0 1 = cc in absurd (omega arith) }
+
+pub found-after : (file : List ℕ) (at kind start n : ℕ) → recordOf file at ≡ Record.Found kind start n → start ≡ at + 3
+unfolding recordOf
+found-after file at = whole .starts
+  where
+    whole : Starts at (recordOf file at)
+    whole =
+        require-all (Starts at) _ _ _ refused-starts λ a.
+        require-all (Starts at) _ _ _ refused-starts λ b.
+        require-all (Starts at) _ _ _ refused-starts λ c.
+        require-all (Starts at) _ _ _ refused-starts λ d.
+        record { starts = λ kind start n e. cc }

@@ -1,0 +1,5 @@
+pub mod Written
+pub mod Bytes
+pub mod Lengths
+pub mod Writing
+pub mod Examples

@@ -1,9 +1,0 @@
-pub mod Difference
-pub mod Ring
-pub mod Solve
-pub mod Bound
-pub mod Compare
-pub mod Limit
-pub mod Divide
-pub mod Machine
-pub mod Sum

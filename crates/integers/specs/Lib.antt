@@ -1,3 +1,0 @@
-pub mod Bound
-pub mod Limit
-pub mod Sum

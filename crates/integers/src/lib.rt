@@ -1,1 +1,0 @@
-// Whole numbers: definitions that contracts cite (specs/) and laws (proofs/). No code.

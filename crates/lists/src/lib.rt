@@ -1,1 +1,0 @@
-// Lists by index: definitions that contracts cite (specs/) and their laws (proofs/). No code.

@@ -1,6 +1,0 @@
-pub mod Slice
-pub mod VectorCodes
-pub mod MacroblockHead
-pub mod Vectors
-pub mod Macroblock
-pub mod Decoding

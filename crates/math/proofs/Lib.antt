@@ -1,0 +1,14 @@
+pub mod Tab
+pub mod Scatter
+pub mod Part
+pub mod Test
+pub mod Total
+pub mod Difference
+pub mod Ring
+pub mod Solve
+pub mod Bound
+pub mod Compare
+pub mod Limit
+pub mod Divide
+pub mod Machine
+pub mod Sum

@@ -1,0 +1,55 @@
+-- Laws of `allBelow`: from one computed test to each number, and from a loop of tests to all numbers. Assumes nothing.
+use mathlib.Core.Path.{_≡_, refl, ap₂, subst, sym}
+use mathlib.Core.Bool.{Bool, true, false, _&&_}
+use Prim.Native.Nat.{ℕ, zero, suc, _+_, _<_}
+use native.Mathlib.Decide.{ℕ-discrete}
+use native.Mathlib.Numerals.{add-one}
+use native.Mathlib.Omega.{arith}
+use lib.Dec.{T}
+use Rattle.math.specs.Test.{allBelow}
+
+pub and-left : (a b : Bool) → T (a && b) → T a
+and-left true b t = tt
+and-left false b t = t
+
+pub and-right : (a b : Bool) → T (a && b) → T b
+and-right true b t = t
+and-right false b t = absurd t
+
+pub at-below : (n : ℕ) (test : ℕ → Bool) → T (allBelow n test) → (k : ℕ) → k < n → T (test k)
+unfolding allBelow
+at-below zero test t k h = absurd (omega arith)
+at-below (suc n) test t k h = go (ℕ-discrete k n) (at-below n test (and-right (test n) (allBelow n test) t) k)
+  where
+    go : Dec (k ≡ n) → (k < n → T (test k)) → T (test k)
+    go (yes e) r = subst (λ (j : ℕ). T (test j)) (sym e) (and-left (test n) (allBelow n test) t)
+    go (no e) r = r (omega arith)
+
+pub at-below₂ : (n m : ℕ) (test : ℕ → ℕ → Bool) → T (allBelow n (λ j. allBelow m (test j))) → (j k : ℕ) → j < n → k < m → T (test j k)
+at-below₂ n m test t j k h l = at-below m (test j) (at-below n (λ j. allBelow m (test j)) t j h) k l
+
+-- a loop that tests each number: all pass, or one fails
+pub all-pass : (n : ℕ) (test : ℕ → Bool) → ((k : ℕ) → k < n → test k ≡ true) → allBelow n test ≡ true
+unfolding allBelow
+all-pass zero test h = refl
+all-pass (suc n) test h = ap₂ _&&_ (h n (omega arith)) (all-pass n test (λ k b. h k (omega arith)))
+
+-- a loop that accumulates the tests' answers: one more test
+pub test-more : (n : ℕ) (test : ℕ → Bool) → test n && allBelow n test ≡ allBelow (n + 1) test
+unfolding allBelow
+test-more n test = rw add-one
+
+-- what such a loop implies for one number
+pub all-passed : (n : ℕ) (test : ℕ → Bool) → allBelow n test ≡ true → (k : ℕ) → k < n → test k ≡ true
+all-passed n test e k h = truth (test k) (at-below n test (subst T (sym e) tt) k h)
+  where
+    truth : (b : Bool) → T b → b ≡ true
+    truth true t = refl
+    truth false t = absurd t
+
+pub one-fails : (n : ℕ) (test : ℕ → Bool) (k : ℕ) → k < n → test k ≡ false → allBelow n test ≡ false
+one-fails n test k h e = refuted (allBelow n test) (λ t. subst T e (at-below n test t k h))
+  where
+    refuted : (b : Bool) → (T b → ⊥) → b ≡ false
+    refuted true g = absurd (g tt)
+    refuted false g = refl

@@ -1,0 +1,9 @@
+pub mod Tab
+pub mod Joined
+pub mod Scatter
+pub mod Part
+pub mod Test
+pub mod Total
+pub mod Bound
+pub mod Limit
+pub mod Sum

@@ -1,0 +1,11 @@
+pub mod Writing
+pub mod Answers
+pub mod Lengths
+pub mod Pairs
+pub mod Few
+pub mod Blocks
+pub mod Macroblock
+pub mod Macroblocks
+pub mod Start
+pub mod Slice
+pub mod Answer

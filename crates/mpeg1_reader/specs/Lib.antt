@@ -1,0 +1,3 @@
+pub mod WriteAnswer
+pub mod RecordOffsets
+pub mod Answer

@@ -1,0 +1,11 @@
+pub mod LookUp
+pub mod Level
+pub mod Rest
+pub mod Field
+pub mod SliceStart
+pub mod Range
+pub mod Word
+pub mod Coefficient
+pub mod CoefficientRest
+pub mod CoefficientRange
+pub mod Whole

@@ -1,0 +1,5 @@
+pub mod Requires
+pub mod LookUp
+pub mod SliceStart
+pub mod Difference
+pub mod Coefficient

@@ -1,4 +1,0 @@
-// From a Format 3 file to a picture.
-pub mod macroblock_record;
-pub mod reader;
-pub mod records;

@@ -1,4 +1,0 @@
-pub mod State
-pub mod Vectors
-pub mod Slice
-pub mod Plan

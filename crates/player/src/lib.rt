@@ -1,2 +1,0 @@
-// A reel played: each picture made from the references carried to it.
-pub mod play;

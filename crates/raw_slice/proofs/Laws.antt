@@ -1,4 +1,0 @@
-pub mod Macroblocks
-pub mod Start
-pub mod Slice
-pub mod Answer

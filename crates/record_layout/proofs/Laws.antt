@@ -1,3 +1,0 @@
-pub mod Lengths
-pub mod Laying
-pub mod Examples

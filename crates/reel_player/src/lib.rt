@@ -1,0 +1,2 @@
+// Plays a reel: reconstructs each picture from the references kept so far.
+pub mod play;

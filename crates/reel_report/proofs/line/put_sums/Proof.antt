@@ -1,0 +1,31 @@
+-- `put_sums` meets its contract: it writes three fields in order. Assumes nothing.
+use native.Mathlib.Omega.{arith}
+use borrow.Author.Needs.{needs}
+use Rattle.reel_text.proofs.PutLaws.{put, put-then}
+use Rattle.reel_report.proofs.line.put_sums.Statement.{statement}
+use Rattle.reel_report.proofs.line.put_sums.Tie as tie
+
+put-field-requires : tie.Need-put-field-requires
+put-field-requires c κs = search needs
+
+put-field-requires-2 : tie.Need-put-field-requires-2
+put-field-requires-2 c κs = search needs
+
+put-field-requires-3 : tie.Need-put-field-requires-3
+put-field-requires-3 c κs = search needs
+
+same-length : tie.Need-same-length
+same-length c = search needs
+
+returns : tie.Need-returns
+returns c =
+    let one = c .before .before .before .before .before .before .before .before .before .before .put-field .ensures in
+    let two = c .before .before .before .before .before .before .put-field2 .ensures in
+    let three = c .before .before .put-field3 .ensures in
+    let whole = put-then (put (one .0) (one .1 .1)) (put-then (put (two .0) (two .1 .1)) (put (three .0) (three .1 .1))) in
+    (whole .ends, (omega (arith, one .1 .0, two .1 .0, three .1 .0), whole .lies))
+
+pub put-sums-spec : {M : Type 1} → statement M
+put-sums-spec =
+    tie.close
+    (tie.spec put-field-requires put-field-requires-2 put-field-requires-3 same-length returns)

@@ -1,3 +1,0 @@
-pub mod Ended
-pub mod Framed
-pub mod Read

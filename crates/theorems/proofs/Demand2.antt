@@ -1,0 +1,43 @@
+-- Demand 2: each theorem cites its law. Assumes nothing.
+use Rattle.format3_picture.proofs.Alone.{picture-alone}
+use Rattle.theorems_picture.proofs.Demand1.{symbols-own, before-of-symbols}
+use Rattle.theorems_picture.proofs.Demand2 as Laws
+use Rattle.theorems_picture.proofs.Worked.{two-slices-header-read, two-slices-symbols}
+use Rattle.theorems_picture.specs.Worked.{zeros}
+use Rattle.theorems.specs.Demand2.{ExactlyWhenNoneApplies, AcceptedIsReconstruction, SameAnswer, SameBytes, OutputOfSymbols, RefusedMakesSymbols, WorkedSymbols}
+
+pub accepted-exactly : ExactlyWhenNoneApplies
+accepted-exactly transform file forward backward output = (Laws.none-applies transform file forward backward output, Laws.accepted-by-none transform file forward backward output)
+
+pub accepted-is-reconstruction : AcceptedIsReconstruction
+accepted-is-reconstruction transform file forward backward output number =
+    let a = Laws.accepted-whole transform file forward backward output number in
+    record {
+      header = a .header;
+      end = a .end;
+      header-read = a .header-read;
+      answer = a .answer;
+      reached = a .reached;
+      passing = a .passing;
+      none-left = a .none-left;
+      same = a .same;
+      order = a .order;
+      equal = Laws.output-of-symbols transform file forward backward output (a .header-read);
+      owned = Laws.owner-inside transform file forward backward output (a .header-read);
+      bytes = symbols-own transform file forward backward output (a .header-read);
+    }
+
+pub same-answer : SameAnswer
+same-answer transform file forward backward first second long = picture-alone transform file forward backward first second long .answer
+
+pub same-bytes : SameBytes
+same-bytes transform file forward backward first second long = picture-alone transform file forward backward first second long .bytes
+
+pub output-of-symbols : OutputOfSymbols
+output-of-symbols transform file forward backward output h end = Laws.output-of-symbols transform file forward backward output
+
+pub refused-makes-symbols : RefusedMakesSymbols
+refused-makes-symbols file forward backward output h end e refusal place before a = before-of-symbols zeros file forward backward output a h end e
+
+pub worked-symbols : WorkedSymbols
+worked-symbols = record { header-read = two-slices-header-read; symbols = two-slices-symbols }

@@ -1,0 +1,100 @@
+-- Demand 1: "The lent memory is in a known state after every call. Every public entry takes every input, ends, and either does its work or gives one
+-- of the numbered refusals; a refused picture holds exactly the macroblocks of the records before the refused one, and every other byte is what it
+-- was at entry."
+--
+-- The contract of `reconstruct` says for every input that its answer and the output at exit are those of `pictureOf`
+-- (crates/format3_picture/specs/Picture.antt). The theorems here are about `pictureOf`, with any inverse transform; `reconstruct` uses
+-- document 01's. Two parts of the demand need no theorem: no entry has a `requires`, so each takes every input, and the checker accepts
+-- no function that may not return.
+--
+-- `Applies` (crates/theorems_picture/specs/Applies.antt) says which refusal of document 01 applies to a file, at which place (a byte
+-- offset), and which macroblocks the records before it made. `ownerOf` is the address of the macroblock that a byte belongs to, and
+-- `byteOf` is the macroblock's value for the byte (crates/decode_macroblock/specs).
+use mathlib.Core.List.{List}
+use mathlib.Core.Logic.{_⊎_}
+use mathlib.Core.Path.{_≡_}
+use Prim.Native.Nat.{ℕ, _≤_, _<_}
+use lib.IntN.{ℤ}
+use lib.ListN.{length, getD}
+use Rattle.refusals.specs.Refusal.{accepted, numberOf}
+use Rattle.refusals.specs.declared.Refusal.{Refusal}
+use Rattle.refusals.specs.declared.Refusal.the-variants.{FileEnds}
+use Rattle.symbols.specs.Size.{macroblockCount}
+use Rattle.symbols.specs.declared.header.Header.{Header}
+use Rattle.decode_macroblock.specs.Byte.{byteOf}
+use Rattle.decode_macroblock.specs.Compensation.{references}
+use Rattle.decode_macroblock.specs.Macroblock.{MadeMacroblock, InOrder, Each}
+use Rattle.decode_macroblock.specs.Owner.{ownerOf}
+use Rattle.format3_header.specs.declared.file_start.FileStart.the-variants.{HeaderRead}
+use Rattle.format3_picture.specs.Picture.{refusedAt, pictureOf, answerOf}
+use Rattle.theorems_picture.specs.Applies.{fileStart, Applies, AppliesTo}
+use Rattle.theorems_picture.specs.Worked.{cases, answers, expectations}
+
+-- "The lent memory is in a known state": the output is as long as it was. The theorems below and demand 2 say what its bytes are
+abbrev pub KeepsLength : Type 0
+KeepsLength =
+    (transform : List ℤ → ℕ → ℤ) (file forward backward output : List ℕ)
+    → length (pictureOf transform file forward backward output .output) ≡ length output
+
+-- "either does its work or gives one of the numbered refusals": the picture is accepted, or a refusal of document 01 applies
+abbrev pub WorkOrRefusal : Type 0
+WorkOrRefusal =
+    (transform : List ℤ → ℕ → ℤ) (file forward backward output : List ℕ)
+    → (pictureOf transform file forward backward output .number ≡ accepted) ⊎ AppliesTo file forward backward output
+
+-- the refusal that applies is given. "The answer is number, place, made. .. Made is the count of macroblocks written" (document 01)
+abbrev pub RefusalGiven : Type 0
+RefusalGiven =
+    (transform : List ℤ → ℕ → ℤ) (file forward backward output : List ℕ) (refusal : Refusal) (place : ℕ) (before : List MadeMacroblock)
+    → Applies file forward backward output refusal place before
+    → answerOf (pictureOf transform file forward backward output) ≡ refusedAt refusal place (length before)
+
+-- the reader's numbers are 0 and those of the refusals 1 to 21; two refusals never share a number, and none has that of acceptance
+abbrev pub NumberListed : Type 0
+NumberListed =
+    (transform : List ℤ → ℕ → ℤ) (file forward backward output : List ℕ)
+    → pictureOf transform file forward backward output .number ≤ 21
+
+abbrev pub NumbersDiffer : Type 0
+NumbersDiffer = (a b : Refusal) → numberOf a ≡ numberOf b → a ≡ b
+
+abbrev pub NeverAccepted : Type 0
+NeverAccepted = (refusal : Refusal) → ¬ (numberOf refusal ≡ accepted)
+
+-- "a refused picture holds exactly the macroblocks of the records before the refused one, and every other byte is what it was at entry"
+pub record RefusedPicture (transform : List ℤ → ℕ → ℤ) (file forward backward output : List ℕ) (before : List MadeMacroblock) : Type 0 where
+  -- the macroblocks have the addresses 0, 1, 2 and so on, each once
+  pub order : InOrder 0 before (length before)
+  -- each byte of one of them is that macroblock's: prediction plus residue, limited
+  pub held :
+      (h : Header) (end : ℕ) → fileStart file forward backward output ≡ HeaderRead h end
+      → Each (λ m. (i : ℕ) → i < length output → ownerOf (h .size) i ≡ m .address
+      → getD (pictureOf transform file forward backward output .output) i 0 ≡ byteOf transform (references forward backward) (h .size) m i) before
+  -- a byte that belongs to none of them is unchanged; if the file's start is refused, there is no header, and every byte is unchanged
+  pub others :
+      (i : ℕ) → i < length output
+      → ((h : Header) (end : ℕ) → fileStart file forward backward output ≡ HeaderRead h end → length before ≤ ownerOf (h .size) i)
+      → getD (pictureOf transform file forward backward output .output) i 0 ≡ getD output i 0
+
+abbrev pub RefusedHolds : Type 0
+RefusedHolds =
+    (transform : List ℤ → ℕ → ℤ) (file forward backward output : List ℕ) (refusal : Refusal) (place : ℕ) (before : List MadeMacroblock)
+    → Applies file forward backward output refusal place before
+    → RefusedPicture transform file forward backward output before
+
+-- "7 said at the start: barred, as 7 needs the file's end reached with macroblocks missing" (document 01, "Reviewer's checklist")
+pub record Missing (transform : List ℤ → ℕ → ℤ) (file forward backward output : List ℕ) : Type 0 where
+  pub at-end : pictureOf transform file forward backward output .place ≡ length file
+  pub fewer :
+      (h : Header) (end : ℕ) → fileStart file forward backward output ≡ HeaderRead h end
+      → pictureOf transform file forward backward output .made < macroblockCount (h .size)
+
+abbrev pub SevenMissing : Type 0
+SevenMissing =
+    (transform : List ℤ → ℕ → ℤ) (file forward backward output : List ℕ)
+    → pictureOf transform file forward backward output .number ≡ numberOf FileEnds
+    → Missing transform file forward backward output
+
+-- Thirty files and their answers: each refusal 1 to 21 applies to at least one of them, and two are accepted
+abbrev pub Worked : Type 0
+Worked = answers cases ≡ expectations cases

@@ -1,0 +1,17 @@
+-- What is proved, on one page: a file for each demand, for each request, and for what document 01 says beyond the demands.
+-- the lent memory after every call: what a refusal gives, what a refused picture holds, and which bytes stay
+pub mod Demand1
+-- accepted exactly when no refusal applies; an accepted picture is the standard's, byte for byte
+pub mod Demand2
+-- the inverse transform lies within 9/16 of the exact cosine sum, and the ends hold the cosines
+pub mod Demand3
+-- raw slices: when one is accepted, what is written, and what the strict reader reads from it
+pub mod Request2
+-- the writer and the reader of a record undo one another
+pub mod Records
+-- sentences that follow from the rules: coefficients, vectors, fit, means
+pub mod Rules
+-- the starred figures
+pub mod Figures
+-- where panels drift
+pub mod Drifts

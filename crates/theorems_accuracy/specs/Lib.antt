@@ -1,0 +1,5 @@
+pub mod Ends
+pub mod Fraction
+pub mod ExactSum
+pub mod OrderedRing
+pub mod Cosines

@@ -1,0 +1,6 @@
+pub mod AmongLaws
+pub mod PassingLaws
+pub mod FileStartLaws
+pub mod Demand1
+pub mod Demand2
+pub mod Worked

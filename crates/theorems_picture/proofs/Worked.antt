@@ -1,0 +1,48 @@
+-- The worked files, by computation. Assumes nothing.
+use mathlib.Core.List.{[]}
+use mathlib.Core.Path.{_≡_, refl}
+use lib.ListN.{replicate}
+use Rattle.math.specs.Test.{allBelow}
+use Rattle.symbols.specs.Guard.{require_else_then_}
+use Rattle.symbols.specs.Size.{legalSize}
+use Rattle.symbols.specs.Header.{legalCodings, legalHeader, headerWith}
+use Rattle.symbols.specs.MacroblockType.{legalType}
+use Rattle.symbols.specs.Pattern.{isCoded}
+use Rattle.decode_coefficients.specs.Dc.{dcPastOf, withDcPast, startingDcPasts}
+use Rattle.decode_vectors.specs.Vector.{vectorDifferenceOf as vectorDifference, wrapped, vectorOf, codeInRange, residualInRange}
+use Rattle.decode_prediction.specs.Fit.{vectorFits, macroblockFits}
+use Rattle.decode_macroblock.specs.Fit.{directionFits, fitOf, firstMisfit}
+use Rattle.decode_state.specs.Plan.{planOf}
+use Rattle.decode_state.specs.Vectors.{vectorPastsBefore, forwardAfter, vectorPastsAfter, predictsForward, predictsBackward, ownMotion, nextVectorPasts}
+use Rattle.format3_records.specs.Field.{twosComplement, byte, twoBytes, signedByte, signedTwoBytes}
+use Rattle.format3_records.specs.Record.{recordLengthAt, kindAt, recordOf}
+use Rattle.format3_header.specs.Header.{headerOf}
+use Rattle.format3_header.specs.Lengths.{lentLengths}
+use Rattle.format3_header.specs.FileStart.{firstHeader, fileStartOf}
+use Rattle.format3_header.specs.declared.file_start.FileStart.the-variants.{HeaderRead}
+use Rattle.format3_matrices.specs.Matrix.{positive, matrixVerdict}
+use Rattle.format3_macroblock.specs.Pairs.{pairsOf}
+use Rattle.format3_macroblock.specs.Blocks.{legalDifference, legalDc, differenceOf, legalCount, countOf, levelsOf, blockOf, blocksOf}
+use Rattle.format3_macroblock.specs.Slice.{scaleOf, sliceFieldsOf, sliceOf}
+use Rattle.format3_macroblock.specs.MacroblockHead.{legalIncrement, headOf}
+use Rattle.format3_macroblock.specs.VectorCodes.{vectorCodeOf, vectorCodesOf}
+use Rattle.format3_macroblock.specs.Macroblock.{patternOf, macroblockSymbolsOf as macroblockSymbols, blocksToEndOf, macroblockOf}
+use Rattle.format3_macroblock.specs.Vectors.{vectorsOf}
+use Rattle.format3_picture.specs.MacroblockRecord.{recordFit, planApplied, symbolsApplied}
+use Rattle.format3_picture.specs.Picture.{recordsFrom, symbolsOf, pictureOf}
+use Rattle.format3_picture.specs.Step.{matrixApplied, sliceStarted, recordApplied, stepAt}
+use Rattle.format3_picture.specs.Symbols.{symbolAt}
+use Rattle.theorems_picture.specs.Applies.{fileStart}
+use Rattle.theorems_picture.specs.Worked.{cases, answers, expectations, twoSlices, twoWide, twoSlicesSymbols}
+
+pub worked : answers cases ≡ expectations cases
+unfolding symbolAt allBelow require_else_then_ vectorFits macroblockFits vectorDifference wrapped vectorOf codeInRange residualInRange twosComplement byte twoBytes signedByte signedTwoBytes recordLengthAt kindAt recordOf legalSize legalCodings legalHeader headerWith headerOf lentLengths firstHeader fileStartOf positive matrixVerdict scaleOf sliceFieldsOf sliceOf legalType legalIncrement headOf vectorCodeOf vectorCodesOf pairsOf legalDifference legalDc differenceOf legalCount countOf levelsOf blockOf dcPastOf withDcPast isCoded blocksOf patternOf macroblockSymbols startingDcPasts blocksToEndOf macroblockOf vectorsOf directionFits fitOf firstMisfit planOf vectorPastsBefore forwardAfter vectorPastsAfter predictsForward predictsBackward ownMotion nextVectorPasts recordFit planApplied symbolsApplied recordsFrom pictureOf matrixApplied sliceStarted recordApplied stepAt
+worked = refl
+
+pub two-slices-header-read : fileStart twoSlices [] [] (replicate 768 7) ≡ HeaderRead twoWide 11
+unfolding symbolAt require_else_then_ twosComplement byte twoBytes signedTwoBytes recordLengthAt kindAt recordOf legalSize legalCodings legalHeader headerWith headerOf lentLengths firstHeader fileStartOf scaleOf sliceFieldsOf sliceOf legalType legalIncrement headOf legalDifference legalDc differenceOf legalCount countOf levelsOf blockOf dcPastOf withDcPast isCoded blocksOf macroblockSymbols startingDcPasts blocksToEndOf macroblockOf vectorsOf directionFits fitOf firstMisfit planOf predictsForward predictsBackward ownMotion recordFit planApplied symbolsApplied recordsFrom sliceStarted recordApplied stepAt pairsOf
+two-slices-header-read = refl
+
+pub two-slices-symbols : symbolsOf twoSlices twoWide 11 ≡ twoSlicesSymbols
+unfolding symbolAt require_else_then_ twosComplement byte twoBytes signedTwoBytes recordLengthAt kindAt recordOf legalSize legalCodings legalHeader headerWith headerOf lentLengths firstHeader fileStartOf scaleOf sliceFieldsOf sliceOf legalType legalIncrement headOf legalDifference legalDc differenceOf legalCount countOf levelsOf blockOf dcPastOf withDcPast isCoded blocksOf macroblockSymbols startingDcPasts blocksToEndOf macroblockOf vectorsOf directionFits fitOf firstMisfit planOf predictsForward predictsBackward ownMotion recordFit planApplied symbolsApplied recordsFrom sliceStarted recordApplied stepAt pairsOf
+two-slices-symbols = refl

@@ -1,0 +1,10 @@
+pub mod WellFramed
+pub mod FieldFit
+pub mod Legal
+pub mod ReadBack
+pub mod WorkedRecords
+pub mod WellFormed
+pub mod Slices
+pub mod Ended
+pub mod Read
+pub mod WorkedSlices
