@@ -25,12 +25,11 @@ typedef uint32_t reconstruct_function(
     const uint8_t *forward, size_t forward_length,
     const uint8_t *backward, size_t backward_length,
     uint8_t *output, size_t output_length,
-    size_t *place, size_t *made);
+    struct format3_picture_result *result);
 
 struct answer {
     uint32_t number;
-    size_t place;
-    size_t made;
+    struct format3_picture_result result;
 };
 
 enum { MAX_PICTURE_BYTES = FORMAT3_MACROBLOCK_BYTES * FORMAT3_MAX_MACROBLOCKS };
@@ -40,7 +39,7 @@ static struct answer run(reconstruct_function *reconstruct, const struct job *jo
     struct answer answer;
     answer.number = reconstruct(
         job->file, job->file_length, job->forward, job->forward_length, job->backward, job->backward_length,
-        output, job->picture_length, &answer.place, &answer.made);
+        output, job->picture_length, &answer.result);
     return answer;
 }
 
@@ -52,8 +51,8 @@ static bool same(const struct job *job)
     memset(ours, 0x5a, job->picture_length);
     memset(theirs, 0x5a, job->picture_length);
     struct answer library = run(format3_reconstruct, job, ours), plain = run(plain_reconstruct, job, theirs);
-    return library.number == plain.number && library.place == plain.place && library.made == plain.made
-        && memcmp(ours, theirs, job->picture_length) == 0;
+    return library.number == plain.number && library.result.place == plain.result.place
+        && library.result.made == plain.result.made && memcmp(ours, theirs, job->picture_length) == 0;
 }
 
 /* Compares both on the file with one byte changed, at offsets spread over it. */
@@ -159,12 +158,12 @@ static struct answer measured(reconstruct_function *reconstruct, const struct jo
 }
 
 __attribute__((noinline))
-static void measured_transform(bool library, const int16_t coefficients[64], int16_t residues[64])
+static uint32_t measured_transform(bool library, const int16_t coefficients[64], int16_t residues[64])
 {
     if (library)
-        format3_transform(coefficients, residues);
-    else
-        plain_transform(coefficients, residues);
+        return format3_transform(coefficients, residues);
+    plain_transform(coefficients, residues);
+    return FORMAT3_ACCEPTED;
 }
 
 /* Decodes a picture once and checks that it is the one the library made before. */
@@ -228,8 +227,7 @@ static int transform(const char *who)
     int16_t coefficients[64], residues[64];
     for (int k = 0; k < 64; k++)
         coefficients[k] = (int16_t)((37 * k % 61 - 30) * 5);
-    measured_transform(is_library(who), coefficients, residues);
-    return 0;
+    return measured_transform(is_library(who), coefficients, residues) == FORMAT3_ACCEPTED ? 0 : 1;
 }
 
 static int census(struct job job)
@@ -250,6 +248,7 @@ static int census(struct job job)
 int main(int count, char **argument)
 {
     const char *command = count > 1 ? argument[1] : "";
+    require_version();
     if (strcmp(command, "compare") == 0)
         return compare(argument + 2, count - 2);
     if (strcmp(command, "time") == 0)

@@ -7,10 +7,10 @@
 
 #include "format3.h"
 
-enum { I_PICTURE = 1, P_PICTURE = 2, B_PICTURE = 3 };
 enum { FORWARD = 2, BACKWARD = 4, PATTERN = 8, INTRA = 16 };
-enum { LENGTH_BYTES = 4, UP_TO_TYPE = 7 };
+enum { LENGTH_BYTES = 4 };
 
+/* By coding type. format3_read_header gives 1 to 3, and 0 if it refuses the header. */
 static const char LETTERS[] = "?IPB";
 
 _Noreturn static void fail(const char *what, const char *why)
@@ -25,6 +25,12 @@ static void *allocate(size_t length)
     if (memory == NULL)
         fail("memory", "not enough");
     return memory;
+}
+
+void require_version(void)
+{
+    if (format3_api_version() != FORMAT3_API_VERSION)
+        fail("the library", "has another interface than format3.h");
 }
 
 /* ---- reels */
@@ -68,29 +74,32 @@ static void lend(struct job *job, const struct job *forward, const struct job *b
     }
 }
 
-/* A job for a file with a complete header: width, height and type are its bytes 4 to 6. */
-static struct job job_of_file(uint8_t *file, size_t length, struct references references)
+/* A job for a file. Exits if its header is refused. */
+static struct job job_of_file(const char *path, uint8_t *file, size_t length, struct references references)
 {
-    int type = file[6];
-    struct job job = {.file = file, .file_length = length, .macroblocks = file[4] * file[5]};
-    job.letter = LETTERS[type <= B_PICTURE ? type : 0];
+    struct format3_header header;
+    uint32_t number = format3_read_header(file, length, &header);
+    if (number != FORMAT3_ACCEPTED)
+        fail(path, format3_answer_text(number));
+    struct job job = {.file = file, .file_length = length, .macroblocks = (int)(header.width * header.height)};
+    job.letter = LETTERS[header.coding_type];
     job.picture_length = (size_t)(FORMAT3_MACROBLOCK_BYTES * job.macroblocks);
     job.picture = allocate(job.picture_length);
-    if (type == P_PICTURE)
+    if (header.coding_type == FORMAT3_P_PICTURE)
         lend(&job, references.newer, NULL);
-    if (type == B_PICTURE)
+    if (header.coding_type == FORMAT3_B_PICTURE)
         lend(&job, references.older, references.newer);
     return job;
 }
 
 static void decode(struct job *job, const char *name)
 {
-    size_t place, made;
+    struct format3_picture_result result;
     uint32_t number = format3_reconstruct(
         job->file, job->file_length, job->forward, job->forward_length, job->backward, job->backward_length,
-        job->picture, job->picture_length, &place, &made);
+        job->picture, job->picture_length, &result);
     if (number != FORMAT3_ACCEPTED)
-        fail(name, "a picture is refused");
+        fail(name, format3_answer_text(number));
 }
 
 static size_t big_endian(const uint8_t length[LENGTH_BYTES])
@@ -127,9 +136,7 @@ struct jobs jobs_of_reel(const char *path)
     size_t offset = 0;
     for (int k = 0; k < jobs.count; k++) {
         size_t length = file_length_at(path, reel, offset);
-        if (length < UP_TO_TYPE)
-            fail(path, "a picture has no header");
-        jobs.job[k] = job_of_file(reel.data + offset + LENGTH_BYTES, length, references);
+        jobs.job[k] = job_of_file(path, reel.data + offset + LENGTH_BYTES, length, references);
         decode(&jobs.job[k], path);
         if (jobs.job[k].letter != 'B')
             references = (struct references){&jobs.job[k], references.newer};
@@ -172,7 +179,7 @@ static void end_record(struct job *job, size_t start)
 
 static void put_header(struct job *job, int type)
 {
-    int forward = type != I_PICTURE, backward = type == B_PICTURE;
+    int forward = type != FORMAT3_I_PICTURE, backward = type == FORMAT3_B_PICTURE;
     int fields[7] = {WIDTH, HEIGHT, type, 0, forward, 0, backward};
     size_t start = start_record(job, FORMAT3_KIND_HEADER);
     for (int k = 0; k < 7; k++)
@@ -283,7 +290,7 @@ static uint8_t *noise(size_t length)
 
 struct job made_job(enum made_kind kind, int blocks, int pairs)
 {
-    static const int types[] = {I_PICTURE, P_PICTURE, B_PICTURE, P_PICTURE};
+    static const int types[] = {FORMAT3_I_PICTURE, FORMAT3_P_PICTURE, FORMAT3_B_PICTURE, FORMAT3_P_PICTURE};
     int type = types[kind];
     struct job job = {.macroblocks = MACROBLOCKS, .letter = LETTERS[type]};
     job.picture_length = FORMAT3_MACROBLOCK_BYTES * MACROBLOCKS;
@@ -295,7 +302,7 @@ struct job made_job(enum made_kind kind, int blocks, int pairs)
     for (int address = 0; address < MACROBLOCKS; address++)
         put_macroblock(&job, kind, address, coded_blocks(kind, address, blocks), pairs);
     struct job reference = {.picture = noise(job.picture_length), .picture_length = job.picture_length};
-    lend(&job, type == I_PICTURE ? NULL : &reference, type == B_PICTURE ? &reference : NULL);
+    lend(&job, type == FORMAT3_I_PICTURE ? NULL : &reference, type == FORMAT3_B_PICTURE ? &reference : NULL);
     decode(&job, "made picture");
     return job;
 }

@@ -25,6 +25,9 @@ struct jobs {
     int count;
 };
 
+/* Exits if the library has another interface than format3.h. */
+void require_version(void);
+
 /* The pictures of a reel, decoded once by the library. Exits if there are none, or if the reel is cut or a picture is
  * refused. */
 struct jobs jobs_of_reel(const char *path);

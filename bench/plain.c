@@ -6,14 +6,14 @@
 
 #include "format3.h"
 
-#ifdef PLAIN_CENSUS
 struct plain_census plain_census;
+
+#ifdef PLAIN_CENSUS
 #define COUNT(what) (plain_census.what++)
 #else
 #define COUNT(what) ((void)0)
 #endif
 
-enum { I_PICTURE = 1, P_PICTURE = 2, B_PICTURE = 3 };
 enum { GIVES_SCALE = 1, GIVES_FORWARD = 2, GIVES_BACKWARD = 4, GIVES_PATTERN = 8, IS_INTRA = 16 };
 enum { FORWARD = 0, BACKWARD = 1 };
 enum { INTRA_WEIGHTS = 0, NON_INTRA_WEIGHTS = 1 };
@@ -197,14 +197,14 @@ static uint32_t read_pairs(struct rest *rest, int count, bool intra, int scale, 
         int run, level;
         COUNT(pairs);
         if (!read_byte(rest, &run))
-            return FORMAT3_BODY_LENGTH;
+            return FORMAT3_REFUSED_BODY_LENGTH;
         position += run + 1;
         if (position > 63)
-            return FORMAT3_COEFFICIENT;
+            return FORMAT3_REFUSED_COEFFICIENT;
         if (!read_signed_word(rest, &level))
-            return FORMAT3_BODY_LENGTH;
+            return FORMAT3_REFUSED_BODY_LENGTH;
         if (level == 0 || !within(LEVEL_MOST, level))
-            return FORMAT3_COEFFICIENT;
+            return FORMAT3_REFUSED_COEFFICIENT;
         int place = ZIGZAG[position];
         block[place] = scaled(intra, level, scale, weight[place]);
     }
@@ -215,12 +215,12 @@ static uint32_t read_dc(struct rest *rest, int *past, int16_t *block)
 {
     int difference;
     if (!read_signed_word(rest, &difference))
-        return FORMAT3_BODY_LENGTH;
+        return FORMAT3_REFUSED_BODY_LENGTH;
     if (!within(LEVEL_MOST, difference))
-        return FORMAT3_DC_COEFFICIENT;
+        return FORMAT3_REFUSED_DC_COEFFICIENT;
     int dc = *past + 8 * difference;
     if (dc < 0 || dc > DC_MOST)
-        return FORMAT3_DC_COEFFICIENT;
+        return FORMAT3_REFUSED_DC_COEFFICIENT;
     *past = dc;
     block[0] = (int16_t)dc;
     return 0;
@@ -238,9 +238,9 @@ static uint32_t read_block(struct rest *rest, const struct picture *picture, str
     }
     int count;
     if (!read_byte(rest, &count))
-        return FORMAT3_BODY_LENGTH;
+        return FORMAT3_REFUSED_BODY_LENGTH;
     if (intra ? count > 63 : count < 1 || count > 64)
-        return FORMAT3_COEFFICIENT;
+        return FORMAT3_REFUSED_COEFFICIENT;
     const uint8_t *weight = picture->weight[intra ? INTRA_WEIGHTS : NON_INTRA_WEIGHTS];
     return read_pairs(rest, count, intra, symbols->scale, weight, block);
 }
@@ -260,7 +260,7 @@ static bool legal_increment(const struct picture *picture, int increment)
         return false;
     if (increment == 1)
         return true;
-    return !slice->first && picture->type != I_PICTURE && !(picture->type == B_PICTURE && slice->intra);
+    return !slice->first && picture->type != FORMAT3_I_PICTURE && !(picture->type == FORMAT3_B_PICTURE && slice->intra);
 }
 
 static int moved(int f, int past, int code, int residual)
@@ -278,13 +278,13 @@ static uint32_t read_component(struct rest *rest, int f, int *past)
 {
     int code, residual;
     if (!read_signed_byte(rest, &code))
-        return FORMAT3_BODY_LENGTH;
+        return FORMAT3_REFUSED_BODY_LENGTH;
     if (!within(CODE_MOST, code))
-        return FORMAT3_VECTOR_CODE;
+        return FORMAT3_REFUSED_VECTOR_CODE;
     if (!read_byte(rest, &residual))
-        return FORMAT3_BODY_LENGTH;
+        return FORMAT3_REFUSED_BODY_LENGTH;
     if (code == 0 ? residual != 0 : residual >= f)
-        return FORMAT3_VECTOR_CODE;
+        return FORMAT3_REFUSED_VECTOR_CODE;
     *past = moved(f, *past, code, residual);
     return 0;
 }
@@ -308,21 +308,21 @@ static uint32_t read_vectors(struct rest *rest, const struct picture *picture, s
 static uint32_t read_scale(struct rest *rest, int *scale)
 {
     if (!read_byte(rest, scale))
-        return FORMAT3_BODY_LENGTH;
-    return *scale < 1 || *scale > SCALE_MOST ? FORMAT3_QUANTIZER_SCALE : 0;
+        return FORMAT3_REFUSED_BODY_LENGTH;
+    return *scale < 1 || *scale > SCALE_MOST ? FORMAT3_REFUSED_QUANTIZER_SCALE : 0;
 }
 
 static uint32_t read_head(struct rest *rest, const struct picture *picture, struct symbols *symbols)
 {
     int increment;
     if (!read_byte(rest, &symbols->type))
-        return FORMAT3_BODY_LENGTH;
+        return FORMAT3_REFUSED_BODY_LENGTH;
     if (!legal_type(picture->type, symbols->type))
-        return FORMAT3_MACROBLOCK_TYPE;
+        return FORMAT3_REFUSED_MACROBLOCK_TYPE;
     if (!read_word(rest, &increment))
-        return FORMAT3_BODY_LENGTH;
+        return FORMAT3_REFUSED_BODY_LENGTH;
     if (!legal_increment(picture, increment))
-        return FORMAT3_ADDRESS_INCREMENT;
+        return FORMAT3_REFUSED_ADDRESS_INCREMENT;
     symbols->skipped = increment - 1;
     symbols->scale = picture->slice.scale;
     return symbols->type & GIVES_SCALE ? read_scale(rest, &symbols->scale) : 0;
@@ -334,8 +334,8 @@ static uint32_t read_pattern(struct rest *rest, struct symbols *symbols)
     if (!(symbols->type & GIVES_PATTERN))
         return 0;
     if (!read_byte(rest, &symbols->pattern))
-        return FORMAT3_BODY_LENGTH;
-    return symbols->pattern < 1 || symbols->pattern > 63 ? FORMAT3_PATTERN : 0;
+        return FORMAT3_REFUSED_BODY_LENGTH;
+    return symbols->pattern < 1 || symbols->pattern > 63 ? FORMAT3_REFUSED_PATTERN : 0;
 }
 
 /* The predictors that the record starts from: a skip resets those of DC and, in P, those of vectors. */
@@ -347,7 +347,7 @@ static void start_pasts(const struct picture *picture, struct symbols *symbols)
         return;
     for (int k = 0; k < 3; k++)
         symbols->dc[k] = DC_RESET;
-    if (picture->type == P_PICTURE)
+    if (picture->type == FORMAT3_P_PICTURE)
         memset(symbols->past, 0, sizeof symbols->past);
 }
 
@@ -365,7 +365,7 @@ static uint32_t read_symbols(struct rest rest, const struct picture *picture, st
         if ((refusal = read_block(&rest, picture, symbols, number)))
             return refusal;
     }
-    return rest.at == rest.end ? 0 : FORMAT3_BODY_LENGTH;
+    return rest.at == rest.end ? 0 : FORMAT3_REFUSED_BODY_LENGTH;
 }
 
 /* ---- motion */
@@ -387,7 +387,7 @@ static struct motion motion_of(const struct picture *picture, const struct symbo
         motion.used[k] = true;
         motion.vector[k] = used_vector(picture->direction[k], symbols->past[k]);
     }
-    if (picture->type == P_PICTURE && !(symbols->type & IS_INTRA))
+    if (picture->type == FORMAT3_P_PICTURE && !(symbols->type & IS_INTRA))
         motion.used[FORWARD] = true;
     return motion;
 }
@@ -395,7 +395,7 @@ static struct motion motion_of(const struct picture *picture, const struct symbo
 static struct motion skip_motion(const struct picture *picture)
 {
     struct motion still = {{true, false}, {{0, 0}, {0, 0}}};
-    return picture->type == P_PICTURE ? still : picture->slice.last;
+    return picture->type == FORMAT3_P_PICTURE ? still : picture->slice.last;
 }
 
 static bool fits_at(int place, int length, int component)
@@ -525,7 +525,7 @@ static void update_slice(struct picture *picture, const struct symbols *symbols,
     for (int k = 0; k < 3; k++)
         slice->dc[k] = intra ? symbols->dc[k] : DC_RESET;
     memcpy(slice->past, symbols->past, sizeof slice->past);
-    if (intra || (picture->type == P_PICTURE && !(symbols->type & GIVES_FORWARD)))
+    if (intra || (picture->type == FORMAT3_P_PICTURE && !(symbols->type & GIVES_FORWARD)))
         memset(slice->past, 0, sizeof slice->past);
     slice->last = *motion;
     slice->first = false;
@@ -542,9 +542,9 @@ static uint32_t act_macroblock(struct picture *picture, struct rest body)
     struct motion motion = motion_of(picture, &symbols), skip = skip_motion(picture);
     for (int k = picture->next; k < address; k++)
         if (!fits(picture, k, &skip))
-            return FORMAT3_VECTOR_OUTSIDE;
+            return FORMAT3_REFUSED_VECTOR_OUTSIDE;
     if (!fits(picture, address, &motion))
-        return FORMAT3_VECTOR_OUTSIDE;
+        return FORMAT3_REFUSED_VECTOR_OUTSIDE;
     for (int k = picture->next; k < address; k++)
         write_macroblock(picture, k, &skip, 0, NULL);
     write_macroblock(picture, address, &motion, symbols.pattern, symbols.coefficients);
@@ -558,12 +558,12 @@ static uint32_t act_macroblock(struct picture *picture, struct rest body)
 static uint32_t act_slice(struct picture *picture, struct rest body)
 {
     if (body.end - body.at != 3)
-        return FORMAT3_BODY_LENGTH;
+        return FORMAT3_REFUSED_BODY_LENGTH;
     int scale = body.at[0];
     if (scale < 1 || scale > SCALE_MOST)
-        return FORMAT3_QUANTIZER_SCALE;
+        return FORMAT3_REFUSED_QUANTIZER_SCALE;
     if (256 * body.at[1] + body.at[2] != picture->next)
-        return FORMAT3_SLICE_START;
+        return FORMAT3_REFUSED_SLICE_START;
     picture->slice = (struct slice){.scale = scale, .dc = {DC_RESET, DC_RESET, DC_RESET}, .first = true};
     picture->turn = AFTER_SLICE;
     return 0;
@@ -572,13 +572,13 @@ static uint32_t act_slice(struct picture *picture, struct rest body)
 static uint32_t act_matrix(struct picture *picture, struct rest body)
 {
     if (body.end - body.at != 65)
-        return FORMAT3_BODY_LENGTH;
+        return FORMAT3_REFUSED_BODY_LENGTH;
     int which = body.at[0];
     const uint8_t *weights = body.at + 1;
     if (which > 1 || picture->given[which])
-        return FORMAT3_MATRIX;
+        return FORMAT3_REFUSED_MATRIX;
     if ((which == INTRA_WEIGHTS && weights[0] != 8) || memchr(weights, 0, 64) != NULL)
-        return FORMAT3_MATRIX;
+        return FORMAT3_REFUSED_MATRIX;
     for (int k = 0; k < 64; k++)
         picture->weight[which][ZIGZAG[k]] = weights[k];
     picture->given[which] = true;
@@ -602,7 +602,7 @@ static bool in_turn(enum turn turn, int kind)
 static uint32_t act(struct picture *picture, int kind, struct rest body)
 {
     if (!in_turn(picture->turn, kind))
-        return FORMAT3_OUT_OF_TURN;
+        return FORMAT3_REFUSED_OUT_OF_TURN;
     if (kind == FORMAT3_KIND_MATRIX)
         return act_matrix(picture, body);
     if (kind == FORMAT3_KIND_SLICE)
@@ -614,13 +614,13 @@ static uint32_t act(struct picture *picture, int kind, struct rest body)
 static uint32_t read_record(struct rest left, int *kind, struct rest *body)
 {
     if (left.end - left.at < 3)
-        return FORMAT3_RECORD_CUT;
+        return FORMAT3_REFUSED_RECORD_CUT;
     int length = 256 * left.at[0] + left.at[1];
     if (length == 0 || left.end - left.at - 2 < length)
-        return FORMAT3_RECORD_CUT;
+        return FORMAT3_REFUSED_RECORD_CUT;
     *kind = left.at[2];
     *body = (struct rest){left.at + 3, left.at + 2 + length};
-    return *kind < FORMAT3_KIND_HEADER || *kind > FORMAT3_KIND_MACROBLOCK ? FORMAT3_RECORD_KIND : 0;
+    return *kind < FORMAT3_KIND_HEADER || *kind > FORMAT3_KIND_MACROBLOCK ? FORMAT3_REFUSED_RECORD_KIND : 0;
 }
 
 static bool read_direction(struct picture *picture, int which, bool used, const uint8_t field[2])
@@ -637,17 +637,17 @@ static bool read_direction(struct picture *picture, int which, bool used, const 
 static uint32_t read_header(struct picture *picture, struct rest body)
 {
     if (body.end - body.at != 7)
-        return FORMAT3_BODY_LENGTH;
+        return FORMAT3_REFUSED_BODY_LENGTH;
     const uint8_t *field = body.at;
     int width = field[0], height = field[1], type = field[2];
     if (width < 1 || width > FORMAT3_MAX_WIDTH || height < 1 || height > FORMAT3_MAX_HEIGHT)
-        return FORMAT3_HEADER;
-    if (width * height > FORMAT3_MAX_MACROBLOCKS || type < I_PICTURE || type > B_PICTURE)
-        return FORMAT3_HEADER;
-    if (!read_direction(picture, FORWARD, type != I_PICTURE, field + 3))
-        return FORMAT3_HEADER;
-    if (!read_direction(picture, BACKWARD, type == B_PICTURE, field + 5))
-        return FORMAT3_HEADER;
+        return FORMAT3_REFUSED_HEADER;
+    if (width * height > FORMAT3_MAX_MACROBLOCKS || type < FORMAT3_I_PICTURE || type > FORMAT3_B_PICTURE)
+        return FORMAT3_REFUSED_HEADER;
+    if (!read_direction(picture, FORWARD, type != FORMAT3_I_PICTURE, field + 3))
+        return FORMAT3_REFUSED_HEADER;
+    if (!read_direction(picture, BACKWARD, type == FORMAT3_B_PICTURE, field + 5))
+        return FORMAT3_REFUSED_HEADER;
     picture->width = width;
     picture->height = height;
     picture->type = type;
@@ -658,10 +658,10 @@ static uint32_t test_lengths(const struct picture *picture, size_t output, size_
 {
     size_t bytes = (size_t)(FORMAT3_MACROBLOCK_BYTES * picture->width * picture->height);
     if (output != bytes)
-        return FORMAT3_OUTPUT_LENGTH;
-    if (forward != (picture->type == I_PICTURE ? 0 : bytes))
-        return FORMAT3_FORWARD_LENGTH;
-    return backward != (picture->type == B_PICTURE ? bytes : 0) ? FORMAT3_BACKWARD_LENGTH : 0;
+        return FORMAT3_REFUSED_OUTPUT_LENGTH;
+    if (forward != (picture->type == FORMAT3_I_PICTURE ? 0 : bytes))
+        return FORMAT3_REFUSED_FORWARD_LENGTH;
+    return backward != (picture->type == FORMAT3_B_PICTURE ? bytes : 0) ? FORMAT3_REFUSED_BACKWARD_LENGTH : 0;
 }
 
 static void start_picture(struct picture *picture)
@@ -680,7 +680,7 @@ static uint32_t open_picture(struct picture *picture, struct rest *left, size_t 
     if (refusal)
         return refusal;
     if (kind != FORMAT3_KIND_HEADER)
-        return FORMAT3_OUT_OF_TURN;
+        return FORMAT3_REFUSED_OUT_OF_TURN;
     if ((refusal = read_header(picture, body)))
         return refusal;
     start_picture(picture);
@@ -698,18 +698,18 @@ static uint32_t read_records(struct picture *picture, struct rest *left)
             return refusal;
         left->at = body.end;
     }
-    return picture->turn == COMPLETE ? 0 : FORMAT3_FILE_ENDS;
+    return picture->turn == COMPLETE ? 0 : FORMAT3_REFUSED_FILE_ENDS;
 }
 
 static uint32_t read_file(struct picture *picture, struct rest *left, size_t output, size_t forward, size_t backward)
 {
     if (left->at == left->end)
-        return FORMAT3_FILE_EMPTY;
+        return FORMAT3_REFUSED_FILE_EMPTY;
     if (*left->at != 3)
-        return FORMAT3_VERSION;
+        return FORMAT3_REFUSED_VERSION;
     left->at++;
     if (left->at == left->end)
-        return FORMAT3_FILE_ENDS;
+        return FORMAT3_REFUSED_FILE_ENDS;
     const uint8_t *first = left->at;
     uint32_t refusal = open_picture(picture, left, output, forward, backward);
     if (refusal)
@@ -722,12 +722,12 @@ uint32_t plain_reconstruct(
     const uint8_t *forward, size_t forward_length,
     const uint8_t *backward, size_t backward_length,
     uint8_t *output, size_t output_length,
-    size_t *place, size_t *made)
+    struct format3_picture_result *result)
 {
     struct picture picture = {.reference = {forward, backward}, .output = output};
     struct rest left = {file, file + file_length};
     uint32_t number = read_file(&picture, &left, output_length, forward_length, backward_length);
-    *place = (size_t)(left.at - file);
-    *made = (size_t)picture.made;
+    result->place = (size_t)(left.at - file);
+    result->made = (size_t)picture.made;
     return number;
 }

@@ -6,21 +6,22 @@
 #include <stddef.h>
 #include <stdint.h>
 
+#include "format3.h"
+
 /* Like format3_reconstruct. */
 uint32_t plain_reconstruct(
     const uint8_t *file, size_t file_length,
     const uint8_t *forward, size_t forward_length,
     const uint8_t *backward, size_t backward_length,
     uint8_t *output, size_t output_length,
-    size_t *place, size_t *made);
+    struct format3_picture_result *result);
 
 /* Like format3_read_slice. */
 uint32_t plain_read_slice(
     const uint8_t *slice, size_t slice_length,
-    uint32_t width, uint32_t height, uint32_t coding_type,
-    uint32_t forward_f_code, uint32_t backward_f_code,
+    const struct format3_picture_parameters *parameters,
     uint8_t *records, size_t records_length,
-    size_t *written, size_t *byte, size_t *bit);
+    struct format3_slice_result *result);
 
 /* Like format3_transform, for coefficients in range. */
 void plain_transform(const int16_t coefficients[64], int16_t residues[64]);

@@ -7,7 +7,6 @@
 
 #include "format3.h"
 
-enum { I_PICTURE = 1, P_PICTURE = 2, B_PICTURE = 3 };
 enum { GIVES_SCALE = 1, GIVES_FORWARD = 2, GIVES_BACKWARD = 4, GIVES_PATTERN = 8, IS_INTRA = 16 };
 enum { F_CODE_MOST = 7, LAST_POSITION = 63, ESCAPE_STEP = 33 };
 
@@ -142,8 +141,14 @@ static void fill_tables(void)
 
 /* ---- bits and codes */
 
-/* A slice, how many of its bits are read, where its records go, how long they are, and why and where it is refused, if it is.
- * A field that does not fit the buffer whole is dropped. */
+/* A place between two macroblocks: how many bits of the slice are read, and how long its records are. */
+struct checkpoint {
+    size_t at;
+    size_t written;
+};
+
+/* A slice, how many of its bits are read, where its records go, how long they are, the last place up to which they all fit the
+ * buffer, and why and where the slice is refused, if it is. A field that does not fit the buffer whole is dropped. */
 struct reader {
     const uint8_t *bytes;
     size_t length;
@@ -151,6 +156,7 @@ struct reader {
     uint8_t *records;
     size_t records_length;
     size_t written;
+    struct checkpoint whole;
     uint32_t number;
     size_t place;
 };
@@ -186,13 +192,13 @@ static bool refuse(struct reader *reader, uint32_t number, size_t place)
 static uint32_t refusal_of(const struct table *table, uint32_t bits, size_t left)
 {
     if (left >= table->width)
-        return FORMAT3_SLICE_CODE;
+        return FORMAT3_REFUSED_SLICE_CODE;
     unsigned missing = table->width - (unsigned)left;
     uint32_t first = left == 0 ? 0 : bits >> (32 - left) << missing;
     for (uint32_t k = 0; k < 1u << missing; k++)
         if (table->entries[first + k].length > 0)
-            return FORMAT3_SLICE_CUT;
-    return FORMAT3_SLICE_CODE;
+            return FORMAT3_REFUSED_SLICE_CUT;
+    return FORMAT3_REFUSED_SLICE_CODE;
 }
 
 static bool read_code(struct reader *reader, const struct table *table, int *value)
@@ -210,7 +216,7 @@ static bool read_code(struct reader *reader, const struct table *table, int *val
 static bool read_number(struct reader *reader, unsigned width, uint32_t *number)
 {
     if (bits_left(reader) < width)
-        return refuse(reader, FORMAT3_SLICE_CUT, reader->at);
+        return refuse(reader, FORMAT3_REFUSED_SLICE_CUT, reader->at);
     COUNT_CODE();
     *number = peek(reader) >> (32 - width);
     reader->at += width;
@@ -265,7 +271,7 @@ static bool read_escaped_level(struct reader *reader, size_t place, int *level)
     uint32_t bits = peek(reader);
     unsigned high = bits >> 24, low = bits >> 16 & 255;
     if (left < 8)
-        return refuse(reader, FORMAT3_SLICE_CUT, place);
+        return refuse(reader, FORMAT3_REFUSED_SLICE_CUT, place);
     if (high != 0 && high != 128) {
         *level = (int8_t)high;
         reader->at += 8;
@@ -276,9 +282,9 @@ static bool read_escaped_level(struct reader *reader, size_t place, int *level)
     unsigned least = low, greatest = low | unknown;
     bool legal = high == 0 ? greatest >= 128 : greatest >= 1 && least <= 128;
     if (!legal)
-        return refuse(reader, FORMAT3_SLICE_CODE, place);
+        return refuse(reader, FORMAT3_REFUSED_SLICE_CODE, place);
     if (left < 16)
-        return refuse(reader, FORMAT3_SLICE_CUT, place);
+        return refuse(reader, FORMAT3_REFUSED_SLICE_CUT, place);
     *level = high == 0 ? (int)low : (int)low - 256;
     reader->at += 16;
     return true;
@@ -287,7 +293,7 @@ static bool read_escaped_level(struct reader *reader, size_t place, int *level)
 static bool read_escape(struct reader *reader, size_t place, struct pair *pair)
 {
     if (bits_left(reader) < 6)
-        return refuse(reader, FORMAT3_SLICE_CUT, place);
+        return refuse(reader, FORMAT3_REFUSED_SLICE_CUT, place);
     pair->run = (int)(peek(reader) >> 26);
     reader->at += 6;
     return read_escaped_level(reader, place, &pair->level);
@@ -301,7 +307,7 @@ static bool read_pair(struct reader *reader, const struct table *short_words, st
     const struct table *table = short_words;
     if (bits >> (32 - LONG_PREFIX) == 0) {
         if (bits_left(reader) < LONG_PREFIX)
-            return refuse(reader, FORMAT3_SLICE_CUT, place);
+            return refuse(reader, FORMAT3_REFUSED_SLICE_CUT, place);
         table = &tables.long_coefficients;
         reader->at += LONG_PREFIX;
         bits <<= LONG_PREFIX;
@@ -317,7 +323,7 @@ static bool read_pair(struct reader *reader, const struct table *short_words, st
     if (entry.value == 0)
         return read_escape(reader, place, pair);
     if (bits_left(reader) == 0)
-        return refuse(reader, FORMAT3_SLICE_CUT, place);
+        return refuse(reader, FORMAT3_REFUSED_SLICE_CUT, place);
     reader->at++;
     pair->run = entry.run;
     pair->level = bits << entry.length >> 31 ? -entry.value : entry.value;
@@ -340,7 +346,7 @@ static inline __attribute__((always_inline)) bool read_pairs_of(struct reader *r
             break;
         position += pair.run + 1;
         if (position > LAST_POSITION)
-            return refuse(reader, FORMAT3_SLICE_CODE, place);
+            return refuse(reader, FORMAT3_REFUSED_SLICE_CODE, place);
         put_pair(reader, pair.run, pair.level);
         table = &tables.short_next;
     }
@@ -404,24 +410,15 @@ static bool read_vector(struct reader *reader, uint32_t f_code)
     return true;
 }
 
-/* The given numbers that a slice is read with. */
-struct given {
-    uint32_t width;
-    uint32_t height;
-    uint32_t type;
-    uint32_t forward_f_code;
-    uint32_t backward_f_code;
-};
-
 /* A macroblock after its increment. */
-static bool read_macroblock(struct reader *reader, const struct given *given, unsigned increment)
+static bool read_macroblock(struct reader *reader, const struct format3_picture_parameters *given, unsigned increment)
 {
     int type, pattern;
     uint32_t scale;
     size_t start = reader->written;
     put_word(reader, 0);
     put(reader, FORMAT3_KIND_MACROBLOCK);
-    if (!read_code(reader, &tables.types[given->type - 1], &type))
+    if (!read_code(reader, &tables.types[given->coding_type - 1], &type))
         return false;
     put(reader, (unsigned)type);
     put_word(reader, increment);
@@ -461,7 +458,7 @@ static bool read_increment(struct reader *reader, unsigned *increment)
             continue;
         *increment += value == ESCAPED_INCREMENT ? ESCAPE_STEP : (unsigned)value;
         if (*increment > FORMAT3_MAX_MACROBLOCKS)
-            return refuse(reader, FORMAT3_SLICE_CODE, place);
+            return refuse(reader, FORMAT3_REFUSED_SLICE_CODE, place);
         if (value != ESCAPED_INCREMENT)
             return true;
         table = &tables.increments_after_escape;
@@ -475,15 +472,15 @@ static bool read_start_code(struct reader *reader, uint32_t height, unsigned *ro
     static const uint8_t prefix[3] = {0, 0, 1};
     for (size_t k = 0; k < 3; k++) {
         if (k == reader->length)
-            return refuse(reader, FORMAT3_SLICE_CUT, 0);
+            return refuse(reader, FORMAT3_REFUSED_SLICE_CUT, 0);
         if (reader->bytes[k] != prefix[k])
-            return refuse(reader, FORMAT3_SLICE_CODE, 0);
+            return refuse(reader, FORMAT3_REFUSED_SLICE_CODE, 0);
     }
     if (reader->length == 3)
-        return refuse(reader, FORMAT3_SLICE_CUT, 0);
+        return refuse(reader, FORMAT3_REFUSED_SLICE_CUT, 0);
     *row = reader->bytes[3];
     if (*row == 0 || *row > height)
-        return refuse(reader, FORMAT3_SLICE_CODE, 0);
+        return refuse(reader, FORMAT3_REFUSED_SLICE_CODE, 0);
     reader->at = 32;
     return true;
 }
@@ -514,8 +511,22 @@ static bool only_zeros_left(const struct reader *reader)
     return true;
 }
 
+/* Reads the macroblocks after the first. */
+static bool read_macroblocks(struct reader *reader, const struct format3_picture_parameters *given)
+{
+    unsigned increment;
+    for (;;) {
+        if (reader->written <= reader->records_length)
+            reader->whole = (struct checkpoint){reader->at, reader->written};
+        if (only_zeros_left(reader))
+            return true;
+        if (!read_increment(reader, &increment) || !read_macroblock(reader, given, increment))
+            return false;
+    }
+}
+
 /* Reads the slice, and says whether it is accepted. */
-static bool read_slice(struct reader *reader, const struct given *given)
+static bool read_slice(struct reader *reader, const struct format3_picture_parameters *given)
 {
     unsigned row, increment;
     uint32_t scale;
@@ -527,12 +538,7 @@ static bool read_slice(struct reader *reader, const struct given *given)
     put(reader, FORMAT3_KIND_SLICE);
     put(reader, scale);
     put_word(reader, (row - 1) * given->width + increment - 1);
-    if (!read_macroblock(reader, given, 1))
-        return false;
-    while (!only_zeros_left(reader))
-        if (!read_increment(reader, &increment) || !read_macroblock(reader, given, increment))
-            return false;
-    return true;
+    return read_macroblock(reader, given, 1) && read_macroblocks(reader, given);
 }
 
 static bool is_f_code(bool used, uint32_t f_code)
@@ -540,46 +546,58 @@ static bool is_f_code(bool used, uint32_t f_code)
     return used ? f_code >= 1 && f_code <= F_CODE_MOST : f_code == 0;
 }
 
-static bool is_legal(const struct given *given)
+static bool is_legal(const struct format3_picture_parameters *given)
 {
     return given->width >= 1 && given->width <= FORMAT3_MAX_WIDTH && given->height >= 1 && given->height <= FORMAT3_MAX_HEIGHT
-        && given->width * given->height <= FORMAT3_MAX_MACROBLOCKS && given->type >= I_PICTURE && given->type <= B_PICTURE
-        && is_f_code(given->type >= P_PICTURE, given->forward_f_code)
-        && is_f_code(given->type == B_PICTURE, given->backward_f_code);
+        && given->width * given->height <= FORMAT3_MAX_MACROBLOCKS
+        && given->coding_type >= FORMAT3_I_PICTURE && given->coding_type <= FORMAT3_B_PICTURE
+        && is_f_code(given->coding_type >= FORMAT3_P_PICTURE, given->forward_f_code)
+        && is_f_code(given->coding_type == FORMAT3_B_PICTURE, given->backward_f_code);
 }
 
-/* Like the library, first writes to an array, so that a refused slice leaves the buffer untouched. Then it copies the records, or, if
- * they don't fit the array, reads the slice again. */
+/* Reads the macroblocks from the checkpoint on again, into this buffer. The census counts their codes only once. */
+static void read_again(
+    struct reader *reader, const struct format3_picture_parameters *given, uint8_t *records, size_t records_length)
+{
+    unsigned long codes = plain_census.codes;
+    reader->records = records;
+    reader->records_length = records_length;
+    reader->at = reader->whole.at;
+    reader->written = reader->whole.written;
+    read_macroblocks(reader, given);
+    plain_census.codes = codes;
+}
+
+/* The size of the library's room. The slice record and the first macroblock's always fit it. */
+enum { ROOM_BYTES = 8192 };
+
+/* Like the library, first writes to a room, so that a refused slice leaves the buffer untouched. Then it copies the records that
+ * are whole in the room, and reads the others again, straight into the buffer. */
 uint32_t plain_read_slice(
     const uint8_t *slice, size_t slice_length,
-    uint32_t width, uint32_t height, uint32_t coding_type,
-    uint32_t forward_f_code, uint32_t backward_f_code,
+    const struct format3_picture_parameters *parameters,
     uint8_t *records, size_t records_length,
-    size_t *written, size_t *byte, size_t *bit)
+    struct format3_slice_result *result)
 {
-    struct given given = {width, height, coding_type, forward_f_code, backward_f_code};
-    uint8_t room[65536];
+    uint8_t room[ROOM_BYTES];
     struct reader reader = {.bytes = slice, .length = slice_length, .records = room, .records_length = sizeof room};
-    *written = *byte = *bit = 0;
+    *result = (struct format3_slice_result){0, 0, 0};
     if (!tables.filled)
         fill_tables();
-    if (!is_legal(&given))
-        return FORMAT3_HEADER;
-    if (!read_slice(&reader, &given)) {
-        *byte = reader.place / 8;
-        *bit = reader.place % 8;
+    if (!is_legal(parameters))
+        return FORMAT3_REFUSED_HEADER;
+    if (!read_slice(&reader, parameters)) {
+        result->byte = reader.place / 8;
+        result->bit = reader.place % 8;
         return reader.number;
     }
     if (reader.written > records_length)
-        return FORMAT3_RECORDS_LENGTH;
-    if (reader.written <= sizeof room) {
-        memcpy(records, room, reader.written);
-    } else {
-        reader = (struct reader){.bytes = slice, .length = slice_length, .records = records, .records_length = records_length};
-        read_slice(&reader, &given);
-    }
-    *written = reader.written;
-    *byte = reader.at / 8;
-    *bit = reader.at % 8;
+        return FORMAT3_REFUSED_RECORDS_LENGTH;
+    memcpy(records, room, reader.whole.written);
+    if (reader.whole.written < reader.written)
+        read_again(&reader, parameters, records, records_length);
+    result->written = reader.written;
+    result->byte = reader.at / 8;
+    result->bit = reader.at % 8;
     return FORMAT3_ACCEPTED;
 }

@@ -1,5 +1,6 @@
 /* Plays MPEG-1 video streams end to end: start codes and headers by examples/c/stream.c, slices by format3_read_slice,
- * pictures by format3_reconstruct. bench/run compiles it a second time with the plain C versions of these two.
+ * pictures by format3_reconstruct. bench/run compiles it a second time with the plain C versions of these two; a file's
+ * header is always read by format3_read_header.
  *
  *   play compare STREAM REEL   checks that the stream's pictures are those of the reel, byte for byte
  *   play time STREAM..         pictures a second, repeated until stable, and how the time is spent
@@ -44,12 +45,11 @@ static struct bytes read_stream(const char *path)
 /* Decodes the current file. The picture is in decoder.output or, if it is a reference, in decoder.newer. */
 static const struct picture *make_picture(void)
 {
-    struct header header = header_of(file.bytes, file.length);
-    struct answer answer = decode(&decoder, file.bytes, file.length, header);
+    struct answer answer = decode(&decoder, file.bytes, file.length);
     if (answer.number != FORMAT3_ACCEPTED)
-        fail("a picture", "refused");
+        fail("a picture", format3_answer_text(answer.number));
     const struct picture *picture = decoder.output;
-    if (header.type != B_PICTURE)
+    if (answer.header.coding_type != FORMAT3_B_PICTURE)
         keep_reference(&decoder);
     return picture;
 }
@@ -171,6 +171,7 @@ static int codes(const char *path)
 int main(int count, char **argument)
 {
     const char *command = count > 1 ? argument[1] : "";
+    require_version();
     if (strcmp(command, "compare") == 0 && count == 4)
         return compare(argument[2], argument[3]);
     if (strcmp(command, "time") == 0)

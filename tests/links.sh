@@ -10,7 +10,7 @@ cd "$(dirname "$0")/.."
 root=$PWD
 folder=$(mktemp -d)
 trap 'rm -rf "$folder"' EXIT
-documents=(README.md CONTRIBUTING.md docs/*.md docs/landings/README.md examples/README.md tests/README.md)
+documents=(README.md CONTRIBUTING.md docs/*.md docs/landings/README.md examples/README.md bindings/rust/README.md tests/README.md)
 
 # The links of a document, a line each: the path as the document has it.
 links_of() { # DOCUMENT

@@ -1,49 +1,124 @@
 #!/usr/bin/env bash
-# tests/wrong_headers.sh FOLDER: tests that header.sh refuses wrong headers, each made by one edit of the header in FOLDER.
+# tests/wrong_headers.sh FOLDER: tests that header.sh refuses wrong headers and wrong libraries, each for the right reason. A
+# wrong header is made by one edit of the header in FOLDER, a wrong library by linking FOLDER's in another way.
 set -euo pipefail
 folder=$(realpath "$1")
 cd "$(dirname "$0")"
 wrong=$(mktemp -d)
 trap 'rm -rf "$wrong"' EXIT
 mkdir "$wrong/include"
-ln -s "$folder/lib" "$wrong/lib"
 
-# header.sh must refuse the header changed by this edit.
+# header.sh must refuse what is in $wrong, by the CHECK. WHAT says what is wrong with it.
 require_refused() {
-    sed -E "$1" "$folder/include/format3.h" > "$wrong/include/format3.h"
-    if cmp -s "$folder/include/format3.h" "$wrong/include/format3.h"; then
-        echo "wrong_headers: $1 changes nothing" >&2
+    local printed
+    if printed=$(./header.sh "$wrong" 2>&1); then
+        echo "wrong_headers: $2 was not refused" >&2
         exit 1
     fi
-    if ./header.sh "$wrong" > /dev/null 2>&1; then
-        echo "wrong_headers: $1 was not refused" >&2
+    if [[ ${printed##*$'\n'} != "format3.h: wrong $1"* ]]; then
+        echo "wrong_headers: $2 was refused, but not by its $1: ${printed##*$'\n'}" >&2
         exit 1
     fi
 }
 
+# header.sh must refuse the header changed by this edit, by the CHECK.
+require_edit_refused() {
+    sed -E "$2" "$folder/include/format3.h" > "$wrong/include/format3.h"
+    if cmp -s "$folder/include/format3.h" "$wrong/include/format3.h"; then
+        echo "wrong_headers: $2 changes nothing" >&2
+        exit 1
+    fi
+    require_refused "$1" "$2"
+}
+
+# header.sh must refuse the library after this command in a copy of its folder lib, by the CHECK.
+require_library_refused() {
+    rm -rf "$wrong/lib"
+    cp -a "$folder/lib" "$wrong/lib"
+    (cd "$wrong/lib" && eval "$2")
+    require_refused "$1" "$2"
+}
+
+# A check, and an edit that it must refuse.
 edits=(
-    's/size_t \*place, size_t \*made/size_t *made, size_t *place/'
-    's/(intra_coefficient.*)int32_t scale, int32_t weight/\1int32_t weight, int32_t scale/'
-    's/\*forward, size_t forward_length/*backward, size_t backward_length/; t; s/\*backward, size_t backward_length/*forward, size_t forward_length/'
-    's/const uint8_t \*forward/uint8_t *forward/'
-    's/const int16_t coefficients\[64\]/const int16_t coefficients[63]/'
-    's/uint32_t residual/int32_t residual/'
-    's/^(uint32_t format3_vector.*)$/\1\n\1/'
-    '/^uint32_t format3_vector/d'
-    's/MAX_WIDTH = 48/MAX_WIDTH = 49/'
-    's/MACROBLOCK_BYTES = 384/MACROBLOCK_BYTES = 385/'
-    's/KIND_SLICE = 3/KIND_SLICE = 2/'
-    's/(FORMAT3_VERSION|FORMAT3_PATTERN) = [0-9]+/\1 = 23/'
-    's/FORMAT3_ACCEPTED = 0/FORMAT3_ACCEPTED = 24/'
-    's/^enum format3_limit/enum limit/'
-    's/uint32_t width, uint32_t height, /uint32_t height, uint32_t width, /'
-    's/uint32_t forward_f_code, uint32_t backward_f_code/uint32_t backward_f_code, uint32_t forward_f_code/'
-    's/const uint8_t \*slice/uint8_t *slice/'
-    's/size_t \*byte, size_t \*bit/size_t *bit, size_t *byte/'
-    's/SLICE_CODE = 24/SLICE_CODE = 25/'
-    's/FORMAT3_RECORDS_LENGTH = 26/FORMAT3_RECORDS_LENGTH = 27/'
+    'c99' 's/^    FORMAT3_KIND_MATRIX = 2,$/    FORMAT3_KIND_MATRIX = 2/'
+    'c99' 's/^#ifndef FORMAT3_H$/#ifndef OTHER_H/'
+    'c++11' 's/^extern "C" \{$/extern "C" { int x[] = {1.5};/'
+    'version' 's/(define FORMAT3_API_VERSION) 1/\1 2/'
+    'version' 's/define FORMAT3_API_VERSION/define FORMAT3_VERSION/'
+    'functions' 's/struct format3_picture_result \*/struct format3_record */'
+    'functions' 's/const struct format3_picture_parameters \*/struct format3_picture_parameters */'
+    'functions' 's/(intra_coefficient.*)int32_t scale, int32_t weight/\1int32_t weight, int32_t scale/'
+    'functions' 's/\*forward, size_t forward_length/*backward, size_t backward_length/; t; s/\*backward, size_t backward_length/*forward, size_t forward_length/'
+    'functions' 's/const uint8_t \*forward/uint8_t *forward/'
+    'functions' 's/const uint8_t \*slice/uint8_t *slice/'
+    'functions' 's/size_t offset, /uint32_t offset, /'
+    'functions' 's/AT_LEAST 64\]/AT_LEAST 63]/'
+    'functions' 's/uint32_t residual/int32_t residual/'
+    'functions' 's/^uint32_t format3_vector/int32_t format3_vector/'
+    'functions' 's/^(uint32_t format3_vector.*)$/\1\n\1/'
+    'functions' '/NULL\(5\)/d; /^uint32_t format3_vector/d'
+    'functions' 's/^(uint32_t format3_vector.*)$/\1\nvoid format3_more(void);/'
+    'functions' 's/format3_api_version\(void\)/format3_api_version(int x)/'
+    'nonnull' 's/NOT_NULL\(9\)/NOT_NULL(7)/'
+    'nonnull' 's/NOT_NULL\(3, 6\)/NOT_NULL(3)/'
+    'nonnull' 's/NOT_NULL\(3, 6\)/NOT_NULL(1, 3, 6)/'
+    'nonnull' 's/FORMAT3_NOT_NULL\(5\)//'
+    'functions' 's/\*FORMAT3_RESTRICT output/*output/'
+    'functions' 's/(struct format3_picture_result \*)FORMAT3_RESTRICT /\1/'
+    'functions' 's/const uint8_t \*forward/const uint8_t *FORMAT3_RESTRICT forward/'
+    'functions' 's/define FORMAT3_RESTRICT restrict/define FORMAT3_RESTRICT/'
+    'functions' 's/(int16_t \*)(coefficient\))/\1FORMAT3_RESTRICT \2/'
+    'functions' 's/FORMAT3_ARRAY_RESTRICT 64/64/'
+    'functions' 's/coefficients\[FORMAT3_AT_LEAST 64/coefficients[64/'
+    'functions' 's/residues\[FORMAT3_AT_LEAST /residues[/'
+    'cpp_functions' 's/define FORMAT3_RESTRICT __restrict__/define FORMAT3_RESTRICT/'
+    'use_result' 's/FORMAT3_USE_RESULT FORMAT3_NOT_NULL\(5\)/FORMAT3_NOT_NULL(5)/'
+    'use_result' 's/^FORMAT3_USE_RESULT$//'
+    'use_result' 's/(define FORMAT3_USE_RESULT) __attribute__.*/\1/'
+    'structs' 's/size_t place;/uint32_t place;/'
+    'structs' '/^    size_t start;$/d; s/^    size_t length;$/&\n    size_t start;/'
+    'structs' 's/uint8_t kind;/uint32_t kind;/'
+    'structs' 's/^    uint32_t coding_type;$/&\n    uint32_t full_pel;/'
+    'structs' 's/uint32_t forward_f_code;/uint32_t backward;/; s/uint32_t backward_f_code;/uint32_t forward_f_code;/; s/uint32_t backward;/uint32_t backward_f_code;/'
+    'structs' '/^    size_t bit;$/d'
+    'structs' 's/^struct format3_header \{/struct format3_other { int x; };\n&/'
+    'answers' 's/REFUSED_PATTERN = 15/REFUSED_PATTERN = 23/'
+    'answers' 's/FORMAT3_ACCEPTED = 0/FORMAT3_ACCEPTED = 27/'
+    'answers' 's/REFUSED_SLICE_CODE = 24/REFUSED_SLICE_CODE = 28/'
+    'answers' 's/REFUSED_RECORDS_LENGTH = 26/REFUSED_RECORDS_LENGTH = 27/'
+    'answers' 's/REFUSED_OUT_OF_TURN/REFUSED_TURN/'
+    'limits' 's/MAX_WIDTH = 48/MAX_WIDTH = 49/'
+    'limits' 's/MACROBLOCK_BYTES = 384/MACROBLOCK_BYTES = 385/'
+    'limits' 's/SLICE_RECORD_BYTES = 6/SLICE_RECORD_BYTES = 5/'
+    'limits' 's/MAX_MACROBLOCK_RECORD_BYTES = 1174/MAX_MACROBLOCK_RECORD_BYTES = 1173/'
+    'limits' 's/^enum format3_limit/enum limit/'
+    'coding_types' 's/FORMAT3_P_PICTURE = 2/FORMAT3_P_PICTURE = 4/'
+    'coding_types' '/FORMAT3_B_PICTURE = 3/d'
+    'kinds' 's/KIND_SLICE = 3/KIND_SLICE = 2/'
+    'C++ linkage' 's/^extern "C" \{$/extern "C++" {/'
 )
-for edit in "${edits[@]}"; do
-    require_refused "$edit"
+
+# A check, and a command that makes a library that it must refuse.
+shared=$(basename "$(realpath "$folder/lib/libformat3.so")")
+link="gcc -shared -o $shared -Wl,--whole-archive libformat3.a -Wl,--no-whole-archive -Wl,-soname"
+more='echo "int format3_more;" | gcc -fPIC -x c - -c -o more.o'
+libraries=(
+    'exports of libformat3.a' "$more && ar r libformat3.a more.o"
+    'exports of libformat3.a' "echo | gcc -x c - -c -o none.o && ar rcs other.a none.o && mv other.a libformat3.a"
+    "exports of $shared" "$more && $link,$shared more.o"
+    "exports of $shared" "echo | gcc -shared -x c - -o $shared"
+    'soname' "$link,libformat3.so"
+    'link' "rm libformat3.so && cp $shared libformat3.so"
+)
+
+ln -s "$folder/lib" "$wrong/lib"
+for ((k = 0; k < ${#edits[@]}; k += 2)); do
+    require_edit_refused "${edits[k]}" "${edits[k + 1]}"
 done
-echo "format3.h: ${#edits[@]} wrong headers refused"
+echo "format3.h: $((k / 2)) wrong headers refused"
+cp "$folder/include/format3.h" "$wrong/include/"
+for ((k = 0; k < ${#libraries[@]}; k += 2)); do
+    require_library_refused "${libraries[k]}" "${libraries[k + 1]}"
+done
+echo "format3.h: $((k / 2)) wrong libraries refused"

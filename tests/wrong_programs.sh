@@ -53,7 +53,7 @@ mistakes_of() { # EDIT
             return file found
         }
         # Whether a name occurs in a text.
-        function has(text, name) { return name != "" && text ~ ("(^|[^A-Za-z0-9_])" name "([^A-Za-z0-9_]|$)") }
+        function has(text, name) { return name != "" && text ~ ("(^|[^A-Za-z0-9_-])" name "([^A-Za-z0-9_-]|$)") }
         function proof_of(path,    line, text) {
             while ((getline line < (crate "/proofs/" path "/Proof.antt")) > 0) text = text line "\n"
             close(crate "/proofs/" path "/Proof.antt")

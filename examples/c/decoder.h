@@ -8,19 +8,7 @@
 
 #include "format3.h"
 
-enum {
-    MAX_PICTURE_BYTES = FORMAT3_MACROBLOCK_BYTES * FORMAT3_MAX_MACROBLOCKS,
-    FIRST_RECORD = 1
-};
-
-enum picture_type { UNKNOWN_TYPE, I_PICTURE, P_PICTURE, B_PICTURE };
-
-/* What a file's header says; all 0 if the file has none. */
-struct header {
-    size_t width;
-    size_t height;
-    enum picture_type type;
-};
+enum { MAX_PICTURE_BYTES = FORMAT3_MACROBLOCK_BYTES * FORMAT3_MAX_MACROBLOCKS };
 
 struct picture {
     uint8_t bytes[MAX_PICTURE_BYTES];
@@ -35,19 +23,18 @@ struct decoder {
     struct picture *output;
 };
 
+/* The answer to a file. Its header is all 0 if that is refused. */
 struct answer {
     uint32_t number;
-    size_t place;
-    size_t made;
+    struct format3_picture_result result;
+    struct format3_header header;
 };
 
 /* Starts without any references. */
 void start_decoder(struct decoder *decoder);
 
-struct header header_of(const uint8_t *file, size_t length);
-
 /* Decodes a file into decoder->output. The picture stays there until the next one is decoded or it is kept. */
-struct answer decode(struct decoder *decoder, const uint8_t *file, size_t length, struct header header);
+struct answer decode(struct decoder *decoder, const uint8_t *file, size_t length);
 
 /* Makes the decoded picture the newer reference, and frees the buffer of the older one. */
 void keep_reference(struct decoder *decoder);

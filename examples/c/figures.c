@@ -1,7 +1,8 @@
-/* figures: checks every function, called from C, against figures of document 01 and its sample reel's first picture, also as a slice.
- * Prints each result that is wrong, and fails if there is one. */
+/* figures: calls every function, and checks the results against figures of document 01 and the first picture of its sample
+ * reel, also as a slice. Prints each result that is wrong, and fails if there is one. */
 #include <stdint.h>
 #include <stdio.h>
+#include <string.h>
 
 #include "format3.h"
 
@@ -15,17 +16,27 @@ static void expect(const char *what, long expected, long found)
     failures++;
 }
 
+/* An answer is told by its number and in words. */
+static void expect_answer(const char *what, uint32_t expected, uint32_t found)
+{
+    if (expected == found)
+        return;
+    printf("%s: expected %u (%s), found %u (%s)\n",
+        what, expected, format3_answer_text(expected), found, format3_answer_text(found));
+    failures++;
+}
+
 static void intra(int32_t level, int32_t scale, int32_t weight, uint32_t number, long expected)
 {
     int16_t coefficient = -1;
-    expect("intra answer", number, format3_intra_coefficient(level, scale, weight, &coefficient));
+    expect_answer("intra answer", number, format3_intra_coefficient(level, scale, weight, &coefficient));
     expect("intra coefficient", expected, coefficient);
 }
 
 static void non_intra(int32_t level, int32_t scale, int32_t weight, uint32_t number, long expected)
 {
     int16_t coefficient = -1;
-    expect("non-intra answer", number, format3_non_intra_coefficient(level, scale, weight, &coefficient));
+    expect_answer("non-intra answer", number, format3_non_intra_coefficient(level, scale, weight, &coefficient));
     expect("non-intra coefficient", expected, coefficient);
 }
 
@@ -34,16 +45,16 @@ static void coefficients(void)
     intra(1, 1, 16, FORMAT3_ACCEPTED, 1);
     intra(1, 1, 1, FORMAT3_ACCEPTED, 0);
     intra(-255, 31, 83, FORMAT3_ACCEPTED, -2048);
-    intra(256, 1, 16, FORMAT3_NUMBER_OUT_OF_RANGE, 0);
+    intra(256, 1, 16, FORMAT3_REFUSED_NUMBER_OUT_OF_RANGE, 0);
     non_intra(1, 1, 16, FORMAT3_ACCEPTED, 3);
     non_intra(-1, 2, 16, FORMAT3_ACCEPTED, -5);
-    non_intra(1, 32, 16, FORMAT3_NUMBER_OUT_OF_RANGE, 0);
+    non_intra(1, 32, 16, FORMAT3_REFUSED_NUMBER_OUT_OF_RANGE, 0);
 }
 
 static void vector(uint32_t f_code, int32_t past, int32_t code, uint32_t residual, uint32_t number, long expected)
 {
     int32_t found = -1;
-    expect("vector answer", number, format3_vector(f_code, past, code, residual, &found));
+    expect_answer("vector answer", number, format3_vector(f_code, past, code, residual, &found));
     expect("vector", expected, found);
 }
 
@@ -52,7 +63,7 @@ static void vectors(void)
     vector(1, 15, 1, 0, FORMAT3_ACCEPTED, -16);
     vector(2, 0, 1, 0, FORMAT3_ACCEPTED, 1);
     vector(2, 0, -1, 0, FORMAT3_ACCEPTED, -1);
-    vector(8, 0, 1, 0, FORMAT3_NUMBER_OUT_OF_RANGE, 0);
+    vector(8, 0, 1, 0, FORMAT3_REFUSED_NUMBER_OUT_OF_RANGE, 0);
 }
 
 /* A DC coefficient alone gives the same number 64 times. */
@@ -61,7 +72,7 @@ static void transformed(int16_t dc, uint32_t number, long expected)
     int16_t coefficients[64] = {0}, residues[64] = {0};
     coefficients[0] = dc;
     residues[63] = -1;
-    expect("transform answer", number, format3_transform(coefficients, residues));
+    expect_answer("transform answer", number, format3_transform(coefficients, residues));
     for (int k = 0; k < 64; k++)
         expect("residue", expected, residues[k]);
 }
@@ -71,21 +82,39 @@ static void transforms(void)
     transformed(8, FORMAT3_ACCEPTED, 1);
     transformed(4, FORMAT3_ACCEPTED, 0);
     transformed(2040, FORMAT3_ACCEPTED, 255);
-    transformed(2048, FORMAT3_NUMBER_OUT_OF_RANGE, 0);
+    transformed(2048, FORMAT3_REFUSED_NUMBER_OUT_OF_RANGE, 0);
 }
 
 /* The first file of document 01's reel: a grey picture of one macroblock. */
 static const uint8_t GREY[41] = {3, 0, 8, 1, 1, 1, 1, 0, 0, 0, 0, 0, 4, 3, 8, 0, 0, 0, 22, 4, 16, 0, 1};
 
+static void header(size_t file_length, uint32_t number, long type, long size, long expected_start)
+{
+    struct format3_header found = {9, 9, 9, 9};
+    expect_answer("header answer", number, format3_read_header(GREY, file_length, &found));
+    expect("coding type", type, (long)found.coding_type);
+    expect("width", size, (long)found.width);
+    expect("height", size, (long)found.height);
+    expect("records start", expected_start, (long)found.records_start);
+}
+
+static void headers(void)
+{
+    header(sizeof GREY, FORMAT3_ACCEPTED, FORMAT3_I_PICTURE, 1, 11);
+    header(11, FORMAT3_ACCEPTED, FORMAT3_I_PICTURE, 1, 11);
+    header(10, FORMAT3_REFUSED_RECORD_CUT, 0, 0, 0);
+    header(1, FORMAT3_REFUSED_FILE_ENDS, 0, 0, 0);
+    header(0, FORMAT3_REFUSED_FILE_EMPTY, 0, 0, 0);
+}
+
 static void shown(
     size_t file_length, size_t offset, uint32_t number, long expected_kind, long expected_start, long expected_length)
 {
-    uint8_t kind = 9;
-    size_t start = 9, length = 9;
-    expect("record answer", number, format3_show_record(GREY, file_length, offset, &kind, &start, &length));
-    expect("record kind", expected_kind, (long)kind);
-    expect("record start", expected_start, (long)start);
-    expect("record length", expected_length, (long)length);
+    struct format3_record record = {9, 9, 9};
+    expect_answer("record answer", number, format3_show_record(GREY, file_length, offset, &record));
+    expect("record kind", expected_kind, (long)record.kind);
+    expect("record start", expected_start, (long)record.start);
+    expect("record length", expected_length, (long)record.length);
 }
 
 static void records(void)
@@ -93,33 +122,32 @@ static void records(void)
     shown(sizeof GREY, 1, FORMAT3_ACCEPTED, FORMAT3_KIND_HEADER, 4, 7);
     shown(sizeof GREY, 11, FORMAT3_ACCEPTED, FORMAT3_KIND_SLICE, 14, 3);
     shown(sizeof GREY, 17, FORMAT3_ACCEPTED, FORMAT3_KIND_MACROBLOCK, 20, 21);
-    shown(sizeof GREY - 1, 17, FORMAT3_RECORD_CUT, 0, 0, 0);
-    shown(sizeof GREY, 0, FORMAT3_RECORD_CUT, 0, 0, 0);
-    shown(sizeof GREY, 4, FORMAT3_RECORD_CUT, 0, 0, 0);
-    shown(0, 0, FORMAT3_RECORD_CUT, 0, 0, 0);
+    shown(sizeof GREY - 1, 17, FORMAT3_REFUSED_RECORD_CUT, 0, 0, 0);
+    shown(sizeof GREY, 0, FORMAT3_REFUSED_RECORD_CUT, 0, 0, 0);
+    shown(sizeof GREY, 4, FORMAT3_REFUSED_RECORD_CUT, 0, 0, 0);
+    shown(0, 0, FORMAT3_REFUSED_RECORD_CUT, 0, 0, 0);
 }
 
 static void picture(size_t file_length, size_t output_length, uint32_t number, long expected_place, long expected_made)
 {
-    uint8_t output[384];
-    size_t place = 9, made = 9;
-    for (int k = 0; k < 384; k++)
-        output[k] = 7;
-    expect("picture answer", number,
-        format3_reconstruct(GREY, file_length, NULL, 0, NULL, 0, output, output_length, &place, &made));
-    expect("place", expected_place, (long)place);
-    expect("made", expected_made, (long)made);
-    for (int k = 0; k < 384; k++)
+    uint8_t output[FORMAT3_MACROBLOCK_BYTES];
+    struct format3_picture_result result = {9, 9};
+    memset(output, 7, sizeof output);
+    expect_answer("picture answer", number,
+        format3_reconstruct(GREY, file_length, NULL, 0, NULL, 0, output, output_length, &result));
+    expect("place", expected_place, (long)result.place);
+    expect("made", expected_made, (long)result.made);
+    for (size_t k = 0; k < sizeof output; k++)
         expect("pel", expected_made == 1 ? 128 : 7, output[k]);
 }
 
 static void pictures(void)
 {
     picture(sizeof GREY, 384, FORMAT3_ACCEPTED, 41, 1);
-    picture(sizeof GREY, 383, FORMAT3_OUTPUT_LENGTH, 1, 0);
-    picture(sizeof GREY - 1, 384, FORMAT3_RECORD_CUT, 17, 0);
-    picture(17, 384, FORMAT3_FILE_ENDS, 17, 0);
-    picture(0, 384, FORMAT3_FILE_EMPTY, 0, 0);
+    picture(sizeof GREY, 383, FORMAT3_REFUSED_OUTPUT_LENGTH, 1, 0);
+    picture(sizeof GREY - 1, 384, FORMAT3_REFUSED_RECORD_CUT, 17, 0);
+    picture(17, 384, FORMAT3_REFUSED_FILE_ENDS, 17, 0);
+    picture(0, 384, FORMAT3_REFUSED_FILE_EMPTY, 0, 0);
 }
 
 /* The grey picture as one slice: scale 8, an intra macroblock, no coefficients. */
@@ -133,34 +161,38 @@ static void slice(
     long expected_bit)
 {
     uint8_t records[GREY_RECORDS_LENGTH + 1];
-    size_t written = 99, byte = 99, bit = 99;
-    for (size_t k = 0; k < sizeof records; k++)
-        records[k] = 7;
-    expect("slice answer", number,
-        format3_read_slice(GREY_SLICE, slice_length, 1, 1, type, 0, 0, records, records_length, &written, &byte, &bit));
-    expect("written", expected_written, (long)written);
-    expect("byte", expected_byte, (long)byte);
-    expect("bit", expected_bit, (long)bit);
+    struct format3_picture_parameters parameters = {.width = 1, .height = 1, .coding_type = type};
+    struct format3_slice_result result = {99, 99, 99};
+    memset(records, 7, sizeof records);
+    expect_answer("slice answer", number,
+        format3_read_slice(GREY_SLICE, slice_length, &parameters, records, records_length, &result));
+    expect("written", expected_written, (long)result.written);
+    expect("byte", expected_byte, (long)result.byte);
+    expect("bit", expected_bit, (long)result.bit);
     for (size_t k = 0; k < sizeof records; k++)
         expect("record byte", (long)k < expected_written ? GREY[GREY_RECORDS + k] : 7, records[k]);
 }
 
 static void slices(void)
 {
-    slice(sizeof GREY_SLICE, 1, GREY_RECORDS_LENGTH + 1, FORMAT3_ACCEPTED, GREY_RECORDS_LENGTH, 8, 4);
-    slice(sizeof GREY_SLICE, 1, GREY_RECORDS_LENGTH, FORMAT3_ACCEPTED, GREY_RECORDS_LENGTH, 8, 4);
-    slice(sizeof GREY_SLICE, 1, GREY_RECORDS_LENGTH - 1, FORMAT3_RECORDS_LENGTH, 0, 0, 0);
-    slice(sizeof GREY_SLICE, 4, GREY_RECORDS_LENGTH, FORMAT3_HEADER, 0, 0, 0);
-    slice(sizeof GREY_SLICE, 2, GREY_RECORDS_LENGTH, FORMAT3_HEADER, 0, 0, 0);
-    slice(8, 1, 0, FORMAT3_SLICE_CUT, 0, 8, 0);
-    slice(0, 1, 0, FORMAT3_SLICE_CUT, 0, 0, 0);
+    slice(sizeof GREY_SLICE, FORMAT3_I_PICTURE, GREY_RECORDS_LENGTH + 1, FORMAT3_ACCEPTED, GREY_RECORDS_LENGTH, 8, 4);
+    slice(sizeof GREY_SLICE, FORMAT3_I_PICTURE, GREY_RECORDS_LENGTH, FORMAT3_ACCEPTED, GREY_RECORDS_LENGTH, 8, 4);
+    slice(sizeof GREY_SLICE, FORMAT3_I_PICTURE, GREY_RECORDS_LENGTH - 1, FORMAT3_REFUSED_RECORDS_LENGTH, 0, 0, 0);
+    slice(sizeof GREY_SLICE, 4, GREY_RECORDS_LENGTH, FORMAT3_REFUSED_HEADER, 0, 0, 0);
+    slice(sizeof GREY_SLICE, FORMAT3_P_PICTURE, GREY_RECORDS_LENGTH, FORMAT3_REFUSED_HEADER, 0, 0, 0);
+    slice(8, FORMAT3_I_PICTURE, 0, FORMAT3_REFUSED_SLICE_CUT, 0, 8, 0);
+    slice(0, FORMAT3_I_PICTURE, 0, FORMAT3_REFUSED_SLICE_CUT, 0, 0, 0);
 }
 
 int main(void)
 {
+    expect("version", FORMAT3_API_VERSION, format3_api_version());
+    if (failures > 0)
+        return 1;
     coefficients();
     vectors();
     transforms();
+    headers();
     records();
     pictures();
     slices();

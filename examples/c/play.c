@@ -11,11 +11,19 @@
 #include "show.h"
 #include "stream.h"
 
+/* A slice is refused at a place in it, unless its parameters or the buffer are to blame. */
+static bool has_place(uint32_t number)
+{
+    return number == FORMAT3_REFUSED_SLICE_CODE || number == FORMAT3_REFUSED_SLICE_CUT;
+}
+
 static void print_problem(const char *path, const struct stream *stream)
 {
     fprintf(stderr, "%s: at byte %zu: %s", path, stream->problem_at, stream->problem);
+    if (has_place(stream->number))
+        fprintf(stderr, " at its byte %zu, bit %zu", stream->result.byte, stream->result.bit);
     if (stream->number != FORMAT3_ACCEPTED)
-        fprintf(stderr, ": %u at its byte %zu, bit %zu", stream->number, stream->byte, stream->bit);
+        fprintf(stderr, ": %s", format3_answer_text(stream->number));
     fprintf(stderr, "\n");
 }
 
@@ -46,6 +54,8 @@ int main(int argument_count, char **arguments)
         fprintf(stderr, "usage: play STREAM FOLDER\n");
         return 2;
     }
+    if (!is_right_library())
+        return 2;
     start_decoder(&decoder);
     bool shown = read_file(arguments[1], &bytes) && show_stream(&decoder, arguments[1], bytes, arguments[2]);
     free(bytes.data);

@@ -43,6 +43,8 @@ int main(int argument_count, char **arguments)
         fprintf(stderr, "usage: reel_to_ppm REEL FOLDER\n");
         return 2;
     }
+    if (!is_right_library())
+        return 2;
     start_decoder(&decoder);
     bool shown = read_file(arguments[1], &reel) && show_reel(&decoder, reel, arguments[2]);
     free(reel.data);

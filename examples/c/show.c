@@ -14,21 +14,18 @@ static unsigned long sum_of(const uint8_t *plane, size_t length)
     return sum;
 }
 
-/* A picture whose header was refused, by 8 or sooner, has no letter. */
-static char letter_of(struct answer answer, enum picture_type type)
+/* A header's coding type is 1 to 3, and 0 if it was refused: such a picture has no letter. */
+static void print_line(int number, const struct answer *answer, const struct picture *picture)
 {
-    bool opened = answer.place > FIRST_RECORD || answer.number > FORMAT3_HEADER;
-    return opened ? "?IPB"[type] : '?';
-}
-
-static void print_line(int number, struct answer answer, struct header header, const struct picture *picture)
-{
-    printf("%d %c %u %zu %zu", number, letter_of(answer, header.type), answer.number, answer.place, answer.made);
-    if (answer.number != FORMAT3_ACCEPTED) {
+    const struct format3_header *header = &answer->header;
+    printf("%d %c %u %zu %zu",
+        number, "?IPB"[header->coding_type], answer->number, answer->result.place, answer->result.made);
+    if (answer->number != FORMAT3_ACCEPTED) {
         printf(" - - -\n");
+        fprintf(stderr, "picture %d, byte %zu: %s\n", number, answer->result.place, format3_answer_text(answer->number));
         return;
     }
-    size_t luma = 256 * header.width * header.height, chroma = luma / 4;
+    size_t luma = (size_t)256 * header->width * header->height, chroma = luma / 4;
     const uint8_t *y = picture->bytes, *cb = y + luma, *cr = cb + chroma;
     printf(" %lu %lu %lu\n", sum_of(y, luma), sum_of(cb, chroma), sum_of(cr, chroma));
 }
@@ -51,9 +48,8 @@ static void colour_of(int y, int cb, int cr, uint8_t colour[3])
     colour[2] = limited(luma + 516 * (cb - 128));
 }
 
-static bool write_pels(FILE *file, struct header header, const struct picture *picture)
+static bool write_pels(FILE *file, size_t width, size_t height, const struct picture *picture)
 {
-    size_t width = 16 * header.width, height = 16 * header.height;
     const uint8_t *luma = picture->bytes;
     const uint8_t *cb = luma + width * height, *cr = cb + width * height / 4;
     uint8_t row[3 * 16 * FORMAT3_MAX_WIDTH];
@@ -68,8 +64,9 @@ static bool write_pels(FILE *file, struct header header, const struct picture *p
     return true;
 }
 
-static bool write_ppm(const char *folder, int number, struct header header, const struct picture *picture)
+static bool write_ppm(const char *folder, int number, const struct format3_header *header, const struct picture *picture)
 {
+    size_t width = (size_t)16 * header->width, height = (size_t)16 * header->height;
     char path[4096];
     int length = snprintf(path, sizeof path, "%s/%04d.ppm", folder, number);
     if (length < 0 || (size_t)length >= sizeof path) {
@@ -81,23 +78,29 @@ static bool write_ppm(const char *folder, int number, struct header header, cons
         fprintf(stderr, "%s: %s\n", path, strerror(errno));
         return false;
     }
-    bool written = fprintf(file, "P6\n%zu %zu\n255\n", 16 * header.width, 16 * header.height) > 0
-        && write_pels(file, header, picture);
+    bool written = fprintf(file, "P6\n%zu %zu\n255\n", width, height) > 0 && write_pels(file, width, height, picture);
     bool closed = fclose(file) == 0;
     if (!written || !closed)
         fprintf(stderr, "%s: not written whole\n", path);
     return written && closed;
 }
 
+bool is_right_library(void)
+{
+    if (format3_api_version() == FORMAT3_API_VERSION)
+        return true;
+    fprintf(stderr, "the format3 library has interface %u, not %d\n", format3_api_version(), FORMAT3_API_VERSION);
+    return false;
+}
+
 bool show_picture(struct decoder *decoder, int number, const uint8_t *file, size_t length, const char *folder)
 {
-    struct header header = header_of(file, length);
-    struct answer answer = decode(decoder, file, length, header);
-    print_line(number, answer, header, decoder->output);
+    struct answer answer = decode(decoder, file, length);
+    print_line(number, &answer, decoder->output);
     if (answer.number != FORMAT3_ACCEPTED)
         return false;
-    bool written = write_ppm(folder, number, header, decoder->output);
-    if (header.type != B_PICTURE)
+    bool written = write_ppm(folder, number, &answer.header, decoder->output);
+    if (answer.header.coding_type != FORMAT3_B_PICTURE)
         keep_reference(decoder);
     return written;
 }

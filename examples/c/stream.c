@@ -13,8 +13,7 @@ enum {
     GROUP_CODE = 0xb8
 };
 
-enum { I_CODED = 1, P_CODED = 2, B_CODED = 3, D_CODED = 4 };
-enum { FORWARD = 0, BACKWARD = 1 };
+enum { D_PICTURE = 4 };
 enum { START_CODE_BYTES = 4 };
 
 /* The bytes from one start code to the next, and how many of their bits are read. Bits past the end are 0. */
@@ -26,9 +25,9 @@ struct part {
 
 /* The numbers that a picture's slices are read with, and its full-pel flags. */
 struct picture_header {
-    uint32_t type;
-    uint32_t full_pel[2];
-    uint32_t f_code[2];
+    struct format3_picture_parameters parameters;
+    uint32_t full_pel_forward;
+    uint32_t full_pel_backward;
 };
 
 static bool refuse(struct stream *stream, const char *problem)
@@ -127,17 +126,24 @@ static bool read_sequence(struct stream *stream, struct part part)
 /* temporal_reference, picture_coding_type, vbv_delay, and a full-pel flag and an f_code for each direction. */
 static bool read_picture_header(struct stream *stream, struct part part, struct picture_header *header)
 {
+    struct format3_picture_parameters *parameters = &header->parameters;
     memset(header, 0, sizeof *header);
+    parameters->width = stream->sequence.width;
+    parameters->height = stream->sequence.height;
     part.at += 10;
-    header->type = bits(&part, 3);
+    parameters->coding_type = bits(&part, 3);
     part.at += 16;
-    if (header->type == D_CODED)
+    if (parameters->coding_type == D_PICTURE)
         return refuse(stream, "a D-picture: only I, P and B are decoded");
-    if (header->type < I_CODED || header->type > B_CODED)
+    if (parameters->coding_type < FORMAT3_I_PICTURE || parameters->coding_type > FORMAT3_B_PICTURE)
         return refuse(stream, "a picture of no known type");
-    for (int direction = FORWARD; direction <= BACKWARD && header->type > I_CODED + (uint32_t)direction; direction++) {
-        header->full_pel[direction] = bits(&part, 1);
-        header->f_code[direction] = bits(&part, 3);
+    if (parameters->coding_type != FORMAT3_I_PICTURE) {
+        header->full_pel_forward = bits(&part, 1);
+        parameters->forward_f_code = bits(&part, 3);
+    }
+    if (parameters->coding_type == FORMAT3_B_PICTURE) {
+        header->full_pel_backward = bits(&part, 1);
+        parameters->backward_f_code = bits(&part, 3);
     }
     return is_cut(&part) ? refuse(stream, "a picture header is cut") : true;
 }
@@ -173,26 +179,24 @@ static void start_file(struct file *file, const struct sequence *sequence, const
     file->length = 0;
     put(file, 3);
     put_record_start(file, 7, FORMAT3_KIND_HEADER);
-    put(file, sequence->width);
-    put(file, sequence->height);
-    put(file, header->type);
-    for (int direction = FORWARD; direction <= BACKWARD; direction++) {
-        put(file, header->full_pel[direction]);
-        put(file, header->f_code[direction]);
-    }
+    put(file, header->parameters.width);
+    put(file, header->parameters.height);
+    put(file, header->parameters.coding_type);
+    put(file, header->full_pel_forward);
+    put(file, header->parameters.forward_f_code);
+    put(file, header->full_pel_backward);
+    put(file, header->parameters.backward_f_code);
     put_matrix(file, 0, &sequence->matrices[0]);
     put_matrix(file, 1, &sequence->matrices[1]);
 }
 
 /* Appends the records of a slice to the file. */
-static bool put_slice(struct stream *stream, struct part slice, const struct picture_header *header, struct file *file)
+static bool put_slice(
+    struct stream *stream, struct part slice, const struct format3_picture_parameters *parameters, struct file *file)
 {
-    size_t written;
     stream->number = format3_read_slice(
-        slice.bytes, slice.length, (uint32_t)stream->sequence.width, (uint32_t)stream->sequence.height, header->type,
-        header->f_code[FORWARD], header->f_code[BACKWARD],
-        file->bytes + file->length, MAX_FILE_BYTES - file->length, &written, &stream->byte, &stream->bit);
-    file->length += written;
+        slice.bytes, slice.length, parameters, file->bytes + file->length, MAX_FILE_BYTES - file->length, &stream->result);
+    file->length += stream->result.written;
     return stream->number == FORMAT3_ACCEPTED ? true : refuse(stream, "a slice is refused");
 }
 
@@ -210,7 +214,7 @@ static bool read_picture(struct stream *stream, struct part part, struct file *f
         part = part_at(stream);
         if (!is_slice(code_of(part)) && code_of(part) != USER_DATA_CODE)
             return true;
-        if (is_slice(code_of(part)) && !put_slice(stream, part, &header, file))
+        if (is_slice(code_of(part)) && !put_slice(stream, part, &header.parameters, file))
             return false;
         stream->at += part.length;
     }

@@ -9,12 +9,10 @@
 
 #include "format3.h"
 
+/* Version, header, matrices, and each macroblock in its own slice. */
 enum {
-    /* A macroblock's record: length, kind, type, increment, scale, both vectors, pattern, and six blocks of 64 pairs. */
-    MAX_MACROBLOCK_RECORD_BYTES = 2 + 1 + 1 + 2 + 1 + 8 + 1 + 6 * (1 + 64 * 3),
-    SLICE_RECORD_BYTES = 2 + 1 + 3,
-    /* Version, header, matrices, and each macroblock in its own slice. */
-    MAX_FILE_BYTES = 1 + 10 + 2 * 68 + FORMAT3_MAX_MACROBLOCKS * (SLICE_RECORD_BYTES + MAX_MACROBLOCK_RECORD_BYTES)
+    MAX_FILE_BYTES = 1 + 10 + 2 * 68
+        + FORMAT3_MAX_MACROBLOCKS * (FORMAT3_SLICE_RECORD_BYTES + FORMAT3_MAX_MACROBLOCK_RECORD_BYTES)
 };
 
 /* A matrix that a sequence header loads. */
@@ -25,8 +23,8 @@ struct matrix {
 
 /* What a sequence header says about the pictures after it: width and height in macroblocks, intra and non-intra matrix. */
 struct sequence {
-    size_t width;
-    size_t height;
+    uint32_t width;
+    uint32_t height;
     struct matrix matrices[2];
 };
 
@@ -42,8 +40,7 @@ struct stream {
     size_t problem_at;
     /* The answer for a slice, if the problem is a refused slice. */
     uint32_t number;
-    size_t byte;
-    size_t bit;
+    struct format3_slice_result result;
 };
 
 /* Room for the longest Format 3 file that is accepted. */

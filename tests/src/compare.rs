@@ -11,11 +11,14 @@ use crate::generator::{case, reel, small_cases, Case};
 use crate::program::Program;
 use crate::random::Random;
 
-/// How often each answer from 0 to 21 occurred.
+/// How often each answer from 0 to 21 to a picture occurred.
 pub type Counts = [usize; Refusal::BackwardLength as usize + 1];
 
+/// How often each answer from 0 to 8 to a header occurred.
+pub type HeaderCounts = [usize; Refusal::Header as usize + 1];
+
 /// Fails if an answer never occurred: the cases then test too little.
-pub fn require_every_answer(counts: &Counts) -> Result<(), String> {
+pub fn require_every_answer(counts: &[usize]) -> Result<(), String> {
     match counts.iter().position(|count| *count == 0) {
         Some(answer) => Err(format!("no case was answered by {answer}")),
         None => Ok(()),
@@ -36,7 +39,8 @@ pub(crate) fn require_same<T: PartialEq + Debug>(
     ))
 }
 
-/// Compares pictures by seed and number: the answer and every byte of the output, also for refused pictures.
+/// Compares pictures by seed and number: the answer and every byte of the output, also for refused pictures, the header, and
+/// some records.
 pub fn pictures(tested: &Entries, seed: u64, count: u64) -> Result<Counts, String> {
     let mut counts = Counts::default();
     for number in 0..count {
@@ -67,7 +71,51 @@ pub fn changed_fields(tested: &Entries, seed: u64) -> Result<usize, String> {
     Ok(compared)
 }
 
-/// The answer's number, if both give the same answer and bytes.
+/// The start of a picture of one macroblock: a version and a header of each type.
+const STARTS: [[u8; 11]; 3] = [
+    [3, 0, 8, 1, 1, 1, 1, 0, 0, 0, 0],
+    [3, 0, 8, 1, 1, 1, 2, 0, 1, 0, 0],
+    [3, 0, 8, 1, 1, 1, 3, 0, 1, 0, 1],
+];
+
+/// Compares the headers of files that are a version and a header: each type cut after each byte; with each byte set to every
+/// value, alone and with a small number in the byte after it; and every width and height.
+pub fn headers(tested: &Entries) -> Result<HeaderCounts, String> {
+    let mut files: Vec<Vec<u8>> = Vec::new();
+    for start in STARTS {
+        files.extend((0..start.len()).map(|length| start[..length].to_vec()));
+        for (byte, value) in (0..start.len()).flat_map(|byte| (0..=255).map(move |v| (byte, v))) {
+            let mut file = start.to_vec();
+            file[byte] = value;
+            files.push(file.clone());
+            for next in 0..=5 {
+                file[(byte + 1) % start.len()] = next;
+                files.push(file.clone());
+            }
+        }
+    }
+    let sizes = (0..=255).flat_map(|width| (0..=255).map(move |height| (width, height)));
+    files.extend(sizes.map(|(width, height)| vec![3, 0, 8, 1, width, height, 1, 0, 0, 0, 0]));
+    let mut counts = HeaderCounts::default();
+    for file in &files {
+        let answer = same_header(tested, file, || format!("header of {file:02x?}"))?;
+        counts[answer as usize] += 1;
+    }
+    Ok(counts)
+}
+
+/// The answer's number, if both read the same header.
+fn same_header(
+    tested: &Entries,
+    file: &[u8],
+    what: impl FnOnce() -> String,
+) -> Result<u32, String> {
+    let [ours, theirs] = [&ENTRIES, tested].map(|entries| (entries.read_header)(file));
+    require_same(what, ours, theirs)?;
+    Ok(ours.0)
+}
+
+/// The answer's number, if both give the same answer and bytes, and read the same header.
 fn same_picture(tested: &Entries, case: &Case, what: impl Fn() -> String) -> Result<u32, String> {
     let run = |entries: &Entries| {
         let mut output = case.output.clone();
@@ -75,6 +123,7 @@ fn same_picture(tested: &Entries, case: &Case, what: impl Fn() -> String) -> Res
         (answer, output)
     };
     let (ours, theirs) = (run(&ENTRIES), run(tested));
+    same_header(tested, &case.file, || format!("header of {}", what()))?;
     require_same(&what, ours.0, theirs.0)?;
     require_same_bytes(&what, &ours.1, &theirs.1)?;
     Ok(ours.0.number)

@@ -4,7 +4,7 @@ use std::collections::{BTreeMap, BTreeSet};
 
 use crate::compare::{require_same, require_same_bytes};
 use crate::decoder::refusals::Refusal;
-use crate::decoder::{Entries, Given, ENTRIES};
+use crate::decoder::{Entries, Given, SliceAnswer, ENTRIES};
 use crate::fixtures::{stream_fixtures, StreamFixture};
 use crate::generator::codes::{all_words, counted};
 use crate::generator::{
@@ -43,7 +43,7 @@ pub fn slices(tested: &Entries, seed: u64, count: u64) -> Result<SliceCounts, St
         let case = slice_case(seed, number);
         let what = || format!("slice {number} of seed {seed}");
         let answer = same_slice(tested, &case, what)?;
-        *counts.entry(answer).or_default() += 1;
+        *counts.entry(answer.number).or_default() += 1;
         if case.legal {
             let words: BTreeSet<_> = case.codes.iter().flat_map(counted).collect();
             missing.retain(|word| !words.contains(word));
@@ -139,12 +139,12 @@ fn stream_cases(random: &mut Random, slice: &[u8], given: Given) -> Vec<SliceCas
     (0..=DAMAGES).map(case).collect()
 }
 
-/// The answer's number, if both give the same answer and bytes.
-fn same_slice(
+/// The answer, if both give the same answer and bytes.
+pub(crate) fn same_slice(
     tested: &Entries,
     case: &SliceCase,
     what: impl Fn() -> String,
-) -> Result<u32, String> {
+) -> Result<SliceAnswer, String> {
     let run = |entries: &Entries| {
         let mut buffer = case.buffer.clone();
         let answer = (entries.read_slice)(&case.slice, case.given, &mut buffer);
@@ -153,5 +153,5 @@ fn same_slice(
     let (ours, theirs) = (run(&ENTRIES), run(tested));
     require_same(&what, ours.0, theirs.0)?;
     require_same_bytes(&what, &ours.1, &theirs.1)?;
-    Ok(ours.0.number)
+    Ok(ours.0)
 }

@@ -5,7 +5,7 @@ use std::fs;
 use std::path::{Path, PathBuf};
 
 use crate::decoder::panel::{play, text, Line, NO_LIMITS};
-use crate::decoder::{Entries, Given, ReadSlice, Reconstruct, SliceAnswer};
+use crate::decoder::{Entries, FileStart, Given, ReadHeader, ReadSlice, Reconstruct, SliceAnswer};
 use crate::sha256;
 use crate::stream;
 
@@ -160,6 +160,27 @@ impl PanelFixture {
     pub fn check(&self, printed: &str) -> Result<(), String> {
         same_lines(&self.name, &self.printed, printed)
     }
+
+    /// Checks the header of each file against the start of its line: type and size are read if there is a letter, else the
+    /// header is refused by the line's number. Returns how many there are.
+    pub fn check_headers(&self, read_header: ReadHeader) -> Result<usize, String> {
+        let files = stream::files_of_reel(&self.reel)?;
+        for (file, line) in files.iter().zip(self.printed.lines()) {
+            let (number, start) = read_header(file);
+            let letter = match start.picture_type {
+                0 => "?",
+                1 => "I",
+                2 => "P",
+                _ => "B",
+            };
+            let columns: Vec<&str> = line.split(' ').collect();
+            let refused_alike = number == 0 || columns[2] == number.to_string();
+            if columns[1] != letter || (number == 0) != (letter != "?") || !refused_alike {
+                return Err(format!("{}: {number} {start:?} for {line}", self.name));
+            }
+        }
+        Ok(files.len())
+    }
 }
 
 impl StreamFixture {
@@ -198,6 +219,27 @@ impl StreamFixture {
         Ok(slices)
     }
 
+    /// Checks that the headers of the reel's files have the type and size that the stream's headers say. Returns how many there
+    /// are.
+    pub fn check_headers(&self, read_header: ReadHeader) -> Result<usize, String> {
+        let pictures = stream::pictures(&self.stream)?;
+        let files = stream::files_of_reel(&self.reel)?;
+        for (number, (picture, file)) in (1..).zip(pictures.iter().zip(&files)) {
+            let expected = FileStart {
+                picture_type: picture.given.picture_type,
+                width: picture.given.width,
+                height: picture.given.height,
+                records_start: HEADER_END,
+            };
+            let found = read_header(file);
+            if found != (0, expected) {
+                let name = &self.name;
+                return Err(format!("{name}, picture {number}: {found:?}"));
+            }
+        }
+        Ok(files.len())
+    }
+
     /// Plays the stream with these entries, and checks that each picture has the expected line and hash.
     pub fn check_stream(&self, entries: &Entries) -> Result<(), String> {
         let reel = stream::reel(&self.stream, entries.read_slice)?;
@@ -206,6 +248,9 @@ impl StreamFixture {
         same_lines(&self.name, &self.expected, &text(&lines))
     }
 }
+
+/// A version of 1 byte, and a header's record: 2 bytes of length, the kind and 7 bytes.
+const HEADER_END: usize = 11;
 
 /// What a buffer holds before a slice is read, so that each byte written or left untouched shows.
 fn pattern(length: usize) -> Vec<u8> {

@@ -6,7 +6,10 @@ use std::process::ExitCode;
 
 use program::Program;
 
+pub mod answers;
+pub mod code_table;
 pub mod compare;
+pub mod compare_room_slices;
 pub mod compare_slices;
 pub mod decoder;
 pub mod fixtures;

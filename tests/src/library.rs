@@ -1,18 +1,22 @@
-//! The exported library behind safe functions. These declarations are not checked against the header; the comparison tests them.
+//! The exported library as entries, with the numbers and structs that it returns. Each result holds other numbers before the
+//! call, so that one that is not written shows.
 #![allow(unsafe_code)]
 
-use crate::decoder::entries::{Entries, Shown};
+use format3::raw;
+
+use crate::decoder::entries::{Entries, FileStart, Shown};
 use crate::decoder::{Answer, Given, SliceAnswer};
 
 /// The library's entries.
 pub const ENTRIES: Entries = Entries {
+    read_header,
     reconstruct,
     transform,
     intra_coefficient: |level, scale, weight| {
-        coefficient(format3_intra_coefficient, level, scale, weight)
+        coefficient(raw::format3_intra_coefficient, level, scale, weight)
     },
     non_intra_coefficient: |level, scale, weight| {
-        coefficient(format3_non_intra_coefficient, level, scale, weight)
+        coefficient(raw::format3_non_intra_coefficient, level, scale, weight)
     },
     vector,
     show_record,
@@ -21,68 +25,35 @@ pub const ENTRIES: Entries = Entries {
 
 type Coefficient = unsafe extern "C" fn(i32, i32, i32, *mut i16) -> u32;
 
-#[link(name = "format3_c", kind = "static")]
-extern "C" {
-    fn format3_reconstruct(
-        file: *const u8,
-        file_len: usize,
-        forward: *const u8,
-        forward_len: usize,
-        backward: *const u8,
-        backward_len: usize,
-        output: *mut u8,
-        output_len: usize,
-        place: *mut usize,
-        made: *mut usize,
-    ) -> u32;
-
-    fn format3_transform(coefficients: *const [i16; 64], residues: *mut [i16; 64]) -> u32;
-
-    fn format3_intra_coefficient(level: i32, scale: i32, weight: i32, coefficient: *mut i16)
-        -> u32;
-
-    fn format3_non_intra_coefficient(
-        level: i32,
-        scale: i32,
-        weight: i32,
-        coefficient: *mut i16,
-    ) -> u32;
-
-    fn format3_vector(f_code: u32, past: i32, code: i32, residual: u32, vector: *mut i32) -> u32;
-
-    fn format3_show_record(
-        file: *const u8,
-        file_len: usize,
-        offset: usize,
-        kind: *mut u8,
-        start: *mut usize,
-        length: *mut usize,
-    ) -> u32;
-
-    fn format3_read_slice(
-        slice: *const u8,
-        slice_len: usize,
-        width: u32,
-        height: u32,
-        coding_type: u32,
-        forward_f_code: u32,
-        backward_f_code: u32,
-        records: *mut u8,
-        records_len: usize,
-        written: *mut usize,
-        byte: *mut usize,
-        bit: *mut usize,
-    ) -> u32;
-}
-
-/// What a result holds before the call, so that one that is not written shows.
+/// What a result holds before the call.
 const UNWRITTEN: usize = 0x5a5a_5a5a;
 
+fn read_header(file: &[u8]) -> (u32, FileStart) {
+    let mut header = raw::Header {
+        coding_type: UNWRITTEN as u32,
+        width: UNWRITTEN as u32,
+        height: UNWRITTEN as u32,
+        records_start: UNWRITTEN,
+    };
+    // SAFETY: the file's pointer goes with its length; the other belongs to a live struct.
+    let number = unsafe { raw::format3_read_header(file.as_ptr(), file.len(), &mut header) };
+    let start = FileStart {
+        picture_type: header.coding_type,
+        width: header.width,
+        height: header.height,
+        records_start: header.records_start,
+    };
+    (number, start)
+}
+
 fn reconstruct(file: &[u8], forward: &[u8], backward: &[u8], output: &mut [u8]) -> Answer {
-    let (mut place, mut made) = (UNWRITTEN, UNWRITTEN);
-    // SAFETY: each pointer belongs to a live slice or number, and goes with its slice's length.
+    let mut result = raw::PictureResult {
+        place: UNWRITTEN,
+        made: UNWRITTEN,
+    };
+    // SAFETY: each pointer belongs to a live slice, with its length, or to a live struct, and what is written overlaps nothing.
     let number = unsafe {
-        format3_reconstruct(
+        raw::format3_reconstruct(
             file.as_ptr(),
             file.len(),
             forward.as_ptr(),
@@ -91,21 +62,20 @@ fn reconstruct(file: &[u8], forward: &[u8], backward: &[u8], output: &mut [u8]) 
             backward.len(),
             output.as_mut_ptr(),
             output.len(),
-            &mut place,
-            &mut made,
+            &mut result,
         )
     };
     Answer {
         number,
-        place,
-        made,
+        place: result.place,
+        made: result.made,
     }
 }
 
 fn transform(coefficients: &[i16; 64]) -> (u32, [i16; 64]) {
     let mut residues = [UNWRITTEN as i16; 64];
     // SAFETY: both pointers belong to live arrays of 64 numbers.
-    let number = unsafe { format3_transform(coefficients, &mut residues) };
+    let number = unsafe { raw::format3_transform(coefficients, &mut residues) };
     (number, residues)
 }
 
@@ -121,54 +91,60 @@ fn vector(f_code: i32, past: i32, code: i32, residual: i32) -> (u32, i32) {
     let mut vector = UNWRITTEN as i32;
     let (f_code, residual) = (f_code as u32, residual as u32);
     // SAFETY: the pointer belongs to a live number.
-    let number = unsafe { format3_vector(f_code, past, code, residual, &mut vector) };
+    let number = unsafe { raw::format3_vector(f_code, past, code, residual, &mut vector) };
     (number, vector)
 }
 
 fn show_record(file: &[u8], offset: usize) -> (u32, Shown) {
-    let mut shown = Shown {
+    let mut shown = raw::Record {
         kind: UNWRITTEN as u8,
         start: UNWRITTEN,
         length: UNWRITTEN,
     };
-    // SAFETY: the file's pointer goes with its length; the others belong to live numbers.
-    let number = unsafe {
-        format3_show_record(
-            file.as_ptr(),
-            file.len(),
-            offset,
-            &mut shown.kind,
-            &mut shown.start,
-            &mut shown.length,
-        )
+    // SAFETY: the file's pointer goes with its length; the other belongs to a live struct.
+    let number = unsafe { raw::format3_show_record(file.as_ptr(), file.len(), offset, &mut shown) };
+    let raw::Record {
+        kind,
+        start,
+        length,
+    } = shown;
+    let shown = Shown {
+        kind,
+        start,
+        length,
     };
     (number, shown)
 }
 
 fn read_slice(slice: &[u8], given: Given, records: &mut [u8]) -> SliceAnswer {
-    let mut answer = SliceAnswer {
-        number: 0,
+    let mut result = raw::SliceResult {
         written: UNWRITTEN,
         byte: UNWRITTEN,
         bit: UNWRITTEN,
     };
     let [forward_f_code, backward_f_code] = given.f_codes;
-    // SAFETY: each slice's pointer goes with its length; the others belong to live numbers.
-    answer.number = unsafe {
-        format3_read_slice(
+    let parameters = raw::PictureParameters {
+        width: given.width,
+        height: given.height,
+        coding_type: given.picture_type,
+        forward_f_code,
+        backward_f_code,
+    };
+    // SAFETY: each pointer belongs to a live slice, with its length, or to a live struct, and what is written overlaps nothing.
+    let number = unsafe {
+        raw::format3_read_slice(
             slice.as_ptr(),
             slice.len(),
-            given.width,
-            given.height,
-            given.picture_type,
-            forward_f_code,
-            backward_f_code,
+            &parameters,
             records.as_mut_ptr(),
             records.len(),
-            &mut answer.written,
-            &mut answer.byte,
-            &mut answer.bit,
+            &mut result,
         )
     };
-    answer
+    SliceAnswer {
+        number,
+        written: result.written,
+        byte: result.byte,
+        bit: result.bit,
+    }
 }

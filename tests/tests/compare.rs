@@ -1,10 +1,16 @@
 //! Tests the comparison itself: it finds no difference between the other decoder and itself, but finds wrong implementations.
 
-use format3_tests::compare::{changed_fields, coefficients, pictures, transforms, vectors};
+use format3_tests::compare::{
+    changed_fields, coefficients, headers, pictures, transforms, vectors,
+};
+use format3_tests::compare_room_slices::room_slices;
 use format3_tests::compare_slices::{
     changed_slices, ended_slices, long_slices, slices, stream_slices,
 };
-use format3_tests::decoder::{Answer, Entries, ReadSlice, Reconstruct, SliceAnswer, ENTRIES};
+use format3_tests::decoder::{
+    Answer, Entries, FileStart, Given, ReadHeader, ReadSlice, Reconstruct, SliceAnswer, ENTRIES,
+};
+use format3_tests::generator::{record_ends, ROOM};
 
 const SEED: u64 = 2;
 
@@ -12,6 +18,7 @@ const SEED: u64 = 2;
 fn compare(tested: &Entries) -> Result<(), String> {
     pictures(tested, SEED, 200)?;
     transforms(tested, SEED, 200)?;
+    headers(tested)?;
     changed_fields(tested, SEED)?;
     coefficients(tested)?;
     vectors(tested)?;
@@ -19,6 +26,7 @@ fn compare(tested: &Entries) -> Result<(), String> {
     ended_slices(tested)?;
     stream_slices(tested, SEED)?;
     long_slices(tested, SEED)?;
+    room_slices(tested, SEED)?;
     slices(tested, SEED, 6000)?;
     Ok(())
 }
@@ -117,6 +125,78 @@ fn wrong_entries_are_found() {
     require_found("a start where a record is refused", starts_where_refused);
 }
 
+/// Readers of headers that break one rule each, found by the generated pictures and by the headers alone.
+#[test]
+fn wrong_readers_of_headers_are_found() {
+    const NOTHING: FileStart = FileStart {
+        picture_type: 0,
+        width: 0,
+        height: 0,
+        records_start: 0,
+    };
+    let cut_is_the_end: ReadHeader = |file| match (ENTRIES.read_header)(file) {
+        (7, _) => (3, NOTHING),
+        read => read,
+    };
+    let length_before_turn: ReadHeader = |file| match (ENTRIES.read_header)(file) {
+        (5, _) if file[2] != 8 => (6, NOTHING),
+        read => read,
+    };
+    let fields_where_refused: ReadHeader = |file| match (ENTRIES.read_header)(file) {
+        (8, _) => (
+            8,
+            FileStart {
+                width: u32::from(file[4]),
+                ..NOTHING
+            },
+        ),
+        read => read,
+    };
+    let body_start: ReadHeader = |file| {
+        let (number, start) = (ENTRIES.read_header)(file);
+        let records_start = start.records_start.min(4);
+        (
+            number,
+            FileStart {
+                records_start,
+                ..start
+            },
+        )
+    };
+    let turned: ReadHeader = |file| {
+        let (number, start) = (ENTRIES.read_header)(file);
+        let (width, height) = (start.height, start.width);
+        (
+            number,
+            FileStart {
+                width,
+                height,
+                ..start
+            },
+        )
+    };
+    let readers = [
+        ("3 for a file that ends", cut_is_the_end),
+        ("6 before 5", length_before_turn),
+        ("a width of a refused header", fields_where_refused),
+        ("a start at the header's body", body_start),
+        ("width and height exchanged", turned),
+    ];
+    for (name, read_header) in readers {
+        let wrong = Entries {
+            read_header,
+            ..ENTRIES
+        };
+        for found in [headers(&wrong).err(), pictures(&wrong, SEED, 1000).err()] {
+            let found = found.unwrap_or_default();
+            assert!(
+                found.contains("by the one tested"),
+                "{name} was not found: {found}"
+            );
+        }
+    }
+}
+
 /// Readers that break one rule each.
 #[test]
 fn wrong_readers_of_slices_are_found() {
@@ -189,6 +269,133 @@ fn wrong_readers_of_slices_are_found() {
         };
         let found = changed_slices(&wrong, SEED).and(slices(&wrong, SEED, 6000));
         let found = found.err().unwrap_or_default();
+        assert!(
+            found.contains("by the one tested"),
+            "{name} was not found: {found}"
+        );
+    }
+}
+
+/// Reads a slice. If its records go past the room, `mistake` then gets the buffer as it was and the records.
+fn read_past_room(
+    slice: &[u8],
+    given: Given,
+    buffer: &mut [u8],
+    mistake: fn(&[u8], &mut [u8]),
+) -> SliceAnswer {
+    let before = buffer.to_vec();
+    let answer = (ENTRIES.read_slice)(slice, given, buffer);
+    if answer.written > ROOM {
+        mistake(&before, &mut buffer[..answer.written]);
+    }
+    answer
+}
+
+/// Where the last record that is whole in the room starts and ends.
+fn last_whole(records: &[u8]) -> (usize, usize) {
+    let ends = record_ends(records);
+    let past = ends.iter().filter(|end| **end <= ROOM).count();
+    (ends[past - 2], ends[past - 1])
+}
+
+/// Readers that are wrong only where records don't fit the room.
+#[test]
+fn wrong_readers_around_the_room_are_found() {
+    let copies_the_room: ReadSlice = |slice, given, buffer| {
+        read_past_room(slice, given, buffer, |before, records| {
+            let length = records.len();
+            records[ROOM..].copy_from_slice(&before[ROOM..length]);
+        })
+    };
+    let drops_a_record_that_ends_the_room: ReadSlice = |slice, given, buffer| {
+        read_past_room(slice, given, buffer, |before, records| {
+            let (start, end) = last_whole(records);
+            if end == ROOM {
+                records[start..end].copy_from_slice(&before[start..end]);
+            }
+        })
+    };
+    let takes_a_byte_past_the_room: ReadSlice = |slice, given, buffer| {
+        read_past_room(slice, given, buffer, |before, records| {
+            if record_ends(records).contains(&(ROOM + 1)) {
+                records[ROOM] = before[ROOM];
+            }
+        })
+    };
+    let splits_a_length: ReadSlice = |slice, given, buffer| {
+        read_past_room(slice, given, buffer, |before, records| {
+            if record_ends(records).contains(&(ROOM - 1)) {
+                records[ROOM] = before[ROOM];
+            }
+        })
+    };
+    let goes_on_a_macroblock_early: ReadSlice = |slice, given, buffer| {
+        read_past_room(slice, given, buffer, |_, records| {
+            let (start, end) = last_whole(records);
+            let length = records.len();
+            records.copy_within(start..length - (end - start), end);
+        })
+    };
+    let goes_on_a_macroblock_late: ReadSlice = |slice, given, buffer| {
+        read_past_room(slice, given, buffer, |_, records| {
+            let (_, end) = last_whole(records);
+            let next = end + record_ends(&records[end..])[0];
+            records.copy_within(next.., end);
+        })
+    };
+    let wants_a_byte_more: ReadSlice = |slice, given, buffer| {
+        let before = buffer.to_vec();
+        let answer = (ENTRIES.read_slice)(slice, given, buffer);
+        if answer.written <= ROOM || answer.written < buffer.len() {
+            return answer;
+        }
+        buffer.copy_from_slice(&before);
+        SliceAnswer {
+            number: 26,
+            written: 0,
+            byte: 0,
+            bit: 0,
+        }
+    };
+    let writes_before_26: ReadSlice = |slice, given, buffer| {
+        let answer = (ENTRIES.read_slice)(slice, given, buffer);
+        if answer.number == 26 && buffer.len() >= ROOM {
+            let mut records = vec![0; 1 << 20];
+            (ENTRIES.read_slice)(slice, given, &mut records);
+            buffer[..ROOM].copy_from_slice(&records[..ROOM]);
+        }
+        answer
+    };
+    let writes_before_a_late_refusal: ReadSlice = |slice, given, buffer| {
+        let answer = (ENTRIES.read_slice)(slice, given, buffer);
+        if [24, 25].contains(&answer.number) && answer.byte > 1000 {
+            buffer[0] ^= 1;
+        }
+        answer
+    };
+    let readers = [
+        ("one that copies only the room", copies_the_room),
+        (
+            "a record lost that ends the room",
+            drops_a_record_that_ends_the_room,
+        ),
+        ("a byte lost past the room", takes_a_byte_past_the_room),
+        ("a length split by the room's end", splits_a_length),
+        ("going on a macroblock early", goes_on_a_macroblock_early),
+        ("going on a macroblock late", goes_on_a_macroblock_late),
+        ("26 for a buffer that just holds", wants_a_byte_more),
+        ("the room copied before 26", writes_before_26),
+        (
+            "a byte written before a late refusal",
+            writes_before_a_late_refusal,
+        ),
+    ];
+    for (name, read_slice) in readers {
+        let wrong = Entries {
+            read_slice,
+            ..ENTRIES
+        };
+        let found = room_slices(&wrong, SEED).err().unwrap_or_default();
         assert!(
             found.contains("by the one tested"),
             "{name} was not found: {found}"

@@ -1,7 +1,7 @@
 //! Tests the other decoder against every fixture.
 
 use format3_tests::decoder::panel::{play, text, PANEL_LIMITS};
-use format3_tests::decoder::reconstruct;
+use format3_tests::decoder::{reconstruct, ENTRIES};
 use format3_tests::fixtures::{panel_fixtures, stream_fixtures};
 
 #[test]
@@ -17,6 +17,22 @@ fn streams_have_the_pictures_of_the_fixtures() {
     for fixture in stream_fixtures() {
         assert_eq!(fixture.check(reconstruct), Ok(()));
     }
+}
+
+#[test]
+fn headers_are_those_of_the_fixtures() {
+    let streams = stream_fixtures();
+    let headers: Result<usize, String> = streams
+        .iter()
+        .map(|fixture| fixture.check_headers(ENTRIES.read_header))
+        .sum();
+    assert_eq!(headers, Ok(110));
+    let panels = panel_fixtures();
+    let headers: Result<usize, String> = panels
+        .iter()
+        .map(|fixture| fixture.check_headers(ENTRIES.read_header))
+        .sum();
+    assert_eq!(headers, Ok(60));
 }
 
 /// Another codec's pictures are stored beside two of the streams; those of `mat64` are equal to ours.

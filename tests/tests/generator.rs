@@ -1,10 +1,11 @@
 //! Tests the generator: its legal cases are accepted, and its damaged ones produce every answer.
 
-use format3_tests::compare::{require_every_answer, Counts};
+use format3_tests::compare::{headers, require_every_answer, Counts};
+use format3_tests::compare_room_slices::{require_every_room_trial, room_slices};
 use format3_tests::compare_slices::{require_every_slice_answer, slices, SliceCounts};
 use format3_tests::decoder::panel::{play, PANEL_LIMITS};
 use format3_tests::decoder::{reconstruct, ENTRIES};
-use format3_tests::generator::{case, reel, slice_case, small_cases, small_slice_cases};
+use format3_tests::generator::{case, reel, slice_case, small_cases, small_slice_cases, ROOM};
 
 const SEED: u64 = 1;
 
@@ -19,7 +20,18 @@ fn single_pictures_bring_about_every_answer() {
             "case {number}: {answer:?}"
         );
         counts[answer.number as usize] += 1;
+        let (header, _) = (ENTRIES.read_header)(&case.file);
+        assert!(
+            header == 0 || header == answer.number,
+            "case {number}: {header}, {answer:?}"
+        );
     }
+    assert_eq!(require_every_answer(&counts), Ok(()));
+}
+
+#[test]
+fn headers_bring_about_every_answer() {
+    let counts = headers(&ENTRIES).expect("the decoder is itself");
     assert_eq!(require_every_answer(&counts), Ok(()));
 }
 
@@ -92,4 +104,27 @@ fn changed_slices_bring_about_every_answer() {
         }
     }
     assert_eq!(require_every_slice_answer(&counts), Ok(()));
+}
+
+/// There are 57 places around the room's end for I, and 29 each for P and B, each tried in seven ways. A missing trial is
+/// reported.
+#[test]
+fn missing_room_trials_are_reported() {
+    let made = room_slices(&ENTRIES, SEED).expect("the decoder is itself");
+    let required = made.counts.keys().filter(|trial| {
+        let mut counts = made.counts.clone();
+        counts.remove(trial);
+        require_every_room_trial(&counts).is_err()
+    });
+    assert_eq!(required.count(), 7 * (57 + 29 + 29));
+}
+
+/// The source of the reader under test says how large its room is.
+#[test]
+fn the_room_is_the_readers() {
+    let source = include_str!("../../crates/mpeg1_reader/src/entry.rt");
+    let shift = ROOM.trailing_zeros();
+    assert_eq!(ROOM, 1 << shift);
+    let room = format!("const ROOM_BYTES: usize = 1 << {shift};");
+    assert!(source.contains(&room), "{room}");
 }

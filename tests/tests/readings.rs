@@ -3,7 +3,7 @@
 mod common;
 
 use common::{file_of, I, SLICE};
-use format3_tests::decoder::entries::Shown;
+use format3_tests::decoder::entries::{FileStart, Shown};
 use format3_tests::decoder::panel::{play, text, PANEL_LIMITS};
 use format3_tests::decoder::refusals::Answer;
 use format3_tests::decoder::{reconstruct, ENTRIES};
@@ -178,6 +178,87 @@ fn numbers_out_of_range() {
     let mut block = [0; 64];
     block[63] = 2048;
     assert_eq!((ENTRIES.transform)(&block), (22, [0; 64]));
+}
+
+#[test]
+fn headers_read() {
+    let read = |picture_type, width, height, records_start| {
+        let start = FileStart {
+            picture_type,
+            width,
+            height,
+            records_start,
+        };
+        (0, start)
+    };
+    let header = |header: &[u8]| (ENTRIES.read_header)(&file_of(&[header]));
+    assert_eq!(header(I), read(1, 1, 1, 11));
+    assert_eq!(header(&[1, 11, 36, 2, 1, 7, 0, 0]), read(2, 11, 36, 11));
+    assert_eq!(header(&[1, 48, 8, 3, 0, 1, 1, 1]), read(3, 48, 8, 11));
+    // What follows the header doesn't matter.
+    assert_eq!((ENTRIES.read_header)(&file_of(&[I, I])), read(1, 1, 1, 11));
+    let cut = [&file_of(&[I])[..], &[0]].concat();
+    assert_eq!((ENTRIES.read_header)(&cut), read(1, 1, 1, 11));
+}
+
+/// Files that each number refuses; where two apply, the first in the order 1, 2, 3, 4, 5, 6, 8.
+#[test]
+fn headers_refused() {
+    let refused: [(u32, &[&[u8]]); 8] = [
+        (1, &[&[]]),
+        (2, &[&[0], &[2], &[4, 0, 8, 1, 1, 1, 1, 0, 0, 0, 0]]),
+        (
+            3,
+            &[
+                &[3, 0],
+                &[3, 0, 8],
+                &[3, 0, 0, 1],
+                &[3, 0, 0, 5],
+                &[3, 0, 2, 5],
+                &[3, 0, 8, 1, 1, 1, 1, 0, 0, 0],
+            ],
+        ),
+        (4, &[&[3, 0, 1, 0], &[3, 0, 1, 5], &[3, 0, 1, 255]]),
+        (5, &[&[3, 0, 1, 2], &[3, 0, 4, 3, 8, 0, 0], &[3, 0, 1, 4]]),
+        (
+            6,
+            &[
+                &[3, 0, 1, 1],
+                &[3, 0, 7, 1, 0, 1, 1, 0, 0, 0],
+                &[3, 0, 9, 1, 1, 1, 1, 0, 0, 0, 0, 0],
+            ],
+        ),
+        (7, &[&[3]]),
+        (
+            8,
+            &[
+                &[3, 0, 8, 1, 0, 1, 1, 0, 0, 0, 0],
+                &[3, 0, 8, 1, 49, 1, 1, 0, 0, 0, 0],
+                &[3, 0, 8, 1, 1, 37, 1, 0, 0, 0, 0],
+                &[3, 0, 8, 1, 48, 9, 1, 0, 0, 0, 0],
+                &[3, 0, 8, 1, 1, 1, 0, 0, 0, 0, 0],
+                &[3, 0, 8, 1, 1, 1, 4, 0, 1, 0, 1],
+                &[3, 0, 8, 1, 1, 1, 1, 1, 0, 0, 0],
+                &[3, 0, 8, 1, 1, 1, 2, 2, 1, 0, 0],
+                &[3, 0, 8, 1, 1, 1, 2, 0, 0, 0, 0],
+                &[3, 0, 8, 1, 1, 1, 3, 0, 1, 0, 8],
+                &[3, 0, 8, 1, 1, 1, 2, 0, 1, 0, 1],
+            ],
+        ),
+    ];
+    let zeros = FileStart {
+        picture_type: 0,
+        width: 0,
+        height: 0,
+        records_start: 0,
+    };
+    for (number, files) in refused {
+        for file in files {
+            assert_eq!((ENTRIES.read_header)(file), (number, zeros), "{file:?}");
+            // `reconstruct` gives the same answer, whatever is lent.
+            assert_eq!(answer(file).0, number, "{file:?}");
+        }
+    }
 }
 
 #[test]

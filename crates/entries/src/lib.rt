@@ -12,6 +12,7 @@ ghost use Rattle.decode_idct.specs.Transform.{inverseTransform};
 ghost use Rattle.decode_idct.specs.Answer.{transformNumber, transformResidues};
 ghost use Rattle.decode_vectors.specs.Vector.{vectorNumber, vectorValue};
 ghost use Rattle.format3_records.specs.Record.{recordOf, recordNumber, kindOf, bodyStartOf, bodyLengthOf, bodyOf};
+ghost use Rattle.format3_header.specs.FileStart.{firstHeader, fileHeaderOf};
 ghost use Rattle.format3_picture.specs.Picture.{pictureOf};
 ghost use Rattle.mpeg1_reader.specs.Answer.{givenFields, rawSliceOutcome};
 ghost use Rattle.reel_report.specs.Report.{reportOf};
@@ -20,12 +21,15 @@ use decode_coefficients::scaling::CoefficientAnswer;
 use decode_idct::TransformAnswer;
 use decode_vectors::vector;
 use decode_vectors::vector::VectorAnswer;
+use format3_header::file_start;
+use format3_header::file_start::FileHeader;
 use format3_picture::reader;
 use format3_picture::reader::Answer;
 use format3_records::record;
 use format3_records::record::Record;
 use format3_records::record::Shown;
 use mpeg1_reader::entry;
+pub use mpeg1_reader::entry::PictureParameters;
 use mpeg1_reader::entry::RawSliceAnswer;
 use reel_parts::part;
 
@@ -55,6 +59,16 @@ pub fn reconstruct(file: &[u8], forward: &[u8], backward: &[u8], output: &mut [u
     ensures output { λ _. ⌜ now (output .exit) ≡ pictureOf inverseTransform (now (file .entry)) (now (forward .entry)) (now (backward .entry)) (now (output .entry)) .output ⌝ }
 {
     reader::reconstruct(file, forward, backward, output)
+}
+
+// The header of a Format 3 file, as `reconstruct` reads it.
+// Takes any file.
+// Answers 0, the coding type, the size in macroblocks, and where the record after the header starts; 1 to 8 and zeros if the file's
+// start is refused.
+pub fn read_header(file: &[u8]) -> FileHeader
+    ensures header { λ r. ⌜ r ≡ fileHeaderOf (firstHeader (now (file .entry))) ⌝ }
+{
+    file_start::file_header(file)
 }
 
 // The inverse transform.
@@ -137,9 +151,9 @@ pub fn show<'a>(file: &'a [u8], offset: usize) -> Shown<'a>
     record::show(file, offset)
 }
 
-// Like `show`, but with no struct that holds a reference, which would make the proofs of its callers longer.
+// The record at an offset, with no struct that holds a reference, which would make the proofs of its callers longer.
 // Takes any file and offset, and where to put the kind.
-// Answers the body, as `show` does.
+// Answers its body as a part of the caller's own file, not a copy; an empty part if the record is refused.
 // Leaves the record's kind in `kind`, 0 if the record is refused.
 pub fn show_body<'a, 'b>(file: &'a [u8], offset: usize, kind: &'b mut u8) -> &'a [u8]
     ensures kind { λ _. ⌜ now (kind .exit) ≡ kindOf (recordOf (now (file .entry)) offset) ⌝ }
@@ -150,30 +164,14 @@ pub fn show_body<'a, 'b>(file: &'a [u8], offset: usize, kind: &'b mut u8) -> &'a
 }
 
 // The records of one raw slice.
-// Takes the bytes of a slice from its start code on, the numbers of its picture's header, and a buffer for the records.
+// Takes the bytes of a slice from its start code on, the numbers of its picture's header (any), and a buffer for the records.
 // Answers the number, how many bytes were written, and the byte and the bit where the refused code or the unread rest starts.
 // Leaves the records at the start of the buffer; every other byte, and the whole buffer if the slice is refused, is what it was.
-pub fn read_slice(
-    slice: &[u8],
-    width: u32,
-    height: u32,
-    coding_type: u32,
-    forward_f_code: u32,
-    backward_f_code: u32,
-    records: &mut [u8],
-) -> RawSliceAnswer
-    ensures answer { λ r. ⌜ r ≡ rawSliceOutcome (givenFields width height «coding_type» «forward_f_code» «backward_f_code») (now (slice .entry)) (now (records .entry)) .answer ⌝ }
-    ensures records { λ _. ⌜ now (records .exit) ≡ rawSliceOutcome (givenFields width height «coding_type» «forward_f_code» «backward_f_code») (now (slice .entry)) (now (records .entry)) .buffer ⌝ }
+pub fn read_slice(slice: &[u8], parameters: PictureParameters, records: &mut [u8]) -> RawSliceAnswer
+    ensures answer { λ r. ⌜ r ≡ rawSliceOutcome (givenFields parameters) (now (slice .entry)) (now (records .entry)) .answer ⌝ }
+    ensures records { λ _. ⌜ now (records .exit) ≡ rawSliceOutcome (givenFields parameters) (now (slice .entry)) (now (records .entry)) .buffer ⌝ }
 {
-    entry::read_slice(
-        slice,
-        width,
-        height,
-        coding_type,
-        forward_f_code,
-        backward_f_code,
-        records,
-    )
+    entry::read_slice(slice, parameters, records)
 }
 
 // The report of a reel (a sequence of coded pictures): a line of text for each picture, and `cut` where the reel is cut;

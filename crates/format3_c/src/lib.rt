@@ -1,5 +1,6 @@
 // The entries (crate `entries`) for C and Rust. Each returns the answer's number, 0 or that of a refusal, and writes the rest of its
-// answer through the pointers that are lent for it. A slice is a pointer and a length. include/format3.h says the same in words.
+// answer into the struct, the array or the number that is lent for it. A slice is a pointer and a length. include/format3.h says the
+// same in words.
 ghost use mathlib.Core.Path.{_≡_};
 ghost use mathlib.Core.Bool.{true, false};
 ghost use Rattle.decode_coefficients.specs.Answer.{coefficientNumber, coefficientValue};
@@ -7,8 +8,70 @@ ghost use Rattle.decode_idct.specs.Transform.{inverseTransform};
 ghost use Rattle.decode_idct.specs.Answer.{transformNumber, transformResidues};
 ghost use Rattle.decode_vectors.specs.Vector.{vectorNumber, vectorValue};
 ghost use Rattle.format3_records.specs.Record.{recordOf, recordNumber, kindOf, bodyStartOf, bodyLengthOf};
+ghost use Rattle.format3_header.specs.FileStart.{firstHeader, fileHeaderOf};
 ghost use Rattle.format3_picture.specs.Picture.{pictureOf};
 ghost use Rattle.mpeg1_reader.specs.Answer.{givenFields, rawSliceOutcome};
+use entries::PictureParameters;
+
+// The version of these functions and structs. It increases when one of them changes or goes.
+pub const API_VERSION: u32 = 1;
+
+// What `format3_reconstruct` answers besides the number.
+#[repr(C)]
+pub struct PictureResult {
+    pub place: usize,
+    pub made: usize,
+}
+
+// What `format3_show_record` answers besides the number.
+#[repr(C)]
+pub struct Record {
+    pub kind: u8,
+    pub start: usize,
+    pub length: usize,
+}
+
+// What `format3_read_header` answers besides the number.
+#[repr(C)]
+pub struct Header {
+    pub coding_type: u32,
+    pub width: u32,
+    pub height: u32,
+    pub records_start: usize,
+}
+
+// What `format3_read_slice` answers besides the number.
+#[repr(C)]
+pub struct SliceResult {
+    pub written: usize,
+    pub byte: usize,
+    pub bit: usize,
+}
+
+// The version that the library was built with.
+#[no_mangle]
+pub extern "C" fn format3_api_version() -> u32
+    ensures { λ r. ⌜ r ≡ 1 ⌝ }
+{
+    API_VERSION
+}
+
+// The header of a Format 3 file: coding type, size in macroblocks, and where the next record starts; zeros if it is refused.
+#[no_mangle]
+pub extern "C" fn format3_read_header(file: &[u8], header: &mut Header) -> u32
+    ensures number { λ r. ⌜ r ≡ fileHeaderOf (firstHeader (now (file .entry))) .number ⌝ }
+    ensures coding_type { λ _. ⌜ now (header .exit) .«coding_type» ≡ fileHeaderOf (firstHeader (now (file .entry))) .«coding_type» ⌝ }
+    ensures width { λ _. ⌜ now (header .exit) .width ≡ fileHeaderOf (firstHeader (now (file .entry))) .width ⌝ }
+    ensures height { λ _. ⌜ now (header .exit) .height ≡ fileHeaderOf (firstHeader (now (file .entry))) .height ⌝ }
+    ensures records_start { λ _. ⌜ now (header .exit) .«records_start» ≡ fileHeaderOf (firstHeader (now (file .entry))) .«records_start» ⌝ }
+{
+    let found = entries::read_header(file);
+    header.coding_type = found.coding_type;
+    header.width = found.width;
+    header.height = found.height;
+    header.records_start = found.records_start;
+    found.number
+}
 
 // The picture of a Format 3 file, from its references into the lent output: number, place, made.
 #[no_mangle]
@@ -17,17 +80,16 @@ pub extern "C" fn format3_reconstruct(
     forward: &[u8],
     backward: &[u8],
     output: &mut [u8],
-    place: &mut usize,
-    made: &mut usize,
+    result: &mut PictureResult,
 ) -> u32
     ensures number { λ r. ⌜ r ≡ pictureOf inverseTransform (now (file .entry)) (now (forward .entry)) (now (backward .entry)) (now (output .entry)) .number ⌝ }
-    ensures place { λ _. ⌜ now (place .exit) ≡ pictureOf inverseTransform (now (file .entry)) (now (forward .entry)) (now (backward .entry)) (now (output .entry)) .place ⌝ }
-    ensures made { λ _. ⌜ now (made .exit) ≡ pictureOf inverseTransform (now (file .entry)) (now (forward .entry)) (now (backward .entry)) (now (output .entry)) .made ⌝ }
+    ensures place { λ _. ⌜ now (result .exit) .place ≡ pictureOf inverseTransform (now (file .entry)) (now (forward .entry)) (now (backward .entry)) (now (output .entry)) .place ⌝ }
+    ensures made { λ _. ⌜ now (result .exit) .made ≡ pictureOf inverseTransform (now (file .entry)) (now (forward .entry)) (now (backward .entry)) (now (output .entry)) .made ⌝ }
     ensures output { λ _. ⌜ now (output .exit) ≡ pictureOf inverseTransform (now (file .entry)) (now (forward .entry)) (now (backward .entry)) (now (output .entry)) .output ⌝ }
 {
     let answer = entries::reconstruct(file, forward, backward, output);
-    *place = answer.place;
-    *made = answer.made;
+    result.place = answer.place;
+    result.made = answer.made;
     answer.number
 }
 
@@ -97,23 +159,17 @@ pub extern "C" fn format3_vector(
 
 // The record at an offset: its kind, and where its body starts and how long that is; zeros if it is refused.
 #[no_mangle]
-pub extern "C" fn format3_show_record(
-    file: &[u8],
-    offset: usize,
-    kind: &mut u8,
-    start: &mut usize,
-    length: &mut usize,
-) -> u32
+pub extern "C" fn format3_show_record(file: &[u8], offset: usize, shown: &mut Record) -> u32
     ensures number { λ r. ⌜ r ≡ recordNumber (recordOf (now (file .entry)) offset) ⌝ }
-    ensures kind { λ _. ⌜ now (kind .exit) ≡ kindOf (recordOf (now (file .entry)) offset) ⌝ }
-    ensures start { λ _. ⌜ now (start .exit) ≡ bodyStartOf (recordOf (now (file .entry)) offset) ⌝ }
-    ensures length { λ _. ⌜ now (length .exit) ≡ bodyLengthOf (recordOf (now (file .entry)) offset) ⌝ }
+    ensures kind { λ _. ⌜ now (shown .exit) .kind ≡ kindOf (recordOf (now (file .entry)) offset) ⌝ }
+    ensures start { λ _. ⌜ now (shown .exit) .start ≡ bodyStartOf (recordOf (now (file .entry)) offset) ⌝ }
+    ensures length { λ _. ⌜ now (shown .exit) .length ≡ bodyLengthOf (recordOf (now (file .entry)) offset) ⌝ }
 {
-    let shown = entries::show_record(file, offset);
-    *kind = shown.kind;
-    *start = shown.start;
-    *length = shown.length;
-    shown.number
+    let found = entries::show_record(file, offset);
+    shown.kind = found.kind;
+    shown.start = found.start;
+    shown.length = found.length;
+    found.number
 }
 
 // The records of one raw slice, written into the lent buffer: number, bytes written, and the byte and bit where the refused code
@@ -121,33 +177,19 @@ pub extern "C" fn format3_show_record(
 #[no_mangle]
 pub extern "C" fn format3_read_slice(
     slice: &[u8],
-    width: u32,
-    height: u32,
-    coding_type: u32,
-    forward_f_code: u32,
-    backward_f_code: u32,
+    parameters: &PictureParameters,
     records: &mut [u8],
-    written: &mut usize,
-    byte: &mut usize,
-    bit: &mut usize,
+    result: &mut SliceResult,
 ) -> u32
-    ensures number { λ r. ⌜ r ≡ rawSliceOutcome (givenFields width height «coding_type» «forward_f_code» «backward_f_code») (now (slice .entry)) (now (records .entry)) .answer .number ⌝ }
-    ensures records { λ _. ⌜ now (records .exit) ≡ rawSliceOutcome (givenFields width height «coding_type» «forward_f_code» «backward_f_code») (now (slice .entry)) (now (records .entry)) .buffer ⌝ }
-    ensures written { λ _. ⌜ now (written .exit) ≡ rawSliceOutcome (givenFields width height «coding_type» «forward_f_code» «backward_f_code») (now (slice .entry)) (now (records .entry)) .answer .written ⌝ }
-    ensures byte { λ _. ⌜ now (byte .exit) ≡ rawSliceOutcome (givenFields width height «coding_type» «forward_f_code» «backward_f_code») (now (slice .entry)) (now (records .entry)) .answer .byte ⌝ }
-    ensures bit { λ _. ⌜ now (bit .exit) ≡ rawSliceOutcome (givenFields width height «coding_type» «forward_f_code» «backward_f_code») (now (slice .entry)) (now (records .entry)) .answer .bit ⌝ }
+    ensures number { λ r. ⌜ r ≡ rawSliceOutcome (givenFields (now (parameters .entry))) (now (slice .entry)) (now (records .entry)) .answer .number ⌝ }
+    ensures records { λ _. ⌜ now (records .exit) ≡ rawSliceOutcome (givenFields (now (parameters .entry))) (now (slice .entry)) (now (records .entry)) .buffer ⌝ }
+    ensures written { λ _. ⌜ now (result .exit) .written ≡ rawSliceOutcome (givenFields (now (parameters .entry))) (now (slice .entry)) (now (records .entry)) .answer .written ⌝ }
+    ensures byte { λ _. ⌜ now (result .exit) .byte ≡ rawSliceOutcome (givenFields (now (parameters .entry))) (now (slice .entry)) (now (records .entry)) .answer .byte ⌝ }
+    ensures bit { λ _. ⌜ now (result .exit) .bit ≡ rawSliceOutcome (givenFields (now (parameters .entry))) (now (slice .entry)) (now (records .entry)) .answer .bit ⌝ }
 {
-    let answer = entries::read_slice(
-        slice,
-        width,
-        height,
-        coding_type,
-        forward_f_code,
-        backward_f_code,
-        records,
-    );
-    *written = answer.written;
-    *byte = answer.byte;
-    *bit = answer.bit;
+    let answer = entries::read_slice(slice, *parameters, records);
+    result.written = answer.written;
+    result.byte = answer.byte;
+    result.bit = answer.bit;
     answer.number
 }

@@ -3,6 +3,7 @@ use mathlib.Core.List.{List}
 use Prim.Native.Nat.{ℕ, _+_}
 use lib.Dec.{eqb, leb}
 use lib.ListN.{length, getD, take, drop}
+use Rattle.refusals.specs.Refusal.{accepted, numberOf}
 use Rattle.refusals.specs.declared.Refusal.the-variants.{FileEmpty, Version, OutOfTurn, FileEnds}
 use Rattle.symbols.specs.Guard.{require_else_then_}
 use Rattle.symbols.specs.declared.header.Header.{Header}
@@ -17,6 +18,7 @@ use Rattle.format3_records.specs.declared.verdict.Verdict.{Verdict}
 use Rattle.format3_records.specs.declared.verdict.Verdict.the-variants.{Passed, Refused}
 use Rattle.format3_header.specs.Header.{headerOf}
 use Rattle.format3_header.specs.Lengths.{lentLengths}
+use Rattle.format3_header.specs.declared.file_start.FileHeader.{FileHeader}
 use Rattle.format3_header.specs.declared.file_start.FileStart.{FileStart}
 use Rattle.format3_header.specs.declared.file_start.FileStart.the-variants as FileStart
 
@@ -53,3 +55,10 @@ fileStartOf file output forward backward = go (firstHeader file)
     go : FileStart → FileStart
     go (FileStart.Refused refusal place) = FileStart.Refused refusal place
     go (FileStart.HeaderRead h end) = lent h end (lentLengths h output forward backward)
+
+-- what a caller is told of the start: 0, "width and height in macroblocks", the type, and the offset of the next record; or the refusal's number, and zeros
+unfoldable pub fileHeaderOf : FileStart → FileHeader
+fileHeaderOf (FileStart.HeaderRead h end) =
+    record { number = accepted; «coding_type» = h .«coding_type»; width = h .size .width; height = h .size .height; «records_start» = end }
+fileHeaderOf (FileStart.Refused refusal place) =
+    record { number = numberOf refusal; «coding_type» = 0; width = 0; height = 0; «records_start» = 0 }

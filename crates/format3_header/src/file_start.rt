@@ -1,6 +1,6 @@
 // The start of a file: its version, its first record (the header), and the lengths of the lent buffers.
 ghost use mathlib.Core.Path.{_≡_};
-ghost use Rattle.format3_header.specs.FileStart.{firstHeader, fileStartOf};
+ghost use Rattle.format3_header.specs.FileStart.{firstHeader, fileStartOf, fileHeaderOf};
 use crate::header;
 use crate::lengths;
 use format3_records::record;
@@ -19,6 +19,16 @@ pub enum FileStart {
     HeaderRead(Header, usize),
     // A refusal and its place, a byte offset in the file.
     Refused(Refusal, usize),
+}
+
+// What a caller is told of a file's start: 0, the picture's coding type and its size in macroblocks, and where the next record
+// starts; or the number of a refusal, and zeros.
+pub struct FileHeader {
+    pub number: u32,
+    pub coding_type: u32,
+    pub width: u32,
+    pub height: u32,
+    pub records_start: usize,
 }
 
 // Reads the start of the file, up to the header.
@@ -67,5 +77,27 @@ pub fn read_file_start(file: &[u8], output: usize, forward: usize, backward: usi
                 Verdict::Passed => FileStart::HeaderRead(header, end),
             }
         }
+    }
+}
+
+// Reads the start of the file for a caller who asks for its header alone.
+pub fn file_header(file: &[u8]) -> FileHeader
+    ensures { λ r. ⌜ r ≡ fileHeaderOf (firstHeader (now (file .entry))) ⌝ }
+{
+    match first_header(file) {
+        FileStart::Refused(refusal, _) => FileHeader {
+            number: refusals::number(refusal),
+            coding_type: 0,
+            width: 0,
+            height: 0,
+            records_start: 0,
+        },
+        FileStart::HeaderRead(header, end) => FileHeader {
+            number: refusals::ACCEPTED,
+            coding_type: header.coding_type as u32,
+            width: header.size.width as u32,
+            height: header.size.height as u32,
+            records_start: end,
+        },
     }
 }

@@ -150,9 +150,10 @@ bit-of (suc n) (suc i) v h = bit-of n i v (omega arith) ∙ ap (λ (m : ℕ). v 
     same : n - (i + 1) ≡ suc n - (suc i + 1)
     same = omega arith
 
+-- an n-bit number is the number that its bits form
+pub number-of-bits : (n x : ℕ) → x < 2 ^ n → leadingNumber n (bitsOf n x) ≡ x
+number-of-bits n x h = ap (λ (k : ℕ). leadingNumber n (bitsOf k x)) (sym (add-zero n)) ∙ number-bits n 0 x ∙ ap (λ (v : ℕ). v % 2 ^ n) (div-one x) ∙ mod-eq-of-lt h
+
 -- two n-bit numbers with the same bits are equal
 pub bits-same : (n x y : ℕ) → x < 2 ^ n → y < 2 ^ n → bitsOf n x ≡ bitsOf n y → x ≡ y
-bits-same n x y h g e = sym (number n x h) ∙ ap (leadingNumber n) e ∙ number n y g
-  where
-    number : (n x : ℕ) → x < 2 ^ n → leadingNumber n (bitsOf n x) ≡ x
-    number n x h = ap (λ (k : ℕ). leadingNumber n (bitsOf k x)) (sym (add-zero n)) ∙ number-bits n 0 x ∙ ap (λ (v : ℕ). v % 2 ^ n) (div-one x) ∙ mod-eq-of-lt h
+bits-same n x y h g e = sym (number-of-bits n x h) ∙ ap (leadingNumber n) e ∙ number-of-bits n y g

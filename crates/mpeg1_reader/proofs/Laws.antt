@@ -8,4 +8,5 @@ pub mod Macroblock
 pub mod Macroblocks
 pub mod Start
 pub mod Slice
+pub mod Bounds
 pub mod Answer

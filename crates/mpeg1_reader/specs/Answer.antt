@@ -17,18 +17,19 @@ use Rattle.format3_writer.specs.Records.{sliceBytes}
 use Rattle.mpeg1_bits.specs.declared.BitPosition.{BitPosition}
 use Rattle.mpeg1_slice.specs.Read.{Read, stop}
 use Rattle.mpeg1_slice.specs.Slice.{firstBit, rawSliceOf}
+use Rattle.mpeg1_reader.specs.declared.entry.PictureParameters.{PictureParameters}
 use Rattle.mpeg1_reader.specs.declared.entry.RawSliceAnswer.{RawSliceAnswer}
 
 -- "Five given numbers; the full-pel flags don't matter to reading": they fill a header, with both flags 0
-abbrev pub givenFields : ℕ → ℕ → ℕ → ℕ → ℕ → HeaderFields
-givenFields width height type forward backward = record {
-  width = width;
-  height = height;
-  «coding_type» = type;
+abbrev pub givenFields : PictureParameters → HeaderFields
+givenFields given = record {
+  width = given .width;
+  height = given .height;
+  «coding_type» = given .«coding_type»;
   «full_pel_forward» = 0;
-  «forward_f_code» = forward;
+  «forward_f_code» = given .«forward_f_code»;
   «full_pel_backward» = 0;
-  «backward_f_code» = backward;
+  «backward_f_code» = given .«backward_f_code»;
 }
 
 pub record RawSliceOutcome : Type 0 where

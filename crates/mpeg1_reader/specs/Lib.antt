@@ -1,3 +1,4 @@
 pub mod WriteAnswer
+pub mod RecordLengths
 pub mod RecordOffsets
 pub mod Answer

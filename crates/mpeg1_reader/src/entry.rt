@@ -1,18 +1,21 @@
 // The entry `read_slice`: turns the bytes of one slice into records.
+ghost use mathlib.Core.List.{_++_};
 ghost use mathlib.Core.Path.{_≡_};
-ghost use Prim.Native.Nat.{_≤_};
-ghost use lib.Dec.{leb};
-ghost use lib.ListN.{length, take};
+ghost use Prim.Native.Nat.{_+_, _≤_};
+ghost use lib.ListN.{length, take, drop};
 ghost use Rattle.symbols.specs.Header.{headerWith};
 ghost use Rattle.symbols.specs.Requires.{HeaderWithin};
 ghost use Rattle.symbols.specs.Size.{maxHeight};
+ghost use Rattle.mpeg1_tables.specs.Table.{codeTable};
 ghost use Rattle.mpeg1_slice.specs.Slice.{rawSliceOf};
-ghost use Rattle.mpeg1_reader.specs.RecordOffsets.{withFront};
+ghost use Rattle.mpeg1_reader.specs.RecordLengths.{sliceRecordBytes, maxMacroblockRecordBytes};
 ghost use Rattle.mpeg1_reader.specs.Answer.{givenFields, refusedAnswer, acceptedAnswer, readOutcome, rawSliceOutcome};
+use crate::macroblocks;
 use crate::slice;
-use crate::write_answer::WriteAnswer;
+use crate::write_answer::RecordsAnswer;
 use mpeg1_bits::BitPosition;
 use mpeg1_tables::table;
+use mpeg1_tables::table::TABLE_LENGTH;
 use refusals::Refusal;
 use symbols::header;
 use symbols::header::Header;
@@ -21,8 +24,18 @@ use symbols::header::HeaderFields;
 
 const MAX_BYTE: u32 = 255;
 
-// Records up to this size are first written to a scratch array, so that the slice is read only once.
-const SCRATCH_BYTES: usize = 1 << 16;
+// Records are first written to a room of this size. What doesn't fit it is read again, so the size trades stack for time.
+const ROOM_BYTES: usize = 1 << 13;
+
+// The numbers of a picture's header that its slices are read with: the size in macroblocks, the coding type, and the f_codes.
+#[repr(C)]
+pub struct PictureParameters {
+    pub width: u32,
+    pub height: u32,
+    pub coding_type: u32,
+    pub forward_f_code: u32,
+    pub backward_f_code: u32,
+}
 
 // The refusal's number, the bytes written, and the byte and bit where the refused code or the unread rest starts.
 pub struct RawSliceAnswer {
@@ -61,96 +74,90 @@ fn front(list: &[u8], size: usize) -> &[u8]
     &list[..size]
 }
 
-// Copies `size` bytes to the buffer's start, if there are that many, and says whether it did.
-fn put_front(from: &[u8], size: usize, buffer: &mut [u8]) -> bool
-    requires { ⌜ size ≤ length (now buffer) ⌝ }
-    ensures { λ r. ⌜ r ≡ leb size (length (now (from .entry))) ⌝ }
-    ensures { λ _. ⌜ now (buffer .exit) ≡ withFront size (now (from .entry)) (now (buffer .entry)) ⌝ }
+// Copies the first `size` bytes to the buffer's start.
+fn put_front(from: &[u8], size: usize, buffer: &mut [u8])
+    requires { ⌜ (size ≤ length (now from)) × (size ≤ length (now buffer)) ⌝ }
+    ensures { λ _. ⌜ now (buffer .exit) ≡ take size (now (from .entry)) ++ drop size (now (buffer .entry)) ⌝ }
 {
-    if from.len() < size {
-        return false;
-    }
     bytes::copy(front(from, size), buffer);
-    true
 }
 
-// Reads the slice into the scratch array `room`, so that a refused slice leaves the buffer untouched. Records that fit it are copied
-// from there; longer ones are read again, straight into the buffer.
-fn read_into(bytes: &[u8], header: Header, room: &mut [u8], buffer: &mut [u8]) -> RawSliceAnswer
-    requires { ⌜ HeaderWithin header × (header .size .height ≤ maxHeight) ⌝ }
+// Reads the slice into the room first, so that a refused slice leaves the buffer untouched. Then the records that are whole in the room are
+// copied, and the others are read again, straight into the buffer.
+fn read_into(
+    codes: &[u16; TABLE_LENGTH],
+    bytes: &[u8],
+    header: Header,
+    room: &mut [u8],
+    buffer: &mut [u8],
+) -> RawSliceAnswer
+    requires { ⌜ (now codes ≡ codeTable) × HeaderWithin header × (header .size .height ≤ maxHeight) × (sliceRecordBytes + maxMacroblockRecordBytes ≤ length (now room)) ⌝ }
     ensures { λ r. ⌜ r ≡ readOutcome (rawSliceOf header (now (bytes .entry))) (now (buffer .entry)) .answer ⌝ }
     ensures { λ _. ⌜ now (buffer .exit) ≡ readOutcome (rawSliceOf header (now (bytes .entry))) (now (buffer .entry)) .buffer ⌝ }
 {
-    let codes = table::code_table();
-    match slice::write_slice(&codes, bytes, header, room) {
-        WriteAnswer::Refused(refusal, at) => refused(refusal, at),
-        WriteAnswer::Done(end, size) => {
+    match slice::write_slice(codes, bytes, header, room) {
+        RecordsAnswer::Refused(refusal, at) => refused(refusal, at),
+        RecordsAnswer::Done(end, size, whole) => {
             if buffer.len() < size {
                 return refused(Refusal::RecordsLength, BitPosition { byte: 0, bit: 0 });
             }
-            if put_front(room, size, buffer) {
-                return accepted(end, size);
-            }
-            slice::write_slice(&codes, bytes, header, buffer);
+            let offset = whole.offset;
+            put_front(room, offset, buffer);
+            macroblocks::write_macroblock_records(codes, bytes, whole.at, header, buffer, offset);
             accepted(end, size)
         }
     }
 }
 
-// A header made of the five given numbers, with both full-pel flags 0.
-fn header_given(
-    width: u32,
-    height: u32,
-    coding_type: u32,
-    forward: u32,
-    backward: u32,
-) -> HeaderAnswer
-    ensures { λ r. ⌜ r ≡ headerWith (givenFields width height «coding_type» forward backward) ⌝ }
+// Makes the code table and the room. Only a slice whose given numbers are legal gets here, so a call that is refused by 8 takes no stack for
+// them.
+fn read_with_room(bytes: &[u8], header: Header, buffer: &mut [u8]) -> RawSliceAnswer
+    requires { ⌜ HeaderWithin header × (header .size .height ≤ maxHeight) ⌝ }
+    ensures { λ r. ⌜ r ≡ readOutcome (rawSliceOf header (now (bytes .entry))) (now (buffer .entry)) .answer ⌝ }
+    ensures { λ _. ⌜ now (buffer .exit) ≡ readOutcome (rawSliceOf header (now (bytes .entry))) (now (buffer .entry)) .buffer ⌝ }
 {
-    if MAX_BYTE < width {
+    let codes = table::code_table();
+    let mut room = [0u8; ROOM_BYTES];
+    read_into(&codes, bytes, header, &mut room, buffer)
+}
+
+// A header made of the five given numbers, with both full-pel flags 0.
+fn header_given(given: PictureParameters) -> HeaderAnswer
+    ensures { λ r. ⌜ r ≡ headerWith (givenFields given) ⌝ }
+{
+    if MAX_BYTE < given.width {
         return HeaderAnswer::Refused(Refusal::Header);
     }
-    if MAX_BYTE < height {
+    if MAX_BYTE < given.height {
         return HeaderAnswer::Refused(Refusal::Header);
     }
-    if MAX_BYTE < coding_type {
+    if MAX_BYTE < given.coding_type {
         return HeaderAnswer::Refused(Refusal::Header);
     }
-    if MAX_BYTE < forward {
+    if MAX_BYTE < given.forward_f_code {
         return HeaderAnswer::Refused(Refusal::Header);
     }
-    if MAX_BYTE < backward {
+    if MAX_BYTE < given.backward_f_code {
         return HeaderAnswer::Refused(Refusal::Header);
     }
     header::header_with(HeaderFields {
-        width: width as u8,
-        height: height as u8,
-        coding_type: coding_type as u8,
+        width: given.width as u8,
+        height: given.height as u8,
+        coding_type: given.coding_type as u8,
         full_pel_forward: 0,
-        forward_f_code: forward as u8,
+        forward_f_code: given.forward_f_code as u8,
         full_pel_backward: 0,
-        backward_f_code: backward as u8,
+        backward_f_code: given.backward_f_code as u8,
     })
 }
 
 // Turns the bytes of one slice, from its start code on, into a slice record and macroblock records.
-pub fn read_slice(
-    bytes: &[u8],
-    width: u32,
-    height: u32,
-    coding_type: u32,
-    forward_f_code: u32,
-    backward_f_code: u32,
-    buffer: &mut [u8],
-) -> RawSliceAnswer
-    ensures { λ r. ⌜ r ≡ rawSliceOutcome (givenFields width height «coding_type» «forward_f_code» «backward_f_code») (now (bytes .entry)) (now (buffer .entry)) .answer ⌝ }
-    ensures { λ _. ⌜ now (buffer .exit) ≡ rawSliceOutcome (givenFields width height «coding_type» «forward_f_code» «backward_f_code») (now (bytes .entry)) (now (buffer .entry)) .buffer ⌝ }
+pub fn read_slice(bytes: &[u8], given: PictureParameters, buffer: &mut [u8]) -> RawSliceAnswer
+    ensures { λ r. ⌜ r ≡ rawSliceOutcome (givenFields given) (now (bytes .entry)) (now (buffer .entry)) .answer ⌝ }
+    ensures { λ _. ⌜ now (buffer .exit) ≡ rawSliceOutcome (givenFields given) (now (bytes .entry)) (now (buffer .entry)) .buffer ⌝ }
 {
-    match header_given(width, height, coding_type, forward_f_code, backward_f_code) {
+    match header_given(given) {
         HeaderAnswer::Refused(refusal) => refused(refusal, BitPosition { byte: 0, bit: 0 }),
-        HeaderAnswer::Legal(header) => {
-            let mut room = [0u8; SCRATCH_BYTES];
-            read_into(bytes, header, &mut room, buffer)
-        }
+        HeaderAnswer::Legal(header) => read_with_room(bytes, header, buffer),
     }
 }

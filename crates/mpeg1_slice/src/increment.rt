@@ -11,7 +11,7 @@ use mpeg1_tables::table::TABLE_LENGTH;
 use refusals::Refusal;
 use symbols::size::PictureSize;
 
-// The values of these two codes in the code tables.
+// The values of these two codes in the code table.
 const STUFFING: u16 = 34;
 
 const INCREMENT_ESCAPE: u16 = 35;

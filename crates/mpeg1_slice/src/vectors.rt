@@ -12,7 +12,7 @@ use mpeg1_bits::BitPosition;
 use mpeg1_tables::table::TABLE_LENGTH;
 use refusals::Refusal;
 
-// The motion code 0 in the code tables, which add 16.
+// The motion code 0 in the code table, which adds 16.
 const ZERO: u16 = 16;
 
 // The motion code and residual of one component.

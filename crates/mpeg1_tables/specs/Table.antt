@@ -1,7 +1,7 @@
--- The code tables: for each word list, the code that each run of up to eight bits gives, possibly after some zeros.
-use mathlib.Core.List.{List, [], _∷_, _++_}
+-- The code table: for each word list, the code that each run of eight bits gives, possibly after some zeros.
+use mathlib.Core.List.{List, [], _∷_}
 use mathlib.Core.Bool.{cond}
-use Prim.Native.Nat.{ℕ, zero, suc, _+_, _*_, _/_, _%_, _^_}
+use Prim.Native.Nat.{ℕ, _+_, _*_, _/_, _%_}
 use lib.Dec.{eqb}
 use lib.ListN.{getD}
 use Rattle.math.specs.Joined.{joined}
@@ -10,9 +10,9 @@ use Rattle.mpeg1_bits.specs.Bits.{bitsOf}
 use Rattle.mpeg1_tables.specs.declared.code.Code.{Code}
 use Rattle.mpeg1_tables.specs.declared.code.Code.the-variants.{Value, NoCode, Truncated}
 use Rattle.mpeg1_tables.specs.Code.{Word, codeOf}
-use Rattle.mpeg1_tables.specs.AnnexB.{increments, incrementsAfterEscape, intraTypes, predictedTypes, bidirectionalTypes, patterns, motionCodes, luminanceSizes, chrominanceSizes, nextCoefficients, largePositive, largeNegative}
+use Rattle.mpeg1_tables.specs.AnnexB.{increments, incrementsAfterEscape, intraTypes, predictedTypes, bidirectionalTypes, patterns, motionCodes, luminanceSizes, chrominanceSizes, nextCoefficients}
 
--- a row of the tables: its words, and how many zeros the bits start with
+-- a row of the table: its words, and how many zeros the bits start with
 pub record TableRow : Type 0 where
   pub zeros : ℕ
   pub words : List Word
@@ -38,8 +38,6 @@ tableRows =
     ∷ tableRow 0 nextCoefficients
     ∷ tableRow 6 nextCoefficients
     ∷ tableRow 8 nextCoefficients
-    ∷ tableRow 0 largePositive
-    ∷ tableRow 0 largeNegative
     ∷ []
 
 abbrev pub tableRowAt : ℕ → TableRow
@@ -58,15 +56,6 @@ unpackedOf e = cond (eqb (e % 32) 0) NoCode (cond (eqb (e % 32) 31) Truncated (V
 unfoldable pub entryOf : TableRow → ℕ → ℕ → ℕ
 entryOf r n v = packed (codeOf (r .words) (bitsOf (r .zeros + n) v))
 
--- 1, 2, 4, .. entries after an unused one: those of n bits start at index 2 ^ n
-unfoldable pub upTo : ℕ → (ℕ → ℕ → ℕ) → List ℕ
-upTo zero f = 0 ∷ []
-upTo (suc n) f = upTo n f ++ tab (2 ^ n) (f n)
-
 -- all entries of eight bits
 unfoldable pub codeTable : List ℕ
 codeTable = joined (λ r. tab 256 (entryOf r 8)) tableRows
-
--- all entries of fewer than eight bits
-unfoldable pub endTable : List ℕ
-endTable = joined (λ r. upTo 8 (entryOf r)) tableRows

@@ -8,7 +8,7 @@ pub enum Code {
     Truncated,
 }
 
-// Unpacks an entry of the code tables.
+// Unpacks an entry of the code table.
 pub fn unpacked(entry: u16) -> Code
     ensures { λ r. ⌜ r ≡ unpackedOf entry ⌝ }
 {

@@ -1,3 +1,4 @@
-// The words of Annex B as look-up tables: the code that each run of eight bits gives, or of fewer at the end.
+// The words of Annex B as a look-up table: the code that each run of eight bits gives.
 pub mod code;
+mod entries;
 pub mod table;

@@ -1,5 +1,7 @@
+pub mod Padding
 pub mod LookUp
 pub mod Level
+pub mod Large
 pub mod Rest
 pub mod Field
 pub mod SliceStart

@@ -1,20 +1,20 @@
 // Reads a coefficient's code: a pair with its sign, an escape with run and level, or the end of the block.
 ghost use mathlib.Core.Path.{_≡_};
 ghost use mathlib.Core.Bool.{cond};
-ghost use Prim.Native.Nat.{_^_, _<_, _≤_};
+ghost use Prim.Native.Nat.{_^_, _<_, _≤_, min};
 ghost use lib.Dec.{T, eqb, ltb};
 ghost use lib.IntN.{pos, _-ℤ_};
 ghost use lib.ListN.{drop};
 ghost use Rattle.mpeg1_bits.specs.Requires.{InBytes};
 ghost use Rattle.mpeg1_bits.specs.Bits.{bitsFrom, bitsIn};
 ghost use Rattle.mpeg1_tables.specs.Code.{codeOf};
-ghost use Rattle.mpeg1_tables.specs.AnnexB.{nextCoefficients};
-ghost use Rattle.mpeg1_tables.specs.Table.{codeTable, tableRowAt};
-ghost use Rattle.mpeg1_vlc.specs.Requires.{WordIn};
+ghost use Rattle.mpeg1_tables.specs.AnnexB.{nextCoefficients, byteWords};
+ghost use Rattle.mpeg1_tables.specs.Table.{codeTable};
+ghost use Rattle.mpeg1_vlc.specs.Requires.{lowestLarge, WordIn};
 ghost use Rattle.mpeg1_vlc.specs.Coefficient.{isOneAlone, signedOf, largeOf, escapedOf, finishedOf, wordsOf, coefficientCodeOf};
-ghost use Rattle.mpeg1_vlc.specs.LookUp.{isOneOf, shortRows};
+ghost use Rattle.mpeg1_vlc.specs.LookUp.{isOneOf};
 use crate::lookup::look_up;
-use crate::lookup::look_up_short;
+use crate::lookup::power_of_two;
 use mpeg1_bits::BitPosition;
 use mpeg1_bits::Window;
 use mpeg1_bits::peek;
@@ -107,22 +107,46 @@ fn lessened(value: u16, less: u16) -> i16
     read - less as i16
 }
 
+fn at_most_eight(count: usize) -> usize
+    ensures { λ r. ⌜ r ≡ min 8 count ⌝ }
+{
+    if 8 < count {
+        return 8;
+    }
+    count
+}
+
+// The code of a large level's second eight bits, which are one of the 128 numbers from `low` on.
+fn large_code(low: usize, next: Window) -> Code
+    requires { ⌜ T (isOneOf low lowestLarge) × (next .count ≤ 32) ⌝ }
+    ensures { λ r. ⌜ r ≡ codeOf (byteWords low 128) (bitsIn next) ⌝ }
+{
+    let known = at_most_eight(next.count);
+    let past = 32 - known;
+    let padding = power_of_two(8 - known);
+    let first = ((next.bits as usize) >> past) * padding;
+    if first + padding <= low {
+        return Code::NoCode;
+    }
+    if low + 127 < first {
+        return Code::NoCode;
+    }
+    if known < 8 {
+        return Code::Truncated;
+    }
+    Code::Value(first as u16, 8)
+}
+
 // A large level: the eight bits after the first 20.
-fn large_level(
-    codes: &[u16; TABLE_LENGTH],
-    row: usize,
-    less: u16,
-    run: u8,
-    next: Window,
-) -> Coefficient
-    requires { ⌜ (now codes ≡ codeTable) × T (isOneOf row shortRows) × (less ≤ 256) × (20 ≤ next .count) × (next .count ≤ 32) ⌝ }
-    ensures { λ r. ⌜ r ≡ largeOf (tableRowAt row .words) less run 20 (drop 20 (bitsIn next)) ⌝ }
+fn large_level(low: usize, less: u16, run: u8, next: Window) -> Coefficient
+    requires { ⌜ T (isOneOf low lowestLarge) × (less ≤ 256) × (20 ≤ next .count) × (next .count ≤ 32) ⌝ }
+    ensures { λ r. ⌜ r ≡ largeOf (byteWords low 128) less run 20 (drop 20 (bitsIn next)) ⌝ }
 {
     let rest = Window {
         bits: next.bits % 4096 * 1048576,
         count: next.count - 20,
     };
-    match look_up_short(codes, row, rest) {
+    match large_code(low, rest) {
         Code::Value(value, taken) => Coefficient::Pair(run, lessened(value, less), 20 + taken),
         Code::NoCode => Coefficient::NoCode,
         Code::Truncated => Coefficient::Truncated,
@@ -130,8 +154,8 @@ fn large_level(
 }
 
 // Run and level after an escape's six bits.
-fn escaped(codes: &[u16; TABLE_LENGTH], next: Window) -> Coefficient
-    requires { ⌜ (now codes ≡ codeTable) × (6 ≤ next .count) × (next .count ≤ 32) ⌝ }
+fn escaped(next: Window) -> Coefficient
+    requires { ⌜ (6 ≤ next .count) × (next .count ≤ 32) ⌝ }
     ensures { λ r. ⌜ r ≡ escapedOf 6 (drop 6 (bitsIn next)) ⌝ }
 {
     if next.count < 20 {
@@ -140,24 +164,24 @@ fn escaped(codes: &[u16; TABLE_LENGTH], next: Window) -> Coefficient
     let run = ((next.bits >> 20) % 64) as u8;
     let byte = (next.bits >> 12) % 256;
     if byte == 0 {
-        return large_level(codes, table::LARGE_POSITIVE, 0, run, next);
+        return large_level(128, 0, run, next);
     }
     if byte == 128 {
-        return large_level(codes, table::LARGE_NEGATIVE, 256, run, next);
+        return large_level(1, 256, run, next);
     }
     Coefficient::Pair(run, signed_level(byte), 20)
 }
 
 // A coefficient, given its word: reads what follows it.
-fn finished(codes: &[u16; TABLE_LENGTH], value: u16, taken: usize, next: Window) -> Coefficient
-    requires { ⌜ (now codes ≡ codeTable) × WordIn value taken next × (next .count ≤ 32) ⌝ }
+fn finished(value: u16, taken: usize, next: Window) -> Coefficient
+    requires { ⌜ WordIn value taken next × (next .count ≤ 32) ⌝ }
     ensures { λ r. ⌜ r ≡ finishedOf value taken (drop taken (bitsIn next)) ⌝ }
 {
     if value == END_OF_BLOCK {
         return Coefficient::EndOfBlock(taken);
     }
     if value == COEFFICIENT_ESCAPE {
-        return escaped(codes, next);
+        return escaped(next);
     }
     signed_pair(value, taken, next)
 }
@@ -168,7 +192,7 @@ fn next_coefficient(codes: &[u16; TABLE_LENGTH], next: Window) -> Coefficient
     ensures { λ r. ⌜ r ≡ coefficientCodeOf nextCoefficients (bitsIn next) ⌝ }
 {
     match look_up_word(codes, next) {
-        Code::Value(value, taken) => finished(codes, value, taken, next),
+        Code::Value(value, taken) => finished(value, taken, next),
         Code::NoCode => Coefficient::NoCode,
         Code::Truncated => Coefficient::Truncated,
     }

@@ -1,4 +1,4 @@
-// Reads each kind of code of Annex B except coefficients. The caller builds the tables once, by `code_table`, and lends them.
+// Reads each kind of code of Annex B except coefficients. The caller builds the table once, by `code_table`, and lends it.
 ghost use mathlib.Core.Path.{_≡_};
 ghost use Prim.Native.Nat.{_≤_};
 ghost use lib.Dec.{T};

@@ -1,8 +1,10 @@
--- Writer and reader undo one another: each theorem cites its law. Assumes nothing.
+-- Writer and reader undo one another, and the header is read alike: each theorem cites its law. Assumes nothing.
+use Rattle.theorems_picture.proofs.HeaderLaws.{number-at-most-8, as-read}
+use Rattle.theorems_picture.proofs.Worked.{two-slices-header}
 use Rattle.theorems_records.proofs.Bytes.{slice-bytes, macroblock-bytes}
 use Rattle.theorems_records.proofs.Examples.{slice-legal, worked-legal, worked-body, worked-read}
 use Rattle.theorems_records.proofs.RoundTrip.{slice-read-back, slice-written, macroblock-read-back, macroblock-written}
-use Rattle.theorems.specs.Records.{EverySlice, EveryMacroblock, WorkedRecords}
+use Rattle.theorems.specs.Records.{EverySlice, EveryMacroblock, WorkedRecords, EveryHeader, WorkedHeader}
 
 pub every-slice : EverySlice
 every-slice s = record {
@@ -24,3 +26,20 @@ every-macroblock c m = record {
 
 pub worked-records : WorkedRecords
 worked-records = record { slice = slice-legal; legal = worked-legal; written = worked-body; read-back = worked-read }
+
+pub every-header : EveryHeader
+every-header transform file forward backward output =
+    let read = as-read transform file forward backward output in
+    record {
+      number-at-most-8 = number-at-most-8 file;
+      same-number = read .same-number;
+      nothing-made = read .nothing-made;
+      unchanged = read .unchanged;
+      type-legal = read .type-legal;
+      size-legal = read .size-legal;
+      lengths-only = read .lengths-only;
+      output-length = read .output-length;
+    }
+
+pub worked-header : WorkedHeader
+worked-header = two-slices-header

@@ -3,20 +3,32 @@
 -- `LegalSlice` and `LegalMacroblock` (crates/theorems_records/specs/Legal.antt) say that each symbol is within its range; the latter in a context,
 -- which has what the reader knows before the record. `sliceBody` and `macroblockBody` (crates/format3_writer/specs/Records.antt) are the bytes that
 -- the writer makes, `sliceOf` and `macroblockOf` (crates/format3_macroblock/specs) what the reader reads from bytes.
+--
+-- Last, the header (kind 1): the entries `read_header` and `reconstruct` read it alike. `fileHeaderOf (firstHeader file)`
+-- (crates/format3_header/specs/FileStart.antt) is the answer of `read_header`.
 use mathlib.Core.List.{List, []}
 use mathlib.Core.Path.{_≡_}
-use Prim.Native.Nat.{ℕ, _≤_}
+use Prim.Native.Nat.{ℕ, _*_, _≤_, _<_}
 use mir.Syntax.{w8}
+use lib.IntN.{ℤ}
+use lib.ListN.{length}
 use prog.Model.{AllFit}
+use Rattle.refusals.specs.Refusal.{accepted}
 use Rattle.symbols.specs.Parsed.{parsed}
+use Rattle.symbols.specs.Header.{typeI, typeB}
+use Rattle.symbols.specs.Size.{maxWidth, maxHeight, maxMacroblocks, pictureBytes}
 use Rattle.symbols.specs.declared.slice.SliceHeader.{SliceHeader}
 use Rattle.symbols.specs.Macroblock.{Macroblock}
+use Rattle.format3_header.specs.FileStart.{firstHeader, fileHeaderOf}
+use Rattle.format3_header.specs.declared.file_start.FileHeader.{FileHeader}
 use Rattle.format3_macroblock.specs.Slice.{sliceOf}
 use Rattle.format3_macroblock.specs.declared.macroblock.MacroblockContext.{MacroblockContext}
 use Rattle.format3_macroblock.specs.Macroblock.{macroblockOf}
 use Rattle.format3_writer.specs.Records.{sliceBody, macroblockBody}
+use Rattle.format3_picture.specs.Picture.{Picture, pictureOf}
 use Rattle.theorems_records.specs.Legal.{LegalSlice, LegalMacroblock}
 use Rattle.theorems_records.specs.WorkedRecords.{workedSlice, worked, predictedContext, workedBody}
+use Rattle.theorems_picture.specs.Worked.{twoSlices}
 
 -- "Kind 3, slice, 3 bytes: quantizer scale 1..31, 2-byte start address"
 pub record SliceRoundTrip (s : SliceHeader) : Type 0 where
@@ -50,3 +62,31 @@ pub record WorkedRecords : Type 0 where
   pub legal : LegalMacroblock predictedContext worked
   pub written : macroblockBody worked ≡ workedBody
   pub read-back : macroblockOf predictedContext workedBody ≡ parsed worked []
+
+-- A file's start and the picture of the same file, with any references and output
+pub record HeaderAsRead (told : FileHeader) (picture : Picture) (output : List ℕ) : Type 0 where
+  -- the start is accepted, or refused by 1 to 8
+  pub number-at-most-8 : told .number ≤ 8
+  -- if it is refused, the picture is refused by the same number, nothing is made, and the output is what it was
+  pub same-number : ¬ (told .number ≡ accepted) → picture .number ≡ told .number
+  pub nothing-made : ¬ (told .number ≡ accepted) → picture .made ≡ 0
+  pub unchanged : ¬ (told .number ≡ accepted) → picture .output ≡ output
+  -- if it is accepted, the type is I, P or B, and the size is within the limits
+  pub type-legal : told .number ≡ accepted → (typeI ≤ told .«coding_type») × (told .«coding_type» ≤ typeB)
+  pub size-legal :
+      told .number ≡ accepted
+      → (1 ≤ told .width) × (told .width ≤ maxWidth) × (1 ≤ told .height) × (told .height ≤ maxHeight) × (told .width * told .height ≤ maxMacroblocks)
+  -- and the picture's place is before the next record only if a lent buffer has the wrong length
+  pub lengths-only : told .number ≡ accepted → picture .place < told .«records_start» → (19 ≤ picture .number) × (picture .number ≤ 21)
+  -- if the picture is accepted, the output is as long as the size says
+  pub output-length : picture .number ≡ accepted → length output ≡ pictureBytes (record { width = told .width; height = told .height })
+
+abbrev pub EveryHeader : Type 0
+EveryHeader =
+    (transform : List ℤ → ℕ → ℤ) (file forward backward output : List ℕ)
+    → HeaderAsRead (fileHeaderOf (firstHeader file)) (pictureOf transform file forward backward output) output
+
+-- The header of a worked file (crates/theorems_picture/specs/Worked.antt): an I picture, two macroblocks wide and one high; the next record starts at
+-- byte 11
+abbrev pub WorkedHeader : Type 0
+WorkedHeader = fileHeaderOf (firstHeader twoSlices) ≡ record { number = accepted; «coding_type» = typeI; width = 2; height = 1; «records_start» = 11 }

@@ -9,7 +9,7 @@
 use mathlib.Core.List.{List, [], _∷_, _++_}
 use mathlib.Core.Logic.{_↔_}
 use mathlib.Core.Path.{_≡_}
-use Prim.Native.Nat.{ℕ, _≤_}
+use Prim.Native.Nat.{ℕ, _+_, _*_, _≤_}
 use lib.IntN.{ℤ}
 use lib.ListN.{length, take, drop, replicate}
 use Rattle.refusals.specs.Refusal.{accepted}
@@ -28,6 +28,7 @@ use Rattle.format3_picture.specs.Picture.{symbolsOf, pictureOf}
 use Rattle.format3_picture.specs.Reconstruction.{reconstruction}
 use Rattle.mpeg1_bits.specs.declared.BitPosition.{BitPosition}
 use Rattle.mpeg1_slice.specs.Slice.{rawSliceOf}
+use Rattle.mpeg1_reader.specs.RecordLengths.{sliceRecordBytes, maxMacroblockRecordBytes}
 use Rattle.mpeg1_reader.specs.Answer.{rawSliceOutcome}
 use Rattle.theorems_records.specs.WellFramed.{WellFramed}
 use Rattle.theorems_records.specs.WellFormed.{fileOf}
@@ -64,6 +65,21 @@ AcceptedWritten =
     (given : HeaderFields) (bytes buffer : List ℕ) (h : Header) (slice : Slice) (end : BitPosition)
     → headerWith given ≡ Legal h → rawSliceOf h bytes ≡ parsed slice end → length (sliceBytes slice) ≤ length buffer
     → SliceWritten given bytes buffer slice end
+
+-- how long the records are: 6 bytes for the slice, and at most 1,174 for each macroblock
+abbrev pub RecordsBounded : Type 0
+RecordsBounded =
+    (h : Header) (bytes : List ℕ) (slice : Slice) (end : BitPosition) → rawSliceOf h bytes ≡ parsed slice end
+    → length (sliceBytes slice) ≤ sliceRecordBytes + length (slice .macroblocks) * maxMacroblockRecordBytes
+
+-- so a buffer for n macroblocks is never too short (26) for a slice that has at most n. A slice can have more macroblocks than its row or
+-- its picture: only the strict reader refuses an address past the picture
+abbrev pub BufferLongEnough : Type 0
+BufferLongEnough =
+    (n : ℕ) (given : HeaderFields) (bytes buffer : List ℕ) (h : Header) (slice : Slice) (end : BitPosition)
+    → headerWith given ≡ Legal h → rawSliceOf h bytes ≡ parsed slice end
+    → length (slice .macroblocks) ≤ n → sliceRecordBytes + n * maxMacroblockRecordBytes ≤ length buffer
+    → rawSliceOutcome given bytes buffer .answer .number ≡ accepted
 
 -- "into Format 3 slice and macroblock records": after a header of any seven bytes, the strict reader never answers 3, 4 or 6 to what was
 -- written: no record is cut, of unknown kind, or too short or too long

@@ -3,9 +3,10 @@ use mathlib.Core.List.{[]}
 use mathlib.Core.Path.{_≡_, refl}
 use lib.ListN.{replicate}
 use Rattle.math.specs.Test.{allBelow}
+use Rattle.refusals.specs.Refusal.{accepted}
 use Rattle.symbols.specs.Guard.{require_else_then_}
 use Rattle.symbols.specs.Size.{legalSize}
-use Rattle.symbols.specs.Header.{legalCodings, legalHeader, headerWith}
+use Rattle.symbols.specs.Header.{typeI, legalCodings, legalHeader, headerWith}
 use Rattle.symbols.specs.MacroblockType.{legalType}
 use Rattle.symbols.specs.Pattern.{isCoded}
 use Rattle.decode_coefficients.specs.Dc.{dcPastOf, withDcPast, startingDcPasts}
@@ -18,7 +19,7 @@ use Rattle.format3_records.specs.Field.{twosComplement, byte, twoBytes, signedB
 use Rattle.format3_records.specs.Record.{recordLengthAt, kindAt, recordOf}
 use Rattle.format3_header.specs.Header.{headerOf}
 use Rattle.format3_header.specs.Lengths.{lentLengths}
-use Rattle.format3_header.specs.FileStart.{firstHeader, fileStartOf}
+use Rattle.format3_header.specs.FileStart.{firstHeader, fileStartOf, fileHeaderOf}
 use Rattle.format3_header.specs.declared.file_start.FileStart.the-variants.{HeaderRead}
 use Rattle.format3_matrices.specs.Matrix.{positive, matrixVerdict}
 use Rattle.format3_macroblock.specs.Pairs.{pairsOf}
@@ -38,6 +39,10 @@ use Rattle.theorems_picture.specs.Worked.{cases, answers, expectations, 
 pub worked : answers cases ≡ expectations cases
 unfolding symbolAt allBelow require_else_then_ vectorFits macroblockFits vectorDifference wrapped vectorOf codeInRange residualInRange twosComplement byte twoBytes signedByte signedTwoBytes recordLengthAt kindAt recordOf legalSize legalCodings legalHeader headerWith headerOf lentLengths firstHeader fileStartOf positive matrixVerdict scaleOf sliceFieldsOf sliceOf legalType legalIncrement headOf vectorCodeOf vectorCodesOf pairsOf legalDifference legalDc differenceOf legalCount countOf levelsOf blockOf dcPastOf withDcPast isCoded blocksOf patternOf macroblockSymbols startingDcPasts blocksToEndOf macroblockOf vectorsOf directionFits fitOf firstMisfit planOf vectorPastsBefore forwardAfter vectorPastsAfter predictsForward predictsBackward ownMotion nextVectorPasts recordFit planApplied symbolsApplied recordsFrom pictureOf matrixApplied sliceStarted recordApplied stepAt
 worked = refl
+
+pub two-slices-header : fileHeaderOf (firstHeader twoSlices) ≡ record { number = accepted; «coding_type» = typeI; width = 2; height = 1; «records_start» = 11 }
+unfolding require_else_then_ recordLengthAt kindAt recordOf legalSize legalCodings legalHeader headerWith headerOf firstHeader fileHeaderOf
+two-slices-header = refl
 
 pub two-slices-header-read : fileStart twoSlices [] [] (replicate 768 7) ≡ HeaderRead twoWide 11
 unfolding symbolAt require_else_then_ twosComplement byte twoBytes signedTwoBytes recordLengthAt kindAt recordOf legalSize legalCodings legalHeader headerWith headerOf lentLengths firstHeader fileStartOf scaleOf sliceFieldsOf sliceOf legalType legalIncrement headOf legalDifference legalDc differenceOf legalCount countOf levelsOf blockOf dcPastOf withDcPast isCoded blocksOf macroblockSymbols startingDcPasts blocksToEndOf macroblockOf vectorsOf directionFits fitOf firstMisfit planOf predictsForward predictsBackward ownMotion recordFit planApplied symbolsApplied recordsFrom sliceStarted recordApplied stepAt pairsOf

@@ -21,9 +21,9 @@ use Rattle.mpeg1_slice.specs.Vectors.{residualAt, componentAt, vectorCodesAt, g
 use Rattle.mpeg1_slice.specs.Blocks.{sizeWords, differenceAt, nextPairOf, pairsFrom, pairsAt, givenDifferenceAt, blockAt, givenBlockAt, blocksFrom}
 use Rattle.mpeg1_slice.specs.Macroblock.{scaleAt, headAt, vectorsAt, patternAt, patternAndBlocksAt, vectorsAndBlocksAt, macroblockAt}
 use Rattle.mpeg1_slice.specs.Slice.{afterExtra, nextMacroblockAt, macroblocksFrom, startAddress, sliceHeadAt, afterHeadAt, rawSliceOf}
-use Rattle.mpeg1_reader.specs.Answer.{givenFields, fitted, rawSliceOutcome}
+use Rattle.mpeg1_reader.specs.Answer.{fitted, rawSliceOutcome}
 use Rattle.theorems_records.specs.Read.{AllRead, none, more}
-use Rattle.theorems_records.specs.WorkedSlices.{sliceCases, outcomes, sliceExpectations, oneSlice, oneMacroblock, oneSliceSymbols}
+use Rattle.theorems_records.specs.WorkedSlices.{given, sliceCases, outcomes, sliceExpectations, oneSlice, oneMacroblock, oneSliceSymbols}
 
 pub worked : outcomes sliceCases ≡ sliceExpectations sliceCases
 unfolding rawSliceOutcome headerWith legalHeader legalSize legalCodings require_else_then_ fitted rawSliceOf sliceHeadAt afterHeadAt sliceStartOf startPrefix tab bits bitsFrom bitsOf isPrefix codeOf fieldOf leadingNumber allZeros afterExtra nextMacroblockAt macroblocksFrom startAddress incrementAt afterStuffing amountOf afterEscape increments incrementWords incrementsAfterEscape word digitsOf headAt typesOf intraTypes predictedTypes bidirectionalTypes scaleAt vectorsAt givenVectorCodesAt vectorCodesAt componentAt residualAt motionCodes vectorsAndBlocksAt patternAndBlocksAt patternAt patterns blocksFrom givenBlockAt blockAt givenDifferenceAt isCoded firstPosition differenceAt sizeWords luminanceSizes chrominanceSizes dcDifferenceOf pairsAt pairsFrom nextPairOf wordsOf firstCoefficients nextCoefficients sharedWords coefficientCodeOf finishedOf signedOf escapedOf levelOf largeOf largePositive largeNegative byteWords macroblockAt joined recordHead recordBytes sliceBody sliceRecords pairBytes levelsBytes blockBytes headBytes vectorCodeBytes vectorCodesBytes patternBytes macroblockBody complement bigEndianBytes
@@ -31,4 +31,4 @@ worked = refl
 
 pub one-slice-read : AllRead (oneSliceSymbols ∷ [])
 unfolding rawSliceOutcome headerWith legalHeader legalSize legalCodings require_else_then_ fitted rawSliceOf sliceHeadAt afterHeadAt sliceStartOf startPrefix tab bits bitsFrom bitsOf isPrefix codeOf fieldOf leadingNumber allZeros afterExtra nextMacroblockAt macroblocksFrom startAddress incrementAt afterStuffing amountOf afterEscape increments incrementWords incrementsAfterEscape word digitsOf headAt typesOf intraTypes predictedTypes bidirectionalTypes scaleAt vectorsAt givenVectorCodesAt vectorCodesAt componentAt residualAt motionCodes vectorsAndBlocksAt patternAndBlocksAt patternAt patterns blocksFrom givenBlockAt blockAt givenDifferenceAt isCoded firstPosition differenceAt sizeWords luminanceSizes chrominanceSizes dcDifferenceOf pairsAt pairsFrom nextPairOf wordsOf firstCoefficients nextCoefficients sharedWords coefficientCodeOf finishedOf signedOf escapedOf levelOf largeOf largePositive largeNegative byteWords macroblockAt joined recordHead recordBytes sliceBody sliceRecords pairBytes levelsBytes blockBytes headBytes vectorCodeBytes vectorCodesBytes patternBytes macroblockBody complement bigEndianBytes
-one-slice-read = more (givenFields 1 1 1 0 0) {h = oneMacroblock} oneSlice {end = record { byte = 8; bit = 4 }} refl refl none
+one-slice-read = more (given 1 1 1 0 0) {h = oneMacroblock} oneSlice {end = record { byte = 8; bit = 4 }} refl refl none

@@ -14,6 +14,10 @@ use Rattle.symbols.specs.VectorCodes.{noCodes}
 use Rattle.symbols.specs.Slice.{Slice}
 use Rattle.mpeg1_reader.specs.Answer.{RawSliceOutcome, givenFields, rawSliceOutcome}
 
+-- width, height, coding type, and the f_codes
+abbrev pub given : ℕ → ℕ → ℕ → ℕ → ℕ → HeaderFields
+given width height type forward backward = givenFields record { width = width; height = height; «coding_type» = type; «forward_f_code» = forward; «backward_f_code» = backward }
+
 -- given numbers, the bytes of a slice and a buffer, and the outcome: number, bytes written, byte, bit and buffer
 pub record SliceCase : Type 0 where
   pub numbers : HeaderFields
@@ -32,39 +36,39 @@ sliceCase numbers bytes buffer number written byte bit after = record {
 abbrev pub sliceCases : List SliceCase
 sliceCases =
     -- 48 by 9 macroblocks are more than 396
-    sliceCase (givenFields 48 9 1 0 0) (0 ∷ 0 ∷ 1 ∷ 1 ∷ 67 ∷ 148 ∷ 165 ∷ 34 ∷ 32 ∷ []) [] 8 0 0 0 []
+    sliceCase (given 48 9 1 0 0) (0 ∷ 0 ∷ 1 ∷ 1 ∷ 67 ∷ 148 ∷ 165 ∷ 34 ∷ 32 ∷ []) [] 8 0 0 0 []
     -- two bytes of a start code
-    ∷ sliceCase (givenFields 1 1 1 0 0) (0 ∷ 0 ∷ []) [] 25 0 0 0 []
+    ∷ sliceCase (given 1 1 1 0 0) (0 ∷ 0 ∷ []) [] 25 0 0 0 []
     -- a row that is not in the picture
-    ∷ sliceCase (givenFields 1 1 1 0 0) (0 ∷ 0 ∷ 1 ∷ 179 ∷ []) [] 24 0 0 0 []
+    ∷ sliceCase (given 1 1 1 0 0) (0 ∷ 0 ∷ 1 ∷ 179 ∷ []) [] 24 0 0 0 []
     -- nothing after the extra bit
-    ∷ sliceCase (givenFields 1 1 1 0 0) (0 ∷ 0 ∷ 1 ∷ 1 ∷ 8 ∷ []) [] 25 0 4 6 []
+    ∷ sliceCase (given 1 1 1 0 0) (0 ∷ 0 ∷ 1 ∷ 1 ∷ 8 ∷ []) [] 25 0 4 6 []
     -- eight zero bits at a macroblock's start
-    ∷ sliceCase (givenFields 1 1 1 0 0) (0 ∷ 0 ∷ 1 ∷ 1 ∷ 71 ∷ 195 ∷ 224 ∷ 0 ∷ []) [] 24 0 7 0 []
+    ∷ sliceCase (given 1 1 1 0 0) (0 ∷ 0 ∷ 1 ∷ 1 ∷ 71 ∷ 195 ∷ 224 ∷ 0 ∷ []) [] 24 0 7 0 []
     -- an intra macroblock, and four zero bits left
-    ∷ sliceCase (givenFields 1 1 1 0 0) (0 ∷ 0 ∷ 1 ∷ 1 ∷ 67 ∷ 148 ∷ 165 ∷ 34 ∷ 32 ∷ []) (replicate 30 255) 0 30 8 4 (0 ∷ 4 ∷ 3 ∷ 8 ∷ 0 ∷ 0 ∷ 0 ∷ 22 ∷ 4 ∷ 16 ∷ 0 ∷ 1 ∷ 0 ∷ 0 ∷ 0 ∷ 0 ∷ 0 ∷ 0 ∷ 0 ∷ 0 ∷ 0 ∷ 0 ∷ 0 ∷ 0 ∷ 0 ∷ 0 ∷ 0 ∷ 0 ∷ 0 ∷ 0 ∷ [])
+    ∷ sliceCase (given 1 1 1 0 0) (0 ∷ 0 ∷ 1 ∷ 1 ∷ 67 ∷ 148 ∷ 165 ∷ 34 ∷ 32 ∷ []) (replicate 30 255) 0 30 8 4 (0 ∷ 4 ∷ 3 ∷ 8 ∷ 0 ∷ 0 ∷ 0 ∷ 22 ∷ 4 ∷ 16 ∷ 0 ∷ 1 ∷ 0 ∷ 0 ∷ 0 ∷ 0 ∷ 0 ∷ 0 ∷ 0 ∷ 0 ∷ 0 ∷ 0 ∷ 0 ∷ 0 ∷ 0 ∷ 0 ∷ 0 ∷ 0 ∷ 0 ∷ 0 ∷ [])
     -- a second macroblock is begun: the buffer is untouched
-    ∷ sliceCase (givenFields 1 1 1 0 0) (0 ∷ 0 ∷ 1 ∷ 1 ∷ 67 ∷ 148 ∷ 165 ∷ 34 ∷ 33 ∷ []) (replicate 60 255) 25 0 8 4 (replicate 60 255)
+    ∷ sliceCase (given 1 1 1 0 0) (0 ∷ 0 ∷ 1 ∷ 1 ∷ 67 ∷ 148 ∷ 165 ∷ 34 ∷ 33 ∷ []) (replicate 60 255) 25 0 8 4 (replicate 60 255)
     -- seven zero bits after stuffing
-    ∷ sliceCase (givenFields 1 1 1 0 0) (0 ∷ 0 ∷ 1 ∷ 1 ∷ 71 ∷ 195 ∷ 224 ∷ 229 ∷ 41 ∷ 72 ∷ 136 ∷ 7 ∷ 128 ∷ []) [] 25 0 12 1 []
+    ∷ sliceCase (given 1 1 1 0 0) (0 ∷ 0 ∷ 1 ∷ 1 ∷ 71 ∷ 195 ∷ 224 ∷ 229 ∷ 41 ∷ 72 ∷ 136 ∷ 7 ∷ 128 ∷ []) [] 25 0 12 1 []
     -- stuffing, and then an escape
-    ∷ sliceCase (givenFields 22 18 1 0 0) (0 ∷ 0 ∷ 1 ∷ 1 ∷ 64 ∷ 7 ∷ 128 ∷ 142 ∷ 82 ∷ 148 ∷ 136 ∷ 128 ∷ []) (replicate 30 255) 0 30 11 2 (0 ∷ 4 ∷ 3 ∷ 8 ∷ 0 ∷ 33 ∷ 0 ∷ 22 ∷ 4 ∷ 16 ∷ 0 ∷ 1 ∷ 0 ∷ 0 ∷ 0 ∷ 0 ∷ 0 ∷ 0 ∷ 0 ∷ 0 ∷ 0 ∷ 0 ∷ 0 ∷ 0 ∷ 0 ∷ 0 ∷ 0 ∷ 0 ∷ 0 ∷ 0 ∷ [])
+    ∷ sliceCase (given 22 18 1 0 0) (0 ∷ 0 ∷ 1 ∷ 1 ∷ 64 ∷ 7 ∷ 128 ∷ 142 ∷ 82 ∷ 148 ∷ 136 ∷ 128 ∷ []) (replicate 30 255) 0 30 11 2 (0 ∷ 4 ∷ 3 ∷ 8 ∷ 0 ∷ 33 ∷ 0 ∷ 22 ∷ 4 ∷ 16 ∷ 0 ∷ 1 ∷ 0 ∷ 0 ∷ 0 ∷ 0 ∷ 0 ∷ 0 ∷ 0 ∷ 0 ∷ 0 ∷ 0 ∷ 0 ∷ 0 ∷ 0 ∷ 0 ∷ 0 ∷ 0 ∷ 0 ∷ 0 ∷ [])
     -- the 13th escape
-    ∷ sliceCase (givenFields 22 18 1 0 0) (0 ∷ 0 ∷ 1 ∷ 1 ∷ 64 ∷ 4 ∷ 0 ∷ 128 ∷ 16 ∷ 2 ∷ 0 ∷ 64 ∷ 8 ∷ 1 ∷ 0 ∷ 32 ∷ 4 ∷ 0 ∷ 128 ∷ 16 ∷ 2 ∷ 0 ∷ 71 ∷ 41 ∷ 74 ∷ 68 ∷ 64 ∷ []) [] 24 0 21 2 []
+    ∷ sliceCase (given 22 18 1 0 0) (0 ∷ 0 ∷ 1 ∷ 1 ∷ 64 ∷ 4 ∷ 0 ∷ 128 ∷ 16 ∷ 2 ∷ 0 ∷ 64 ∷ 8 ∷ 1 ∷ 0 ∷ 32 ∷ 4 ∷ 0 ∷ 128 ∷ 16 ∷ 2 ∷ 0 ∷ 71 ∷ 41 ∷ 74 ∷ 68 ∷ 64 ∷ []) [] 24 0 21 2 []
     -- residuals of six bits
-    ∷ sliceCase (givenFields 22 18 2 7 0) (0 ∷ 0 ∷ 1 ∷ 1 ∷ 66 ∷ 87 ∷ 236 ∷ 16 ∷ []) (replicate 16 255) 0 16 7 4 (0 ∷ 4 ∷ 3 ∷ 8 ∷ 0 ∷ 0 ∷ 0 ∷ 8 ∷ 4 ∷ 2 ∷ 0 ∷ 1 ∷ 1 ∷ 63 ∷ 255 ∷ 1 ∷ [])
+    ∷ sliceCase (given 22 18 2 7 0) (0 ∷ 0 ∷ 1 ∷ 1 ∷ 66 ∷ 87 ∷ 236 ∷ 16 ∷ []) (replicate 16 255) 0 16 7 4 (0 ∷ 4 ∷ 3 ∷ 8 ∷ 0 ∷ 0 ∷ 0 ∷ 8 ∷ 4 ∷ 2 ∷ 0 ∷ 1 ∷ 1 ∷ 63 ∷ 255 ∷ 1 ∷ [])
     -- a level of -255
-    ∷ sliceCase (givenFields 22 18 2 1 0) (0 ∷ 0 ∷ 1 ∷ 1 ∷ 66 ∷ 172 ∷ 16 ∷ 32 ∷ 0 ∷ 96 ∷ []) (replicate 17 255) 0 17 9 4 (0 ∷ 4 ∷ 3 ∷ 8 ∷ 0 ∷ 0 ∷ 0 ∷ 9 ∷ 4 ∷ 8 ∷ 0 ∷ 1 ∷ 1 ∷ 1 ∷ 0 ∷ 255 ∷ 1 ∷ [])
+    ∷ sliceCase (given 22 18 2 1 0) (0 ∷ 0 ∷ 1 ∷ 1 ∷ 66 ∷ 172 ∷ 16 ∷ 32 ∷ 0 ∷ 96 ∷ []) (replicate 17 255) 0 17 9 4 (0 ∷ 4 ∷ 3 ∷ 8 ∷ 0 ∷ 0 ∷ 0 ∷ 9 ∷ 4 ∷ 8 ∷ 0 ∷ 1 ∷ 1 ∷ 1 ∷ 0 ∷ 255 ∷ 1 ∷ [])
     -- a level of 0
-    ∷ sliceCase (givenFields 22 18 2 1 0) (0 ∷ 0 ∷ 1 ∷ 1 ∷ 66 ∷ 172 ∷ 17 ∷ 64 ∷ 0 ∷ 32 ∷ []) [] 24 0 5 6 []
+    ∷ sliceCase (given 22 18 2 1 0) (0 ∷ 0 ∷ 1 ∷ 1 ∷ 66 ∷ 172 ∷ 17 ∷ 64 ∷ 0 ∷ 32 ∷ []) [] 24 0 5 6 []
     -- a coefficient past position 63
-    ∷ sliceCase (givenFields 22 18 2 1 0) (0 ∷ 0 ∷ 1 ∷ 1 ∷ 66 ∷ 172 ∷ 31 ∷ 192 ∷ 116 ∷ []) [] 24 0 8 2 []
+    ∷ sliceCase (given 22 18 2 1 0) (0 ∷ 0 ∷ 1 ∷ 1 ∷ 66 ∷ 172 ∷ 31 ∷ 192 ∷ 116 ∷ []) [] 24 0 8 2 []
     -- a scale and backward codes in a B picture
-    ∷ sliceCase (givenFields 22 18 3 1 2) (0 ∷ 0 ∷ 1 ∷ 1 ∷ 66 ∷ 17 ∷ 232 ∷ 190 ∷ []) (replicate 22 255) 0 22 8 0 (0 ∷ 4 ∷ 3 ∷ 8 ∷ 0 ∷ 0 ∷ 0 ∷ 14 ∷ 4 ∷ 13 ∷ 0 ∷ 1 ∷ 7 ∷ 0 ∷ 0 ∷ 1 ∷ 0 ∷ 1 ∷ 1 ∷ 0 ∷ 255 ∷ 255 ∷ [])
+    ∷ sliceCase (given 22 18 3 1 2) (0 ∷ 0 ∷ 1 ∷ 1 ∷ 66 ∷ 17 ∷ 232 ∷ 190 ∷ []) (replicate 22 255) 0 22 8 0 (0 ∷ 4 ∷ 3 ∷ 8 ∷ 0 ∷ 0 ∷ 0 ∷ 14 ∷ 4 ∷ 13 ∷ 0 ∷ 1 ∷ 7 ∷ 0 ∷ 0 ∷ 1 ∷ 0 ∷ 1 ∷ 1 ∷ 0 ∷ 255 ∷ 255 ∷ [])
     -- no room for the records
-    ∷ sliceCase (givenFields 1 1 1 0 0) (0 ∷ 0 ∷ 1 ∷ 1 ∷ 67 ∷ 148 ∷ 165 ∷ 34 ∷ 32 ∷ []) [] 26 0 0 0 []
+    ∷ sliceCase (given 1 1 1 0 0) (0 ∷ 0 ∷ 1 ∷ 1 ∷ 67 ∷ 148 ∷ 165 ∷ 34 ∷ 32 ∷ []) [] 26 0 0 0 []
     -- 25 comes before 26
-    ∷ sliceCase (givenFields 1 1 1 0 0) (0 ∷ 0 ∷ 1 ∷ 1 ∷ 67 ∷ 148 ∷ 165 ∷ 34 ∷ 33 ∷ []) [] 25 0 8 4 []
+    ∷ sliceCase (given 1 1 1 0 0) (0 ∷ 0 ∷ 1 ∷ 1 ∷ 67 ∷ 148 ∷ 165 ∷ 34 ∷ 33 ∷ []) [] 25 0 8 4 []
     ∷ []
 
 abbrev pub outcomes : List SliceCase → List RawSliceOutcome

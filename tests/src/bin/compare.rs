@@ -5,8 +5,10 @@
 use std::process::ExitCode;
 
 use format3_tests::compare::{
-    changed_fields, coefficients, panel, pictures, require_every_answer, transforms, vectors,
+    changed_fields, coefficients, headers, panel, pictures, require_every_answer, transforms,
+    vectors,
 };
+use format3_tests::compare_room_slices::room_slices;
 use format3_tests::compare_slices::{
     changed_slices, ended_slices, long_slices, require_every_slice_answer, slices, stream_slices,
 };
@@ -48,6 +50,9 @@ fn compare_entries(count: u64, seed: u64) -> Result<(), String> {
     println!("{} coefficients", coefficients(&ENTRIES)?);
     println!("{} vectors", vectors(&ENTRIES)?);
     println!("{} blocks", transforms(&ENTRIES, seed, 20_000)?);
+    let counts = headers(&ENTRIES)?;
+    println!("headers, by answer: {counts:?}");
+    require_every_answer(&counts)?;
     for seed in seed..seed + 4 {
         println!("{} changed fields", changed_fields(&ENTRIES, seed)?);
     }
@@ -64,6 +69,8 @@ fn compare_slices(count: u64, seed: u64) -> Result<(), String> {
     println!("{} changed slices", changed?);
     println!("{} slices of streams", stream_slices(&ENTRIES, seed)?);
     println!("{} long slices", long_slices(&ENTRIES, seed)?);
+    let around = room_slices(&ENTRIES, seed)?.compared;
+    println!("{around} slices around the end of the reader's room");
     let counts = slices(&ENTRIES, seed, count)?;
     println!("{count} slices, by answer: {counts:?}");
     require_every_slice_answer(&counts)

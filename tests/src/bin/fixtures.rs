@@ -15,13 +15,18 @@ fn main() -> ExitCode {
 
 fn run(arguments: &[String]) -> Result<(), String> {
     for fixture in stream_fixtures() {
+        let headers = fixture.check_headers(ENTRIES.read_header)?;
         fixture.check(ENTRIES.reconstruct)?;
         let slices = fixture.check_slices(ENTRIES.read_slice)?;
         fixture.check_stream(&ENTRIES)?;
         println!(
-            "{}: as expected by the library, its stream of {slices} slices too",
+            "{}: as expected by the library, its {headers} headers and its stream of {slices} slices too",
             fixture.name
         );
+    }
+    for fixture in panel_fixtures() {
+        let headers = fixture.check_headers(ENTRIES.read_header)?;
+        println!("{}: {headers} headers as expected", fixture.name);
     }
     let slices = slice_fixtures();
     for slice in &slices {

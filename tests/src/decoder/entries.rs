@@ -1,11 +1,20 @@
 //! The public entries other than `reconstruct`, each with its refusal, and all entries as one table.
 
 use super::coefficients::{intra_ac, non_intra};
-use super::file::record;
+use super::file::{first_header, record};
 use super::refusals::{Answer, Refusal};
 use super::slice::ReadSlice;
 use super::transform::inverse_transform;
 use super::vectors::{code_legal, decoded, f_of, residual_legal};
+
+/// What a file's header says of its picture, with width and height in macroblocks, and the offset of the records after it.
+#[derive(Clone, Copy, Debug, PartialEq, Eq)]
+pub struct FileStart {
+    pub picture_type: u32,
+    pub width: u32,
+    pub height: u32,
+    pub records_start: usize,
+}
 
 /// A record shown by itself: its kind, and where its body is in the file.
 #[derive(Clone, Copy, Debug, PartialEq, Eq)]
@@ -14,6 +23,9 @@ pub struct Shown {
     pub start: usize,
     pub length: usize,
 }
+
+/// Reads the header of a file.
+pub type ReadHeader = fn(&[u8]) -> (u32, FileStart);
 
 /// Makes a picture in the output from a file, a forward and a backward reference.
 pub type Reconstruct = fn(&[u8], &[u8], &[u8], &mut [u8]) -> Answer;
@@ -24,6 +36,7 @@ pub type Transform = fn(&[i16; 64]) -> (u32, [i16; 64]);
 /// The entries of an implementation. A number beside a value is 0 or a refusal's.
 #[derive(Clone, Copy)]
 pub struct Entries {
+    pub read_header: ReadHeader,
     pub reconstruct: Reconstruct,
     pub transform: Transform,
     pub intra_coefficient: fn(i32, i32, i32) -> (u32, i16),
@@ -35,6 +48,7 @@ pub struct Entries {
 
 /// This decoder's entries.
 pub const ENTRIES: Entries = Entries {
+    read_header,
     reconstruct: super::picture::reconstruct,
     transform,
     intra_coefficient: |level, scale, weight| coefficient(intra_ac, level, scale, weight),
@@ -80,6 +94,30 @@ fn vector(f_code: i32, past: i32, code: i32, residual: i32) -> (u32, i32) {
         return refused(0);
     }
     (0, decoded(f, past, code, residual) as i32)
+}
+
+/// A refusal gives zeros.
+fn read_header(file: &[u8]) -> (u32, FileStart) {
+    match first_header(file) {
+        Ok((header, records_start)) => {
+            let start = FileStart {
+                picture_type: header.picture_type.number().into(),
+                width: header.size.width as u32,
+                height: header.size.height as u32,
+                records_start,
+            };
+            (0, start)
+        }
+        Err(refusal) => {
+            let zeros = FileStart {
+                picture_type: 0,
+                width: 0,
+                height: 0,
+                records_start: 0,
+            };
+            (refusal.number(), zeros)
+        }
+    }
 }
 
 /// "A record can be shown by itself, from an offset." "A refusal shows kind 0 and an empty part."

@@ -118,6 +118,16 @@ pub fn header(body: &[u8]) -> Result<Header, Refusal> {
     })
 }
 
+/// The header at the start of a file, and the offset of the records after it. "Order: 1, 2; in each record 3, 4, 5", then the
+/// header's own tests; "5 out of turn: kind 1 is first", "7 file ends with .. the header missing."
+pub fn first_header(file: &[u8]) -> Result<(Header, usize), Refusal> {
+    version(file)?;
+    require(file.len() > 1, Refusal::FileEnds)?;
+    let first = record(file, 1)?;
+    require(first.kind == HEADER, Refusal::OutOfTurn)?;
+    Ok((header(first.body)?, first.end))
+}
+
 /// "An f_code is 1..7 where the type uses that direction; where it doesn't, flag and f_code are 0."
 fn direction(used: bool, flag: u8, f_code: u8) -> Result<Direction, Refusal> {
     let legal = if used {

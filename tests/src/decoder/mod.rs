@@ -15,7 +15,7 @@ pub mod slice;
 pub mod transform;
 pub mod vectors;
 
-pub use entries::{Entries, Reconstruct, Transform, ENTRIES};
+pub use entries::{Entries, FileStart, ReadHeader, Reconstruct, Transform, ENTRIES};
 pub use picture::reconstruct;
 pub use refusals::Answer;
 pub use slice::{Given, ReadSlice, SliceAnswer};

@@ -101,14 +101,10 @@ impl References {
     }
 }
 
-/// The header of a file, if its first record is a legal one.
+/// The header of a file, if it starts with a legal one.
 pub fn header_of(file: &[u8]) -> Option<Header> {
-    file::version(file).ok()?;
-    let first = file::record(file, 1).ok()?;
-    if first.kind != file::HEADER {
-        return None;
-    }
-    file::header(first.body).ok()
+    let (header, _) = file::first_header(file).ok()?;
+    Some(header)
 }
 
 /// "A line: picture number from 1, letter (`?` if there is no kind 1 header or it was refused by 8 or sooner), answer, place,

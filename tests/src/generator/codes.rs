@@ -55,22 +55,48 @@ impl SliceStyle {
 
 /// The codes of a slice in a picture with this header.
 pub fn slice(random: &mut Random, header: &Header, style: SliceStyle) -> Vec<Code> {
+    let mut codes = slice_head(random, header, style);
+    for _ in 0..style.macroblocks {
+        codes.extend(macroblock(random, header, style));
+    }
+    codes
+}
+
+/// The codes of a slice before its first macroblock.
+pub fn slice_head(random: &mut Random, header: &Header, style: SliceStyle) -> Vec<Code> {
+    written(random, header, style, |writer| writer.start())
+}
+
+/// The codes of a macroblock.
+pub fn macroblock(random: &mut Random, header: &Header, style: SliceStyle) -> Vec<Code> {
+    written(random, header, style, |writer| writer.macroblock())
+}
+
+/// The codes that a method of the writer writes.
+fn written(
+    random: &mut Random,
+    header: &Header,
+    style: SliceStyle,
+    write: fn(&mut Writer),
+) -> Vec<Code> {
     let mut writer = Writer {
         random,
         header,
         style,
         codes: Vec::new(),
     };
-    writer.start();
-    for _ in 0..style.macroblocks {
-        writer.macroblock();
-    }
+    write(&mut writer);
     writer.codes
 }
 
 /// The bytes of codes; the last byte is padded with zeros.
 pub fn bytes_of(codes: &[Code]) -> Vec<u8> {
-    bytes_of_text(&codes.iter().map(|code| &code.1[..]).collect::<String>())
+    bytes_of_text(&text_of(codes))
+}
+
+/// The bits of codes.
+pub fn text_of(codes: &[Code]) -> String {
+    codes.iter().map(|code| &code.1[..]).collect()
 }
 
 /// The bytes of a text of `0` and `1`; the last byte is padded with zeros.

@@ -6,6 +6,7 @@ mod damage;
 mod file;
 mod picture;
 mod reels;
+mod room_slices;
 mod slice_damage;
 mod slice_edges;
 mod slices;
@@ -13,6 +14,9 @@ mod slices;
 pub use cases::{case, small_cases, Case};
 pub use file::File;
 pub use reels::{reel, Reel};
+pub use room_slices::{
+    reach, record_ends, room_slices, RoomCase, RoomSlice, RoomTrial, ROOM, TRIALS,
+};
 pub use slice_damage::damaged_bytes;
 pub use slice_edges::edge_slices;
 pub use slices::{long_slice_cases, slice_case, small_slice_cases, SliceCase};
@@ -21,7 +25,7 @@ use crate::decoder::file::PictureType;
 use crate::decoder::size::Size;
 use crate::random::Random;
 
-const TYPES: [PictureType; 3] = [PictureType::I, PictureType::P, PictureType::B];
+pub const TYPES: [PictureType; 3] = [PictureType::I, PictureType::P, PictureType::B];
 
 /// A size of at most 40 macroblocks.
 fn small_size(random: &mut Random) -> Size {

@@ -1,6 +1,6 @@
 //! Damages slices: bits that are no code, codes that go too far, and bits flipped, cut, lost or added.
 
-use super::codes::{bytes_of, bytes_of_text, escape, word_of, Code, Place};
+use super::codes::{bytes_of, bytes_of_text, escape, text_of, word_of, Code, Place};
 use crate::decoder::annex_b::Increment;
 use crate::decoder::file::Header;
 use crate::random::Random;
@@ -118,7 +118,7 @@ fn flipped(random: &mut Random, mut bytes: Vec<u8>) -> Vec<u8> {
 /// Ends the slice at any bit, at a code's start, or at any byte. An incomplete byte is padded with zeros or ones; or extra
 /// information, nine bits at a time, is inserted until the slice ends with a byte.
 fn cut(random: &mut Random, codes: &[Code]) -> Vec<u8> {
-    let text: String = codes.iter().map(|code| &code.1[..]).collect();
+    let text = text_of(codes);
     let before = random.below(codes.len());
     let at_code = codes[..before].iter().map(|code| code.1.len()).sum();
     let anywhere = random.below(text.len() + 1);
@@ -133,7 +133,7 @@ fn cut(random: &mut Random, codes: &[Code]) -> Vec<u8> {
 }
 
 /// The start code and the scale.
-const HEADER_BITS: usize = 32 + 5;
+pub(super) const HEADER_BITS: usize = 32 + 5;
 
 /// Appends bytes: zeros, zeros and something else, a start code, or any.
 fn lengthened(random: &mut Random, mut bytes: Vec<u8>) -> Vec<u8> {

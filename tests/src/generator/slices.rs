@@ -88,7 +88,7 @@ fn written(random: &mut Random, header: Header, style: SliceStyle) -> SliceCase 
 }
 
 /// The numbers that a header gives.
-fn given(header: &Header) -> Given {
+pub(super) fn given(header: &Header) -> Given {
     Given {
         width: header.size.width as u32,
         height: header.size.height as u32,

@@ -1,15 +1,16 @@
 -- How the first reading of a slice decides the answer, and which header numbers are legal. Assumes nothing.
 use mathlib.Core.Bool.{true, false}
 use mathlib.Core.List.{List, _++_}
-use mathlib.Core.Path.{_≡_, ap, _∙_}
-use Prim.Native.Nat.{ℕ, _*_, _<_, _≤_}
+use mathlib.Core.Path.{_≡_, sym, ap, subst, _∙_}
+use Prim.Native.Nat.{ℕ, _+_, _*_, _<_, _≤_}
 use native.Mathlib.Omega.{arith}
 use lib.Dec.{leb}
-use lib.ListN.{length, drop}
-use lib.Seq.{take-append-seam}
+use lib.ListN.{length, take, drop, length-append}
+use lib.Seq.{length-take-le}
 use borrow.Author.Tests.{leb-true, le-leb, lt-leb}
 use Rattle.refusals.specs.declared.Refusal.{Refusal}
 use Rattle.refusals.specs.declared.Refusal.the-variants as Refusal
+use Rattle.math.specs.Joined.{joined}
 use Rattle.symbols.specs.Guard.{require_else_then_}
 use Rattle.symbols.specs.Parsed.{parsed, refused}
 use Rattle.symbols.specs.Size.{legalSize}
@@ -21,35 +22,56 @@ use Rattle.symbols.specs.Slice.{Slice}
 use Rattle.symbols.proofs.Guard.{both}
 use Rattle.symbols.proofs.Parsed.{all-at}
 use Rattle.symbols.proofs.Laws.Header.{made-within}
-use Rattle.format3_writer.specs.Written.{maxOffset, saturatingAdd}
-use Rattle.format3_writer.proofs.Laws.Written.{written-length, written-whole}
-use Rattle.format3_writer.specs.Records.{sliceBytes}
+use Rattle.format3_writer.specs.Written.{written, maxOffset, saturatingAdd}
+use Rattle.format3_writer.proofs.Laws.Written.{written-append, written-take, written-whole, written-back}
+use Rattle.format3_writer.specs.Records.{macroblockRecord, sliceBytes}
 use Rattle.mpeg1_bits.specs.declared.BitPosition.{BitPosition}
 use Rattle.mpeg1_tables.proofs.Laws.Prefix.{case}
 use Rattle.mpeg1_slice.specs.Read.{Read, stop}
-use Rattle.mpeg1_slice.specs.Slice.{firstBit}
+use Rattle.mpeg1_slice.specs.Slice.{firstBit, macroblocksAt}
 use Rattle.mpeg1_reader.specs.WriteAnswer.{WrittenAt}
-use Rattle.mpeg1_reader.specs.declared.write_answer.WriteAnswer.{WriteAnswer}
-use Rattle.mpeg1_reader.specs.declared.write_answer.WriteAnswer.the-variants.{Done, Refused}
-use Rattle.mpeg1_reader.specs.RecordOffsets.{offsetAnswer, withFront}
+use Rattle.mpeg1_reader.specs.declared.write_answer.Checkpoint.{Checkpoint}
+use Rattle.mpeg1_reader.specs.declared.write_answer.RecordsAnswer.{RecordsAnswer}
+use Rattle.mpeg1_reader.specs.declared.write_answer.RecordsAnswer.the-variants.{Done, Refused}
+use Rattle.mpeg1_reader.specs.RecordOffsets.{ResumesAt, RecordsAnswered, done, stopped}
 use Rattle.mpeg1_reader.specs.Answer.{refusedOutcome, acceptedWith, fitted, readOutcome}
 
--- ---- the result of the first reading: where the slice ends, and how long its records are
-pub record Measured (x : Read Slice) (p : BitPosition) (n : ℕ) : Type 0 where
+-- ---- the result of the first reading: where the slice ends, how long its records are, and a checkpoint
+pub record Measured (h : Header) (bytes : List ℕ) (capacity : ℕ) (x : Read Slice) (p : BitPosition) (n : ℕ) (checkpoint : Checkpoint) : Type 0 where
   pub slice : Slice
   pub is : x ≡ parsed slice p
   pub size : n ≡ saturatingAdd 0 (length (sliceBytes slice))
+  pub resumes : ResumesAt h bytes 0 capacity (sliceBytes slice) p checkpoint
 
-pub measured : (x : Read Slice) {r : WriteAnswer} {p : BitPosition} {n : ℕ} → r ≡ offsetAnswer sliceBytes 0 x → r ≡ Done p n → Measured x p n
-measured (parsed a q) {r} {p} {n} e f =
-    let end : q ≡ p = cc in
-    let size : n ≡ saturatingAdd 0 (length (sliceBytes a)) = cc in
-    record { slice = a; is = ap (λ (y : BitPosition). parsed a y) end; size = size }
-measured (refused (stop refusal q)) e f = let z : _≡_ {A = ℕ} 0 1 = cc in absurd (omega arith)
+module _ {h : Header} {bytes : List ℕ} {capacity : ℕ} where
+  pub measured : (x : Read Slice) {r : RecordsAnswer} {p : BitPosition} {n : ℕ} {checkpoint : Checkpoint} → RecordsAnswered sliceBytes h bytes 0 capacity x r → r ≡ Done p n checkpoint
+      → Measured h bytes capacity x p n checkpoint
+  measured (parsed a q) {r} {p} {n} {checkpoint} (done {checkpoint = c} resumes) f = record {
+    slice = a;
+    is = ap (λ (y : BitPosition). parsed a y) end;
+    size = sym (ap sizeOf f);
+    resumes = subst (λ (y : BitPosition). ResumesAt h bytes 0 capacity (sliceBytes a) y checkpoint) end (subst (ResumesAt h bytes 0 capacity (sliceBytes a) q) (ap checkpointOf f) resumes);
+  }
+    where
+      endOf : RecordsAnswer → BitPosition
+      endOf (Done y size c) = y
+      endOf (Refused refusal y) = y
 
-pub unmeasured : (x : Read Slice) {r : WriteAnswer} {refusal : Refusal} {p : BitPosition} → r ≡ offsetAnswer sliceBytes 0 x → r ≡ Refused refusal p → x ≡ refused (stop refusal p)
-unmeasured (parsed a q) e f = let z : _≡_ {A = ℕ} 0 1 = cc in absurd (omega arith)
-unmeasured (refused (stop refusal q)) e f = cc
+      sizeOf : RecordsAnswer → ℕ
+      sizeOf (Done y size c) = size
+      sizeOf (Refused refusal y) = 0
+
+      checkpointOf : RecordsAnswer → Checkpoint
+      checkpointOf (Done y size c) = c
+      checkpointOf (Refused refusal y) = checkpoint
+
+      end : q ≡ p
+      end = ap endOf f
+  measured (refused (stop refusal q)) stopped f = let z : _≡_ {A = ℕ} 0 1 = cc in absurd (omega arith)
+
+  pub unmeasured : (x : Read Slice) {r : RecordsAnswer} {refusal : Refusal} {p : BitPosition} → RecordsAnswered sliceBytes h bytes 0 capacity x r → r ≡ Refused refusal p → x ≡ refused (stop refusal p)
+  unmeasured (parsed a q) (done resumes) f = let z : _≡_ {A = ℕ} 0 1 = cc in absurd (omega arith)
+  unmeasured (refused (stop refusal q)) stopped f = cc
 
 past : {n k room : ℕ} → n ≡ saturatingAdd 0 k → room < n → room < k
 unfolding saturatingAdd
@@ -63,51 +85,59 @@ whole : {n k room : ℕ} → n ≡ saturatingAdd 0 k → n ≤ room → room < m
 unfolding saturatingAdd
 whole e h r = omega (arith, e)
 
-module _ (x : Read Slice) {p : BitPosition} {n : ℕ} (m : Measured x p n) (buffer : List ℕ) (room : length buffer < maxOffset) where
+pub put-long : (n : ℕ) (full buffer : List ℕ) → n ≤ length full → n ≤ length (take n full ++ drop n buffer)
+put-long n full buffer h = omega (arith, length-append (take n full) (drop n buffer), length-take-le n full h)
+
+-- the front is copied from where all was written, and the rest is written after it
+put-resumed : (front rest first buffer : List ℕ) {at : ℕ} {full between last : List ℕ} → at ≡ 0 + length front → at ≤ length first → at ≤ length buffer → full ≡ written 0 (front ++ rest) first
+    → between ≡ take at full ++ drop at buffer → last ≡ written at rest between → last ≡ written 0 (front ++ rest) buffer
+put-resumed front rest first buffer {at} {full} {between} {last} counted inside fits all put again = again ∙ rw (between-is, counted) (sym (written-append 0 front rest buffer))
+  where
+    size : at ≡ length front
+    size = omega (arith, counted)
+
+    front-of : take (length front) full ≡ front
+    front-of =
+        ap (take (length front)) (all ∙ written-append 0 front rest first)
+        ∙ written-take (length front) (0 + length front) rest (written 0 front first) (omega arith)
+        ∙ written-back front first (omega (arith, size))
+
+    between-is : between ≡ written 0 front buffer
+    between-is = put ∙ rw (size, front-of) (sym (written-whole front buffer (omega (arith, size))))
+
+module _ {h : Header} {bytes : List ℕ} {capacity : ℕ} (x : Read Slice) {p : BitPosition} {n : ℕ} {checkpoint : Checkpoint} (m : Measured h bytes capacity x p n checkpoint) (buffer : List ℕ) (room : length buffer < maxOffset) where
   pub too-long : length buffer < n → readOutcome x buffer ≡ refusedOutcome Refusal.RecordsLength firstBit buffer
   unfolding fitted require_else_then_
-  too-long h = rw (m .is, lt-leb (length (sliceBytes (m .slice))) (length buffer) longer)
+  too-long k = rw (m .is, lt-leb (length (sliceBytes (m .slice))) (length buffer) longer)
     where
       longer : length buffer < length (sliceBytes (m .slice))
-      longer = past (m .size) h
+      longer = past (m .size) k
 
   short-enough : n ≤ length buffer → length (sliceBytes (m .slice)) ≤ length buffer
-  short-enough h = not-past (m .size) h room
+  short-enough k = not-past (m .size) k room
 
   pub whole-size : n ≤ length buffer → n ≡ length (sliceBytes (m .slice))
-  whole-size h = whole (m .size) h room
+  whole-size k = whole (m .size) k room
 
   pub it-fits : n ≤ length buffer → readOutcome x buffer ≡ acceptedWith (sliceBytes (m .slice)) p buffer
   unfolding fitted require_else_then_
-  it-fits h = rw (m .is, le-leb (length (sliceBytes (m .slice))) (length buffer) (short-enough h))
+  it-fits k = rw (m .is, le-leb (length (sliceBytes (m .slice))) (length buffer) (short-enough k))
 
-  pub written-there : {after : List ℕ} → n ≤ length buffer → WrittenAt sliceBytes 0 buffer after x → after ≡ sliceBytes (m .slice) ++ drop (length (sliceBytes (m .slice))) buffer
-  written-there h l = all-at l (m .is) ∙ written-whole (sliceBytes (m .slice)) buffer (short-enough h)
+  pub checkpoint-fits : n ≤ length buffer → checkpoint .offset ≤ length buffer
+  checkpoint-fits k =
+      let c = m .resumes in
+      omega (arith, short-enough k, ap length (c .same), length-append (c .front) (joined macroblockRecord (c .rest)), c .counted)
 
--- records that fit the scratch array are its first bytes
-pub front-there : (x : Read Slice) {p : BitPosition} {n : ℕ} (m : Measured x p n) (before : List ℕ) {after : List ℕ} → length before < maxOffset → WrittenAt sliceBytes 0 before after x
-    → leb n (length after) ≡ true → (buffer : List ℕ) → withFront n after buffer ≡ sliceBytes (m .slice) ++ drop (length (sliceBytes (m .slice))) buffer
-unfolding withFront
-front-there x {p} {n} m before {after} room l t buffer = rw t (rw (size, there) (ap (λ (b : List ℕ). b ++ drop (length records) buffer) (take-append-seam records (drop (length records) before))))
-  where
-    records : List ℕ
-    records = sliceBytes (m .slice)
-
-    same : length after ≡ length before
-    same = ap length (all-at l (m .is)) ∙ written-length 0 records before
-
-    fits : n ≤ length before
-    fits = omega (arith, leb-true n (length after) t, same)
-
-    size : n ≡ length records
-    size = whole-size x m before room fits
-
-    there : after ≡ records ++ drop (length records) before
-    there = written-there x m before room fits l
-
-pub front-absent : (n : ℕ) (list buffer : List ℕ) → leb n (length list) ≡ false → withFront n list buffer ≡ buffer
-unfolding withFront
-front-absent n list buffer t = rw t
+  -- what the room has up to the checkpoint, and then the rest written after it, are the slice's records
+  pub resumed-there : (first : List ℕ) {full between last : List ℕ} → capacity ≡ length first → n ≤ length buffer → WrittenAt sliceBytes 0 first full x → between ≡ take (checkpoint .offset) full ++ drop (checkpoint .offset) buffer
+      → WrittenAt (joined macroblockRecord) (checkpoint .offset) between last (macroblocksAt h bytes (checkpoint .at)) → last ≡ sliceBytes (m .slice) ++ drop (length (sliceBytes (m .slice))) buffer
+  resumed-there first same-room k read put again =
+      let c = m .resumes in
+      let records = sliceBytes (m .slice) in
+      put-resumed (c .front) (joined macroblockRecord (c .rest)) first buffer (c .counted) (omega (arith, c .whole, same-room)) (checkpoint-fits k) (all-at read (m .is) ∙ ap (λ (l : List ℕ). written 0 l first) (c .same)) put
+      (all-at again (c .read))
+      ∙ ap (λ (l : List ℕ). written 0 l buffer) (sym (c .same))
+      ∙ written-whole records buffer (short-enough k)
 
 -- ---- the numbers of a legal header
 pub record Small (f : HeaderFields) : Type 0 where

@@ -22,7 +22,7 @@ use Rattle.mpeg1_slice.specs.Blocks.{givenBlockAt, blocksFrom}
 use Rattle.mpeg1_reader.specs.WriteAnswer.{writeAnswer, WrittenAt}
 use Rattle.mpeg1_reader.specs.declared.write_answer.WriteAnswer.{WriteAnswer}
 use Rattle.mpeg1_reader.proofs.Laws.Writing.{Part}
-use Rattle.mpeg1_reader.proofs.Laws.Few.{given-few}
+use Rattle.mpeg1_reader.proofs.Laws.Few.{given-short}
 
 -- replaces the test whether the macroblock is intra by an equal one
 pub blocks-as : (bytes : List ℕ) (at : BitPosition) (a b : Bool) (pattern offset : ℕ) (before : List ℕ) {r : WriteAnswer} {now : List ℕ} → a ≡ b
@@ -91,7 +91,7 @@ module _ (bytes : List ℕ) (intra : Bool) (pattern : ℕ) (at : BitPosition) wh
         fuel = s .fuel - 1;
         left = omega (arith, s .left);
         counted = rw (bytes-of, length-append (blocksBytes intra (s .blocks)) (blockBytes intra (some .value))) (omega (arith, s .counted, some .size));
-        few = omega (arith, s .few, some .size, block-short intra (some .value) (all-at (given-few (isCoded pattern block) intra block bytes at) (some .is)));
+        few = omega (arith, s .few, some .size, block-short intra (some .value) (all-at (given-short (isCoded pattern block) intra block bytes at) (some .is) .few));
         inside = within;
         there = there-now;
         long = ap length there-now ∙ written-length offset (blocksBytes intra (s .blocks ++ (some .value ∷ []))) before;

@@ -1,6 +1,6 @@
 -- A slice's records: its own, its first macroblock's, and those of the others. Assumes nothing.
-use mathlib.Core.List.{List, _∷_, _++_}
-use mathlib.Core.Path.{_≡_, refl, sym, ap, _∙_}
+use mathlib.Core.List.{List, _∷_, _++_, append-assoc}
+use mathlib.Core.Path.{_≡_, refl, sym, ap, subst, _∙_}
 use Prim.Native.Nat.{ℕ, zero, suc, _+_, _≤_}
 use native.Mathlib.Omega.{arith}
 use lib.Dec.{eqb, leb}
@@ -15,7 +15,7 @@ use Rattle.symbols.proofs.Parsed.{All, here, none, all-then, all-require, all-c
 use Rattle.format3_records.specs.Record.{macroblockKind}
 use Rattle.format3_writer.specs.Written.{written, saturatingAdd}
 use Rattle.format3_writer.specs.Bytes.{bigEndianBytes}
-use Rattle.format3_writer.proofs.Laws.Written.{written-append}
+use Rattle.format3_writer.proofs.Laws.Written.{written-length, written-append}
 use Rattle.format3_writer.specs.Records.{recordHead, recordBytes, sliceBody, sliceRecord, headBytes, macroblockBody, macroblockRecord, sliceRecords, sliceBytes}
 use Rattle.format3_writer.proofs.Laws.Lengths.{record-length, head-short}
 use Rattle.mpeg1_bits.specs.Bits.{bitsFrom}
@@ -28,11 +28,13 @@ use Rattle.mpeg1_slice.specs.Macroblock.{HeadFields, VectorsAndBlocks, headAt, 
 use Rattle.mpeg1_slice.specs.Slice.{macroblocksAt, startAddress, firstBit, sliceHeadAt, afterHeadAt, rawSliceOf}
 use Rattle.mpeg1_slice.proofs.Laws.Read.{word-between}
 use Rattle.mpeg1_reader.specs.WriteAnswer.{WrittenAt, vectorsAndBlocksBytes}
-use Rattle.mpeg1_reader.specs.declared.write_answer.WriteAnswer.{WriteAnswer}
-use Rattle.mpeg1_reader.specs.declared.write_answer.WriteAnswer.the-variants.{Done}
+use Rattle.mpeg1_reader.specs.declared.write_answer.Checkpoint.{Checkpoint}
+use Rattle.mpeg1_reader.specs.declared.write_answer.RecordsAnswer.{RecordsAnswer}
+use Rattle.mpeg1_reader.specs.declared.write_answer.RecordsAnswer.the-variants.{Done}
 use Rattle.mpeg1_reader.proofs.Laws.Few.{rest-short}
 use Rattle.mpeg1_reader.proofs.Laws.Macroblock.{body-of}
-use Rattle.mpeg1_reader.specs.RecordOffsets.{offsetAnswer}
+use Rattle.mpeg1_reader.specs.RecordLengths.{sliceRecordBytes}
+use Rattle.mpeg1_reader.specs.RecordOffsets.{ResumesAt, RecordsAnswered, done, stopped}
 
 -- ---- an increment that is read is 1 to 396
 pub record Legal (v : ℕ) : Type 0 where
@@ -83,7 +85,7 @@ unfolding rawSliceOf
 no-start h bytes e = rw e
 
 -- ---- the bytes of these parts
-slice-size : (scale start : ℕ) → length (sliceRecord scale start) ≡ 6
+pub slice-size : (scale start : ℕ) → length (sliceRecord scale start) ≡ sliceRecordBytes
 unfolding recordBytes recordHead sliceBody bigEndianBytes
 slice-size scale start = refl
 
@@ -95,7 +97,7 @@ module _ (scale start : ℕ) (first : Macroblock) where
   abbrev whole : Read (List Macroblock) → Read Slice
   whole x = bind x λ rest. give (record { scale = scale; start = start; macroblocks = first ∷ rest })
 
-  slice-length : (rest : List Macroblock) → length (sliceRecords scale start (first ∷ rest)) ≡ 6 + (length (macroblockRecord first) + length (joined macroblockRecord rest))
+  pub slice-length : (rest : List Macroblock) → length (sliceRecords scale start (first ∷ rest)) ≡ 6 + (length (macroblockRecord first) + length (joined macroblockRecord rest))
   unfolding sliceRecords joined
   slice-length rest =
       length-append (sliceRecord scale start) (macroblockRecord first ++ joined macroblockRecord rest)
@@ -112,32 +114,41 @@ module _ (scale start : ℕ) (first : Macroblock) where
           written-append 0 (sliceRecord scale start) (macroblockRecord first ++ joined macroblockRecord rest) before
           ∙ rw (slice-size scale start) (written-append 6 (macroblockRecord first) (joined macroblockRecord rest) (written 0 (sliceRecord scale start) before))
 
-  pub slice-together : (x : Read (List Macroblock)) {r : WriteAnswer} {n : ℕ} (before : List ℕ) {one two three : List ℕ} → n ≡ length (macroblockRecord first)
+  -- a checkpoint among the macroblocks is one of the slice
+  slice-resumes : {h : Header} {bytes : List ℕ} {n capacity room : ℕ} (rest : List Macroblock) {p : BitPosition} {checkpoint : Checkpoint} → n ≡ length (macroblockRecord first) → capacity ≡ room
+      → ResumesAt h bytes (6 + n) capacity (joined macroblockRecord rest) p checkpoint → ResumesAt h bytes 0 room (sliceRecords scale start (first ∷ rest)) p checkpoint
+  unfolding sliceRecords joined
+  slice-resumes rest e same-room c = record {
+    front = own ++ (one ++ c .front);
+    rest = c .rest;
+    inside = c .inside;
+    read = c .read;
+    same = ap (λ (l : List ℕ). own ++ (one ++ l)) (c .same) ∙ ap (λ (l : List ℕ). own ++ l) (sym (append-assoc one (c .front) others)) ∙ sym (append-assoc own (one ++ c .front) others);
+    counted = omega (arith, c .counted, e, slice-size scale start, length-append own (one ++ c .front), length-append one (c .front));
+    whole = omega (arith, c .whole, same-room);
+  }
+    where
+      own : List ℕ
+      own = sliceRecord scale start
+
+      one : List ℕ
+      one = macroblockRecord first
+
+      others : List ℕ
+      others = joined macroblockRecord (c .rest)
+
+  pub slice-together : {h : Header} {bytes : List ℕ} (x : Read (List Macroblock)) {r : RecordsAnswer} {n : ℕ} (before : List ℕ) {one two three : List ℕ} → n ≡ length (macroblockRecord first)
       → one ≡ written 0 (sliceRecord scale start) before → two ≡ written 6 (macroblockRecord first) one
-      → (r ≡ offsetAnswer (joined macroblockRecord) (6 + n) x) × WrittenAt (joined macroblockRecord) (6 + n) two three x
-      → (r ≡ offsetAnswer sliceBytes 0 (whole x)) × WrittenAt sliceBytes 0 before three (whole x)
-  slice-together (parsed rest p) {r} {n} before e f g (a, here k) =
-      (a ∙ ap (Done p) (offset-sum 6 n (length (joined macroblockRecord rest)) ∙ ap (saturatingAdd 0) (rw e (sym (slice-length rest)))), here (slice-written rest before e f g k))
-  slice-together (refused (stop refusal p)) before e f g (a, none) = (a, none)
+      → RecordsAnswered (joined macroblockRecord) h bytes (6 + n) (length two) x r × WrittenAt (joined macroblockRecord) (6 + n) two three x
+      → RecordsAnswered sliceBytes h bytes 0 (length before) (whole x) r × WrittenAt sliceBytes 0 before three (whole x)
+  slice-together {h} {bytes} (parsed rest p) {r} {n} before {one} {two} e f g (done {checkpoint = c} resumes, here k) = (
+    subst (λ (size : ℕ). RecordsAnswered sliceBytes h bytes 0 (length before) (whole (parsed rest p)) (Done p size c)) size (done (slice-resumes rest e same-room resumes)),
+    here (slice-written rest before e f g k),
+  )
+    where
+      same-room : length two ≡ length before
+      same-room = ap length g ∙ written-length 6 (macroblockRecord first) one ∙ ap length f ∙ written-length 0 (sliceRecord scale start) before
 
--- ---- a macroblock's record takes few bytes
-pub record ShortRecord (m : Macroblock) : Type 0 where
-  pub short : length (macroblockRecord m) ≤ 1186
-
-pub macroblock-short : (h : Header) (increment : ℕ) (bytes : List ℕ) (at : BitPosition) → All (λ m p. ShortRecord m) (macroblockAt h increment bytes at)
-unfolding macroblockAt
-macroblock-short h increment bytes at =
-    all-then (all-any (headAt (h .«coding_type») bytes at)) λ head p u.
-    all-then (rest-short (head .«macroblock_type») (h .forward .«f_code») (h .backward .«f_code») bytes p) λ rest q k.
-    here (record { short = few head rest (k .short) })
-  where
-    few : (head : HeadFields) (rest : VectorsAndBlocks) → length (vectorsAndBlocksBytes (head .«macroblock_type») rest) ≤ 1179 → length (macroblockRecord (macroblockOfFields increment head rest)) ≤ 1186
-    few head rest k =
-        omega (
-          arith,
-          record-length macroblockKind (macroblockBody (macroblockOfFields increment head rest)),
-          ap length (body-of increment head rest),
-          length-append (headBytes (head .«macroblock_type») increment (head .scale)) (vectorsAndBlocksBytes (head .«macroblock_type») rest),
-          head-short (head .«macroblock_type») increment (head .scale),
-          k,
-        )
+      size : saturatingAdd 0 (length (sliceRecords scale start (first ∷ rest))) ≡ saturatingAdd (6 + n) (length (joined macroblockRecord rest))
+      size = sym (offset-sum 6 n (length (joined macroblockRecord rest)) ∙ ap (saturatingAdd 0) (rw e (sym (slice-length rest))))
+  slice-together (refused (stop refusal p)) before e f g (stopped, none) = (stopped, none)

@@ -17,7 +17,7 @@ use Rattle.mpeg1_bits.proofs.Number.{bits-low}
 use Rattle.mpeg1_tables.specs.declared.code.Code.{Code}
 use Rattle.mpeg1_tables.specs.declared.code.Code.the-variants.{Value, NoCode, Truncated}
 use Rattle.mpeg1_tables.specs.Code.{Word, isPrefix, codeOf}
-use Rattle.mpeg1_tables.specs.Table.{TableRow, packed, entryOf, upTo}
+use Rattle.mpeg1_tables.specs.Table.{TableRow, packed, entryOf}
 use Rattle.mpeg1_tables.proofs.Laws.Prefix.{case}
 
 -- the rest of a word, and its code
@@ -33,7 +33,7 @@ unfoldable pub branches : List Word → List Branch
 branches [] = []
 branches (w ∷ words) = record { bits = w .bits; code = Value (w .value) (length (w .bits)) } ∷ branches words
 
-branches-code : (words : List Word) (b : List ℕ) → codeOf words b ≡ branchOf (branches words) b
+pub branches-code : (words : List Word) (b : List ℕ) → codeOf words b ≡ branchOf (branches words) b
 unfolding codeOf branchOf branches
 branches-code [] b = refl
 branches-code (w ∷ words) b = ap (λ (c : Code). cond (isPrefix (w .bits) b) (Value (w .value) (length (w .bits))) (cond (isPrefix b (w .bits)) Truncated c)) (branches-code words b)
@@ -55,7 +55,7 @@ grown-code x b (y ∷ a) c ts us e =
     (λ f. rw (f, eq-eqb x y (sym (eqb-true y x f)), e) refl)
     (λ f. rw (f, ne-eqb x y (λ g. eqb-false y x f (sym g)), e) refl)
 
-after-code : (x : ℕ) (b : List ℕ) (ts : List Branch) → branchOf ts (x ∷ b) ≡ branchOf (after x ts) b
+pub after-code : (x : ℕ) (b : List ℕ) (ts : List Branch) → branchOf ts (x ∷ b) ≡ branchOf (after x ts) b
 unfolding branchOf after
 after-code x b [] = refl
 after-code x b (t ∷ ts) = grown-code x b (t .bits) (t .code) ts (after x ts) (after-code x b ts)
@@ -65,10 +65,10 @@ unfoldable pub descended : ℕ → List Branch → List Branch
 descended zero ts = ts
 descended (suc z) ts = descended z (after 0 ts)
 
-front-zero : (n v : ℕ) → v < 2 ^ n → v / 2 ^ n % 2 ≡ 0
+pub front-zero : (n v : ℕ) → v < 2 ^ n → v / 2 ^ n % 2 ≡ 0
 front-zero n v h = ap (λ (x : ℕ). x % 2) (div-eq-of-lt h)
 
-descended-code : (z n v : ℕ) (ts : List Branch) → v < 2 ^ n → branchOf ts (bitsOf (z + n) v) ≡ branchOf (descended z ts) (bitsOf n v)
+pub descended-code : (z n v : ℕ) (ts : List Branch) → v < 2 ^ n → branchOf ts (bitsOf (z + n) v) ≡ branchOf (descended z ts) (bitsOf n v)
 unfolding descended bitsOf
 descended-code zero n v ts h = rw zero-add refl
 descended-code (suc z) n v ts h =
@@ -114,15 +114,6 @@ unfolding entryOf splitRow
 row-entries r n =
     tab-ext (2 ^ n) _ _ (λ v h. ap packed (branches-code (r .words) (bitsOf (r .zeros + n) v) ∙ descended-code (r .zeros) n v (branches (r .words)) h))
     ∙ split-entries n (descended (r .zeros) (branches (r .words)))
-
-unfoldable pub splitUpTo : TableRow → ℕ → List ℕ
-splitUpTo r zero = 0 ∷ []
-splitUpTo r (suc n) = splitUpTo r n ++ splitRow r n
-
-pub end-entries : (r : TableRow) (n : ℕ) → upTo n (entryOf r) ≡ splitUpTo r n
-unfolding upTo splitUpTo
-end-entries r zero = refl
-end-entries r (suc n) = ap₂ _++_ (end-entries r n) (row-entries r n)
 
 pub joined-same : (f g : TableRow → List ℕ) (rs : List TableRow) → ((r : TableRow) → f r ≡ g r) → joined f rs ≡ joined g rs
 unfolding joined

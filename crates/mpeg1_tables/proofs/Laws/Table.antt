@@ -1,13 +1,12 @@
--- Which entry is where in the code tables. Assumes nothing.
+-- Which entry is where in the code table. Assumes nothing.
 use mathlib.Core.Path.{_≡_, refl, ap, _∙_}
 use mathlib.Core.Bool.{Bool, true, _&&_}
 use mathlib.Core.List.{List, [], _∷_, _++_}
-use Prim.Native.Nat.{ℕ, zero, suc, _+_, _*_, _-_, _/_, _%_, _^_, _<_, zero-le, suc-le-suc}
-use native.Mathlib.Nat.{two-pow-succ, pow-le-pow-right, zero-add}
-use native.Mathlib.Decide.{ℕ-discrete}
+use Prim.Native.Nat.{ℕ, zero, suc, _+_, _*_, _/_, _%_, _<_}
+use native.Mathlib.Nat.{zero-add}
 use native.Mathlib.Omega.{arith}
 use lib.Dec.{T, ltb, ltb→lt, lt→ltb}
-use lib.ListN.{length, getD, length-append, List·getD-append}
+use lib.ListN.{length, getD, List·getD-append}
 use lib.Seq.{getD-append-add}
 use borrow.Author.Tests.{ne-eqb}
 use Rattle.math.specs.Joined.{joined}
@@ -17,8 +16,8 @@ use Rattle.math.proofs.Test.{and-left, and-right}
 use Rattle.mpeg1_bits.specs.Bits.{bitsOf}
 use Rattle.mpeg1_tables.specs.declared.code.Code.the-variants.{Value, Truncated}
 use Rattle.mpeg1_tables.specs.Code.{Word, word, digitsOf, isPrefix, codeOf}
-use Rattle.mpeg1_tables.specs.AnnexB.{incrementWords, increments, incrementsAfterEscape, intraTypes, predictedTypes, bidirectionalTypes, patterns, motionCodes, luminanceSizes, chrominanceSizes, sharedWords, nextCoefficients, byteWords, largePositive, largeNegative}
-use Rattle.mpeg1_tables.specs.Table.{TableRow, tableRow, tableRows, tableRowAt, packed, unpackedOf, entryOf, upTo, codeTable, endTable}
+use Rattle.mpeg1_tables.specs.AnnexB.{incrementWords, increments, incrementsAfterEscape, intraTypes, predictedTypes, bidirectionalTypes, patterns, motionCodes, luminanceSizes, chrominanceSizes, sharedWords, nextCoefficients}
+use Rattle.mpeg1_tables.specs.Table.{TableRow, tableRow, tableRows, tableRowAt, packed, unpackedOf, entryOf, codeTable}
 use Rattle.mpeg1_tables.proofs.Laws.Prefix.{case, and-both, code-found, code-truncated, code-later, everyWord, every-other, code-tested}
 
 -- an element of the second list in a ++
@@ -31,23 +30,6 @@ unfolding joined
 joined-at f [] d e k i h b = absurd (omega arith)
 joined-at f (r ∷ rs) d e zero i h b = rw zero-add (List·getD-append (f r) (joined f rs) 0 i (omega (arith, e r)))
 joined-at f (r ∷ rs) d e (suc k) i h b = getD-after (f r) (joined f rs) 256 (256 * k + i) (256 * suc k + i) (e r) (omega arith) ∙ joined-at f rs d e k i (omega arith) b
-
--- ---- entries of fewer than eight bits
-up-to-length : (f : ℕ → ℕ → ℕ) (n : ℕ) → length (upTo n f) ≡ 2 ^ n
-unfolding upTo
-up-to-length f zero = refl
-up-to-length f (suc n) = rw (length-append, up-to-length f n, tab-length, two-pow-succ) refl
-
-pub in-row-of : (m n v : ℕ) → n < m → v < 2 ^ n → 2 ^ n + v < 2 ^ m
-in-row-of m n v h b = omega (arith, b, two-pow-succ n, pow-le-pow-right {n = 2} (suc-le-suc zero-le) {i = suc n} {j = m} h)
-
-up-to-at : (f : ℕ → ℕ → ℕ) (m n v : ℕ) → n < m → v < 2 ^ n → getD (upTo m f) (2 ^ n + v) 0 ≡ f n v
-unfolding upTo
-up-to-at f zero n v h b = absurd (omega arith)
-up-to-at f (suc m) n v h b = elim (ℕ-discrete n m) [
-  | yes e ↦ rw e (getD-after (upTo m f) (tab (2 ^ m) (f m)) (2 ^ m) v (2 ^ m + v) (up-to-length f m) refl ∙ tab-at (2 ^ m) (f m) v 0 (rw e at b))
-  | no e ↦ List·getD-append (upTo m f) (tab (2 ^ m) (f m)) 0 (2 ^ n + v) (rw up-to-length (in-row-of m n v (omega arith) b)) ∙ up-to-at f m n v (omega arith) b
-]
 
 -- ---- packing a code into a number, and unpacking it
 -- whether a value and a length can be packed
@@ -97,10 +79,10 @@ abbrev pub sized : ℕ → ℕ → Bool
 sized v n = ltb v 2048 && (ltb 0 n && ltb n 17)
 
 rows-sized : T (everyRow (λ r. everyWord sized (r .words)) tableRows)
-unfolding everyRow everyWord word digitsOf incrementWords increments incrementsAfterEscape intraTypes predictedTypes bidirectionalTypes patterns motionCodes luminanceSizes chrominanceSizes sharedWords nextCoefficients byteWords largePositive largeNegative tab bitsOf
+unfolding everyRow everyWord word digitsOf incrementWords increments incrementsAfterEscape intraTypes predictedTypes bidirectionalTypes patterns motionCodes luminanceSizes chrominanceSizes sharedWords nextCoefficients
 rows-sized = tt
 
-pub row-sized : (r : ℕ) → r < 18 → T (everyWord sized (tableRowAt r .words))
+pub row-sized : (r : ℕ) → r < 16 → T (everyWord sized (tableRowAt r .words))
 row-sized r h = row-test (λ r. everyWord sized (r .words)) tableRows (tableRow 0 []) r rows-sized h
 
 -- what the test says about a value and a length
@@ -118,24 +100,18 @@ pub record Sized (v n : ℕ) : Type 0 where
   pub value : v < 2048
   pub long : n < 17
 
-pub code-sized : (r : ℕ) (b : List ℕ) {v n : ℕ} → r < 18 → codeOf (tableRowAt r .words) b ≡ Value v n → Sized v n
+pub code-sized : (r : ℕ) (b : List ℕ) {v n : ℕ} → r < 16 → codeOf (tableRowAt r .words) b ≡ Value v n → Sized v n
 code-sized r b {v} {n} h e =
     let t = code-tested sized (tableRowAt r .words) b v n (row-sized r h) e in
     record { value = sized-value v n t; long = sized-length v n t }
 
-unpack-entry : (k n v : ℕ) → k < 18 → unpackedOf (entryOf (tableRowAt k) n v) ≡ codeOf (tableRowAt k .words) (bitsOf (tableRowAt k .zeros + n) v)
+unpack-entry : (k n v : ℕ) → k < 16 → unpackedOf (entryOf (tableRowAt k) n v) ≡ codeOf (tableRowAt k .words) (bitsOf (tableRowAt k .zeros + n) v)
 unfolding entryOf
 unpack-entry k n v h = unpack-pack (tableRowAt k .words) (bitsOf (tableRowAt k .zeros + n) v) (every-other sized packable (λ v n t. sized-packable v n t) (tableRowAt k .words) (row-sized k h))
 
 -- ---- what a look-up gives
-pub code-entry : (k i : ℕ) → k < 18 → i < 256 → unpackedOf (getD codeTable (256 * k + i) 0) ≡ codeOf (tableRowAt k .words) (bitsOf (tableRowAt k .zeros + 8) i)
+pub code-entry : (k i : ℕ) → k < 16 → i < 256 → unpackedOf (getD codeTable (256 * k + i) 0) ≡ codeOf (tableRowAt k .words) (bitsOf (tableRowAt k .zeros + 8) i)
 unfolding codeTable
 code-entry k i h b =
     ap unpackedOf (joined-at (λ r. tab 256 (entryOf r 8)) tableRows (tableRow 0 []) (λ r. tab-length 256 (entryOf r 8)) k i h b ∙ tab-at 256 (entryOf (tableRowAt k) 8) i 0 b)
     ∙ unpack-entry k 8 i h
-
-pub end-entry : (k n v : ℕ) → k < 18 → n < 8 → v < 2 ^ n → unpackedOf (getD endTable (256 * k + (2 ^ n + v)) 0) ≡ codeOf (tableRowAt k .words) (bitsOf (tableRowAt k .zeros + n) v)
-unfolding endTable
-end-entry k n v h m b =
-    ap unpackedOf (joined-at (λ r. upTo 8 (entryOf r)) tableRows (tableRow 0 []) (λ r. up-to-length (entryOf r) 8) k (2 ^ n + v) h (in-row-of 8 n v m b) ∙ up-to-at (entryOf (tableRowAt k)) 8 n v m b)
-    ∙ unpack-entry k n v h

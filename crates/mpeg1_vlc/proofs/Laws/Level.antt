@@ -17,11 +17,11 @@ use Rattle.mpeg1_bits.specs.Bits.{bitsOf, bitsIn}
 use Rattle.mpeg1_bits.proofs.Rest.{window-length}
 use Rattle.mpeg1_tables.specs.declared.code.Code.the-variants.{Truncated}
 use Rattle.mpeg1_tables.specs.Code.{Word, word, digitsOf, isPrefix, codeOf}
-use Rattle.mpeg1_tables.specs.AnnexB.{incrementWords, increments, incrementsAfterEscape, intraTypes, predictedTypes, bidirectionalTypes, patterns, motionCodes, luminanceSizes, chrominanceSizes, byteWords, largePositive, largeNegative}
+use Rattle.mpeg1_tables.specs.AnnexB.{incrementWords, increments, incrementsAfterEscape, intraTypes, predictedTypes, bidirectionalTypes, patterns, motionCodes, luminanceSizes, chrominanceSizes}
 use Rattle.mpeg1_tables.specs.Table.{tableRowAt, packed, entryOf}
 use Rattle.mpeg1_tables.proofs.Laws.Prefix.{case, code-stable, code-take, everyWord, noLonger}
 use Rattle.mpeg1_tables.proofs.Laws.Branch.{branchOf, branches, grown, after, descended, split, splitRow, row-entries}
-use Rattle.mpeg1_vlc.specs.Requires.{LookUpFits}
+use Rattle.mpeg1_vlc.specs.Requires.{fewestBits, LookUpFits}
 use Rattle.mpeg1_vlc.specs.LookUp.{isOneOf, shortRows, longRows}
 use Rattle.mpeg1_vlc.proofs.Laws.LookUp.{next-index}
 
@@ -80,26 +80,26 @@ module _ (r zeros : ℕ) (next : Window) (f : LookUpFits r zeros next) where
   ]
 
 -- ---- the two kinds of rows
-data All (P : ℕ → Type 0) : List ℕ → Type 0 where
-  none : All P []
-  more : {k : ℕ} {ks : List ℕ} → P k → All P ks → All P (k ∷ ks)
+pub data All (P : ℕ → Type 0) : List ℕ → Type 0 where
+  none-of : All P []
+  more-of : {k : ℕ} {ks : List ℕ} → P k → All P ks → All P (k ∷ ks)
 
-one-of : {P : ℕ → Type 0} (r : ℕ) {ks : List ℕ} → All P ks → T (isOneOf r ks) → P r
-one-of r none t = absurd t
-one-of {P} r (more {k = k} {ks = ks} p q) t =
+pub one-of : {P : ℕ → Type 0} (r : ℕ) {ks : List ℕ} → All P ks → T (isOneOf r ks) → P r
+one-of r none-of t = absurd t
+one-of {P} r (more-of {k = k} {ks = ks} p q) t =
     case (eqb r k)
     (λ e. subst P (sym (eqb-true r k e)) p)
     (λ e. one-of r q (subst (λ (b : Bool). T (cond b true (isOneOf r ks))) e t))
 
 -- a row whose words all have at most eight bits
 pub record ShortRow (r : ℕ) : Type 0 where
-  pub there : r < 18
+  pub there : r < 16
   pub first : tableRowAt r .zeros ≡ 0
   pub lengths : T (noLonger 8 (tableRowAt r .words))
 
 -- a row with a second row, after five zeros, for its longer words
 pub record LongRow (r : ℕ) : Type 0 where
-  pub there : r + 1 < 18
+  pub there : r + 1 < 16
   pub first : tableRowAt r .zeros ≡ 0
   pub second : tableRowAt (r + 1) .zeros ≡ 5
   pub same : tableRowAt (r + 1) .words ≡ tableRowAt r .words
@@ -107,18 +107,18 @@ pub record LongRow (r : ℕ) : Type 0 where
   pub lengths : T (noLonger 13 (tableRowAt (r + 1) .words))
 
 short-rows : All ShortRow shortRows
-unfolding everyWord word digitsOf intraTypes predictedTypes bidirectionalTypes luminanceSizes chrominanceSizes byteWords largePositive largeNegative tab bitsOf
-short-rows = more (at 4 tt refl tt) (more (at 5 tt refl tt) (more (at 6 tt refl tt) (more (at 11 tt refl tt) (more (at 12 tt refl tt) (more (at 16 tt refl tt) (more (at 17 tt refl tt) none))))))
+unfolding everyWord word digitsOf intraTypes predictedTypes bidirectionalTypes luminanceSizes chrominanceSizes
+short-rows = more-of (at 4 tt refl tt) (more-of (at 5 tt refl tt) (more-of (at 6 tt refl tt) (more-of (at 11 tt refl tt) (more-of (at 12 tt refl tt) none-of))))
   where
-    at : (r : ℕ) → T (ltb r 18) → tableRowAt r .zeros ≡ 0 → T (noLonger 8 (tableRowAt r .words)) → ShortRow r
-    at r t e l = record { there = ltb→lt r 18 t; first = e; lengths = l }
+    at : (r : ℕ) → T (ltb r 16) → tableRowAt r .zeros ≡ 0 → T (noLonger 8 (tableRowAt r .words)) → ShortRow r
+    at r t e l = record { there = ltb→lt r 16 t; first = e; lengths = l }
 
 long-rows : All LongRow longRows
 unfolding settles noneIs splitRow split descended after grown branches branchOf isPrefix packed everyWord word digitsOf incrementWords increments incrementsAfterEscape patterns motionCodes
-long-rows = more (at 0 tt refl refl refl tt tt) (more (at 2 tt refl refl refl tt tt) (more (at 7 tt refl refl refl tt tt) (more (at 9 tt refl refl refl tt tt) none)))
+long-rows = more-of (at 0 tt refl refl refl tt tt) (more-of (at 2 tt refl refl refl tt tt) (more-of (at 7 tt refl refl refl tt tt) (more-of (at 9 tt refl refl refl tt tt) none-of)))
   where
-    at : (r : ℕ) → T (ltb (r + 1) 18) → tableRowAt r .zeros ≡ 0 → tableRowAt (r + 1) .zeros ≡ 5 → tableRowAt (r + 1) .words ≡ tableRowAt r .words → T (settles r 8) → T (noLonger 13 (tableRowAt (r + 1) .words)) → LongRow r
-    at r t e g s d l = record { there = ltb→lt (r + 1) 18 t; first = e; second = g; same = s; settling = d; lengths = l }
+    at : (r : ℕ) → T (ltb (r + 1) 16) → tableRowAt r .zeros ≡ 0 → tableRowAt (r + 1) .zeros ≡ 5 → tableRowAt (r + 1) .words ≡ tableRowAt r .words → T (settles r 8) → T (noLonger 13 (tableRowAt (r + 1) .words)) → LongRow r
+    at r t e g s d l = record { there = ltb→lt (r + 1) 16 t; first = e; second = g; same = s; settling = d; lengths = l }
 
 pub short-row : (r : ℕ) → T (isOneOf r shortRows) → ShortRow r
 short-row r = one-of r short-rows
@@ -127,11 +127,15 @@ pub long-row : (r : ℕ) → T (isOneOf r longRows) → LongRow r
 long-row r = one-of r long-rows
 
 -- ---- look-ups in these rows are allowed, and give the code of all the window's bits
-pub fits-first : (r : ℕ) (next : Window) → r < 18 → tableRowAt r .zeros ≡ 0 → next .bits < 4294967296 → next .count ≤ 32 → LookUpFits r 0 next
+pub fits-first : (r : ℕ) (next : Window) → r < 16 → tableRowAt r .zeros ≡ 0 → next .bits < 4294967296 → next .count ≤ 32 → LookUpFits r 0 next
 fits-first r next h e b m = record { there = h; begins = e; few = omega arith; enough = omega arith; most = m; low = omega arith }
 
-pub fits-after : (r zeros : ℕ) (next : Window) → r < 18 → tableRowAt r .zeros ≡ zeros → zeros ≤ 8 → next .bits / 2 ^ (24 - zeros) < 256 → 8 ≤ next .count → next .count ≤ 32 → LookUpFits r zeros next
-fits-after r zeros next h e z b g m = record { there = h; begins = e; few = z; enough = omega arith; most = m; low = b }
+fewest-there : (zeros n : ℕ) → 8 ≤ n → fewestBits zeros ≤ n
+fewest-there zero n h = omega arith
+fewest-there (suc zeros) n h = h
+
+pub fits-after : (r zeros : ℕ) (next : Window) → r < 16 → tableRowAt r .zeros ≡ zeros → zeros ≤ 8 → next .bits / 2 ^ (24 - zeros) < 256 → 8 ≤ next .count → next .count ≤ 32 → LookUpFits r zeros next
+fits-after r zeros next h e z b g m = record { there = h; begins = e; few = z; enough = fewest-there zeros (next .count) g; most = m; low = b }
 
 pub short-code : (r : ℕ) (next : Window) → ShortRow r → codeOf (tableRowAt r .words) (take 8 (bitsIn next)) ≡ codeOf (tableRowAt r .words) (bitsIn next)
 short-code r next s = code-take (tableRowAt r .words) 8 (bitsIn next) (s .lengths)

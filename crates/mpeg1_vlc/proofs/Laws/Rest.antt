@@ -19,7 +19,7 @@ pub next-count : (b : List ℕ) {next : Window} → next ≡ windowOf b → next
 next-count b e = subst (λ (w : Window). w .count ≤ 32) (sym e) (min-le-left 32 (length b))
 
 -- no word is longer than 32 bits, so the window decides
-pub rest-code : (r : ℕ) → r < 18 → (bytes : List ℕ) (p : BitPosition) (next : Window) → next ≡ windowOf (bitsFrom bytes p) → codeOf (tableRowAt r .words) (bitsIn next) ≡ codeOf (tableRowAt r .words) (bitsFrom bytes p)
+pub rest-code : (r : ℕ) → r < 16 → (bytes : List ℕ) (p : BitPosition) (next : Window) → next ≡ windowOf (bitsFrom bytes p) → codeOf (tableRowAt r .words) (bitsIn next) ≡ codeOf (tableRowAt r .words) (bitsFrom bytes p)
 rest-code r h bytes p next e =
     ap (λ (w : Window). codeOf (tableRowAt r .words) (bitsIn w)) e
     ∙ ap (codeOf (tableRowAt r .words)) (window-bits (rest-binary bytes p))

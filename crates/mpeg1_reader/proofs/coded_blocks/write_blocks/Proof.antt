@@ -12,7 +12,7 @@ use Rattle.mpeg1_slice.specs.Blocks.{givenBlockAt, blocksFrom}
 use Rattle.mpeg1_slice.proofs.Laws.Read.{standing}
 use Rattle.mpeg1_slice.proofs.Laws.Onward.{given-block-onward}
 use Rattle.mpeg1_reader.proofs.Laws.Writing.{Part, part-done, part-refused}
-use Rattle.mpeg1_reader.proofs.Laws.Few.{given-few}
+use Rattle.mpeg1_reader.proofs.Laws.Few.{given-short}
 use Rattle.mpeg1_reader.proofs.Laws.Blocks.{Passed, passed-none, passed-refused, passed-end, passed-more}
 use Rattle.mpeg1_reader.proofs.coded_blocks.write_blocks.Statement.{statement}
 use Rattle.mpeg1_reader.proofs.coded_blocks.write_blocks.Tie as tie
@@ -69,7 +69,7 @@ module _ (c : tie.After-known-told2 Inv-loop μ-loop) where
   some = part-done (blockBytes (start .args .intra)) _ (called .write-coded-block .ensures .0) (c .before .next .given .1)
 
   few : c .before .next .given .0 .1 .0 ≤ 195
-  few = omega (arith, some .size, block-short (start .args .intra) (some .value) (all-at (given-few (isCoded (start .args .pattern) (looped .loop .block)) (start .args .intra) (looped .loop .block) (start .args .bytes .now) (looped .loop .at)) (some .is)))
+  few = omega (arith, some .size, block-short (start .args .intra) (some .value) (all-at (given-short (isCoded (start .args .pattern) (looped .loop .block)) (start .args .intra) (looped .loop .block) (start .args .bytes .now) (looped .loop .at)) (some .is) .few))
 
   inside : InBytes (start .args .bytes .now) (c .before .next .given .0 .0)
   inside = all-at (given-block-onward (start .args .bytes .now) (start .args .intra) (isCoded (start .args .pattern) (looped .loop .block)) (looped .loop .block) (standing (looped .loop .inv .inside))) (some .is) .inside

@@ -20,20 +20,20 @@ returns-4 c = illegal _ λ small. omega (arith, small .forward, c .if4 .taken)
 returns-5 : tie.Need-returns-5
 returns-5 c = illegal _ λ small. omega (arith, small .backward, c .if5 .taken)
 
+cast-t8 : tie.Need-cast-t8
+cast-t8 c = search needs
+
+cast-t9 : tie.Need-cast-t9
+cast-t9 c = search needs
+
+cast-t10 : tie.Need-cast-t10
+cast-t10 c = search needs
+
+cast-t11 : tie.Need-cast-t11
+cast-t11 c = search needs
+
 cast-t12 : tie.Need-cast-t12
 cast-t12 c = search needs
-
-cast-t13 : tie.Need-cast-t13
-cast-t13 c = search needs
-
-cast-t14 : tie.Need-cast-t14
-cast-t14 c = search needs
-
-cast-t15 : tie.Need-cast-t15
-cast-t15 c = search needs
-
-cast-t16 : tie.Need-cast-t16
-cast-t16 c = search needs
 
 header-with-requires : tie.Need-header-with-requires
 header-with-requires c κs = search needs
@@ -50,10 +50,10 @@ header-given-spec =
     returns-3
     returns-4
     returns-5
+    cast-t8
+    cast-t9
+    cast-t10
+    cast-t11
     cast-t12
-    cast-t13
-    cast-t14
-    cast-t15
-    cast-t16
     header-with-requires
     returns-6)

@@ -25,14 +25,11 @@ module _ (c : tie.After-known-told2) where
   abbrev start : tie.Start
   start = c .before .before .before .before .before .before
 
-  legal : headerWith (givenFields (start .args .width) (start .args .height) (start .args .coding-type) (start .args .forward-f-code) (start .args .backward-f-code)) ≡ Header.Legal (c .before .header .given .0 .0)
+  legal : headerWith (givenFields (start .args .given)) ≡ Header.Legal (c .before .header .given .0 .0)
   legal = sym (c .before .before .before .header-given .ensures) ∙ c .before .header .given .1
 
-slice-aggregate-read-into : tie.Need-slice-aggregate-read-into
-slice-aggregate-read-into c = search needs
-
-read-into-requires : tie.Need-read-into-requires
-read-into-requires c κs = let t = c .before .before in (made-within _ .within _ (legal t), legal-height _ (legal t))
+read-with-room-requires : tie.Need-read-with-room-requires
+read-with-room-requires c κs = let t = c .before in (made-within _ .within _ (legal t), legal-height _ (legal t))
 
 returns : tie.Need-returns
 unfolding rawSliceOutcome
@@ -45,7 +42,7 @@ same-length c = search needs
 
 returns-2 : tie.Need-returns-2
 unfolding rawSliceOutcome
-returns-2 c = let l = c .before .before .before in rw (legal (l .before .before .before)) (l .read-into .ensures)
+returns-2 c = let l = c .before .before in rw (legal (l .before .before)) (l .read-with-room .ensures)
 
 pub read-slice-spec : {M : Type 1} → statement M
 read-slice-spec =
@@ -55,8 +52,7 @@ read-slice-spec =
     enum-known-refusal
     refused-requires
     enum-known-header
-    slice-aggregate-read-into
-    read-into-requires
+    read-with-room-requires
     returns
     same-length
     returns-2)

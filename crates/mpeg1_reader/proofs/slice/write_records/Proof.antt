@@ -1,19 +1,23 @@
 -- `write_records` meets its contract: it writes the slice's record, its first macroblock's, then the others. Assumes nothing.
-use mathlib.Core.Path.{_≡_, refl}
+use mathlib.Core.Path.{_≡_, ap, _∙_}
 use Prim.Native.Nat.{_≤_}
 use native.Mathlib.Omega.{arith}
 use borrow.Author.Needs.{needs}
+use lib.ListN.{length}
 use Rattle.symbols.specs.Parsed.{parsed}
 use Rattle.symbols.proofs.Parsed.{all-at, all-none}
 use Rattle.format3_writer.specs.Records.{macroblockRecord}
+use Rattle.format3_writer.proofs.Laws.Written.{written-length}
 use Rattle.mpeg1_bits.specs.Requires.{InBytes}
 use Rattle.mpeg1_slice.specs.Increment.{incrementAt}
 use Rattle.mpeg1_slice.specs.Macroblock.{macroblockAt}
 use Rattle.mpeg1_slice.specs.Slice.{startAddress, macroblocksAt}
 use Rattle.mpeg1_slice.proofs.Laws.Read.{step-read, step-refused, standing}
 use Rattle.mpeg1_slice.proofs.Laws.Onward.{increment-ahead, macroblock-onward}
+use Rattle.mpeg1_reader.specs.RecordOffsets.{stopped}
 use Rattle.mpeg1_reader.proofs.Laws.Writing.{Part, part-done, part-refused}
-use Rattle.mpeg1_reader.proofs.Laws.Slice.{Legal, increment-legal, no-increment, no-first, first-read, slice-together, macroblock-short}
+use Rattle.mpeg1_reader.proofs.Laws.Slice.{Legal, increment-legal, no-increment, no-first, first-read, slice-together}
+use Rattle.mpeg1_reader.proofs.Laws.Bounds.{macroblock-short}
 use Rattle.mpeg1_reader.proofs.slice.write_records.Statement.{statement}
 use Rattle.mpeg1_reader.proofs.slice.write_records.Tie as tie
 
@@ -69,20 +73,21 @@ module _ (c : tie.After-known-told4) where
   first : Part macroblockRecord (macroblockAt (start told .args .header) 1 (start told .args .bytes .now) (told .before .increment .given .0 .1 .0)) (c .before .after .given .0 .0) (c .before .after .given .0 .1 .0)
   first = part-done macroblockRecord _ (called .write-macroblock-record .ensures .0) (c .before .after .given .1)
 
-  few : c .before .after .given .0 .1 .0 ≤ 1186
+  few : c .before .after .given .0 .1 .0 ≤ 1174
   few = let s = start told in omega (arith, first .size, all-at (macroblock-short (s .args .header) 1 (s .args .bytes .now) (told .before .increment .given .0 .1 .0)) (first .is) .short)
 
   behind : InBytes (start told .args .bytes .now) (c .before .after .given .0 .0)
   behind = all-at (macroblock-onward (start told .args .bytes .now) (start told .args .header) 1 (standing (inside told))) (first .is) .inside
 
-add-write-macroblock-records : tie.Need-add-write-macroblock-records
-add-write-macroblock-records c = omega (arith, few (c .before))
+add-end : tie.Need-add-end
+add-end c = omega (arith, few c)
 
 write-macroblock-records-requires : tie.Need-write-macroblock-records-requires
 write-macroblock-records-requires c κs =
     let k = c .before in
     let s = start (told k) in
-    (s .pre .0, behind k, s .pre .2, omega (arith, few k))
+    let kept = ap length (all-at (called k .write-macroblock-record .ensures .1) (first k .is)) ∙ written-length 6 _ _ ∙ ap length (slice k .write-slice-record .ensures) ∙ written-length 0 _ _ in
+    (s .pre .0, behind k, s .pre .2, omega (arith, few k, s .pre .5, kept))
 
 returns : tie.Need-returns
 returns c =
@@ -92,7 +97,7 @@ returns c =
     no-increment (s .args .header) (s .args .row) (s .args .scale) (s .args .bytes .now) (s .args .at)
     (step-refused (incrementAt (s .args .bytes .now) (s .args .at)) (r .read-address-increment .ensures) (c .before .refusal .given .1))
     in
-    (rw e refl, all-none e)
+    (rw e stopped, all-none e)
 
 same-length : tie.Need-same-length
 same-length c = search needs
@@ -106,7 +111,7 @@ returns-2 c =
     no-first (s .args .header) (s .args .row) (s .args .scale) (s .args .bytes .now) (s .args .at) (increment t)
     (part-refused macroblockRecord (macroblockAt (s .args .header) 1 (s .args .bytes .now) (t .before .increment .given .0 .1 .0)) (l .write-macroblock-record .ensures .0) (c .before .refusal2 .given .1))
     in
-    (rw e refl, all-none e)
+    (rw e stopped, all-none e)
 
 same-length-2 : tie.Need-same-length-2
 same-length-2 c = search needs
@@ -120,7 +125,7 @@ returns-3 c =
     let address = startAddress (s .args .header) (s .args .row) (t .before .increment .given .0 .0) in
     let rest = macroblocksAt (s .args .header) (s .args .bytes .now) (k .before .after .given .0 .0) in
     rw (first-read (s .args .header) (s .args .row) (s .args .scale) (s .args .bytes .now) (s .args .at) (increment t) (first k .is))
-    (slice-together (s .args .scale) address (first k .value) rest (s .args .buffer .now) (first k .size)
+    (slice-together (s .args .scale) address (first k .value) rest (s .args .room .now) (first k .size)
     (rw (← slice k .before .before .start-address .ensures) (slice k .write-slice-record .ensures)) (all-at (called k .write-macroblock-record .ensures .1) (first k .is))
     (l .write-macroblock-records .ensures))
 
@@ -136,7 +141,7 @@ write-records-spec =
     write-macroblock-record-requires
     enum-known-refusal-2
     enum-known-after
-    add-write-macroblock-records
+    add-end
     write-macroblock-records-requires
     returns
     same-length

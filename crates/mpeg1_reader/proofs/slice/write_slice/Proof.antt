@@ -1,10 +1,11 @@
 -- `write_slice` meets its contract: it reads the head, then writes the records of what follows. Assumes nothing.
-use mathlib.Core.Path.{_≡_, refl}
+use mathlib.Core.Path.{_≡_}
 use native.Mathlib.Omega.{arith}
 use borrow.Author.Needs.{needs}
 use Rattle.symbols.specs.Parsed.{parsed}
 use Rattle.symbols.proofs.Parsed.{all-at, all-none}
 use Rattle.mpeg1_slice.specs.Slice.{firstBit, sliceHeadAt, rawSliceOf}
+use Rattle.mpeg1_reader.specs.RecordOffsets.{stopped}
 use Rattle.mpeg1_reader.proofs.Laws.Start.{head-found, head-refused, head-row}
 use Rattle.mpeg1_reader.proofs.Laws.Slice.{no-start}
 use Rattle.mpeg1_reader.proofs.slice.write_slice.Statement.{statement}
@@ -34,14 +35,14 @@ write-records-requires c κs =
     let t = c .before in
     let s = start t in
     let known = all-at (head-row (s .args .header .size .height) (s .args .bytes .now)) (head t) in
-    (s .pre .0, known .inside, s .pre .1, known .least, known .most)
+    (s .pre .0, known .inside, s .pre .1, known .least, known .most, s .pre .3)
 
 returns : tie.Need-returns
 returns c =
     let r = c .before .before .before in
     let s = r .before .before .before .before .before in
     let e = no-start (s .args .header) (s .args .bytes .now) (head-refused (sliceHeadAt (s .args .header .size .height) (s .args .bytes .now) firstBit) (r .read-slice-head .ensures) (c .before .refusal .given .1)) in
-    (rw e refl, all-none e)
+    (rw e stopped, all-none e)
 
 same-length : tie.Need-same-length
 same-length c = search needs

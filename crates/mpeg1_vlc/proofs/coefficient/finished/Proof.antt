@@ -12,10 +12,10 @@ unfolding finishedOf
 returns c = rw (eq-eqb _ _ (c .if1 .taken))
 
 six : (c : tie.Then2) → c .before .before .args .taken ≡ 6
-six c = c .before .before .pre .1 .escape (c .if2 .taken)
+six c = c .before .before .pre .0 .escape (c .if2 .taken)
 
 escaped-requires : tie.Need-escaped-requires
-escaped-requires c κs = let s = c .before .before in (s .pre .0, omega (arith, six c, s .pre .1 .inside), s .pre .2)
+escaped-requires c κs = let s = c .before .before in (omega (arith, six c, s .pre .0 .inside), s .pre .1)
 
 returns-2 : tie.Need-returns-2
 unfolding finishedOf

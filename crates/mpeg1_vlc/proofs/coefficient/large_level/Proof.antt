@@ -7,43 +7,43 @@ use borrow.Author.Needs.{needs}
 use Rattle.math.proofs.Machine.{returned}
 use Rattle.mpeg1_bits.specs.Bits.{bitsIn}
 use Rattle.mpeg1_tables.specs.Code.{codeOf}
-use Rattle.mpeg1_tables.specs.Table.{tableRowAt}
-use Rattle.mpeg1_tables.proofs.Laws.Table.{Sized, code-sized}
+use Rattle.mpeg1_tables.specs.AnnexB.{byteWords}
+use Rattle.mpeg1_tables.proofs.Laws.Table.{Sized}
 use Rattle.mpeg1_vlc.specs.Coefficient.{largeOf}
-use Rattle.mpeg1_vlc.proofs.Laws.Level.{short-row}
+use Rattle.mpeg1_vlc.proofs.Laws.Large.{large-sized}
 use Rattle.mpeg1_vlc.proofs.Laws.Coefficient.{after-twenty}
 use Rattle.mpeg1_vlc.proofs.coefficient.large_level.Statement.{statement}
 use Rattle.mpeg1_vlc.proofs.coefficient.large_level.Tie as tie
 
-mul-t10 : tie.Need-mul-t10
-mul-t10 c = search needs
+mul-t9 : tie.Need-mul-t9
+mul-t9 c = search needs
 
-sub-t11 : tie.Need-sub-t11
-sub-t11 c = search needs
+sub-t10 : tie.Need-sub-t10
+sub-t10 c = search needs
 
-look-up-short-requires : tie.Need-look-up-short-requires
-look-up-short-requires c κs = search needs
+large-code-requires : tie.Need-large-code-requires
+large-code-requires c κs = search needs
 
 enum-known-value : tie.Need-enum-known-value
 enum-known-value c = search needs
 
--- the look-up gives the code of the bits after the first 20
-rest : (c : tie.After-look-up-short) → codeOf (tableRowAt (c .before .before .before .args .row) .words) (drop 20 (bitsIn (c .before .before .before .args .next))) ≡ c .look-up-short .result
+-- the code is that of the bits after the first 20
+rest : (c : tie.After-large-code) → codeOf (byteWords (c .before .before .before .args .low) 128) (drop 20 (bitsIn (c .before .before .before .args .next))) ≡ c .large-code .result
 rest c =
     let s = c .before .before .before in
-    ap (codeOf (tableRowAt (s .args .row) .words)) (sym (after-twenty (s .args .next) (s .pre .4) (s .pre .3))) ∙ sym (c .look-up-short .ensures)
+    ap (codeOf (byteWords (s .args .low) 128)) (sym (after-twenty (s .args .next) (s .pre .3) (s .pre .2))) ∙ sym (c .large-code .ensures)
 
 known : (c : tie.After-known-told) → Sized (c .before .value .given .0 .0) (c .before .value .given .0 .1 .0)
 known c =
     let l = c .before .before .before in
     let s = l .before .before .before in
-    code-sized (s .args .row) (drop 20 (bitsIn (s .args .next))) (short-row (s .args .row) (s .pre .1) .there) (rest l ∙ c .before .value .given .1)
+    large-sized (s .args .low) (drop 20 (bitsIn (s .args .next))) (s .pre .0) (rest l ∙ c .before .value .given .1)
 
 lessened-requires : tie.Need-lessened-requires
-lessened-requires c κs = (known c .value, c .before .before .before .before .before .before .pre .2)
+lessened-requires c κs = (known c .value, c .before .before .before .before .before .before .pre .1)
 
-add-t15 : tie.Need-add-t15
-add-t15 c = omega (arith, known (c .before) .long)
+add-t14 : tie.Need-add-t14
+add-t14 c = omega (arith, known (c .before) .long)
 
 enum-told : tie.Need-enum-told
 enum-told c = search needs
@@ -67,12 +67,12 @@ pub large-level-spec : {M : Type 1} → statement M
 large-level-spec =
     tie.close
     (tie.spec
-    mul-t10
-    sub-t11
-    look-up-short-requires
+    mul-t9
+    sub-t10
+    large-code-requires
     enum-known-value
     lessened-requires
-    add-t15
+    add-t14
     enum-told
     enum-told-2
     returns

@@ -20,7 +20,7 @@ word : (c : tie.After-known-told) → codeOf nextCoefficients (bitsIn (c .before
 word c = sym (c .before .before .before .look-up-word .ensures) ∙ c .before .value .given .1
 
 finished-requires : tie.Need-finished-requires
-finished-requires c κs = let s = c .before .before .before .before in (s .pre .0, word-found (s .args .next) (s .pre .1) (word c), s .pre .1)
+finished-requires c κs = let s = c .before .before .before .before in (word-found (s .args .next) (s .pre .1) (word c), s .pre .1)
 
 enum-told : tie.Need-enum-told
 enum-told c = search needs

@@ -1,0 +1,70 @@
+//! Reconstruction of a picture.
+
+use crate::{raw, Refusal, RefusedPicture};
+
+/// An accepted picture.
+#[derive(Clone, Copy, Debug, PartialEq, Eq)]
+#[non_exhaustive]
+pub struct Reconstructed {
+    /// How many macroblocks were made: all of the picture's.
+    pub made: usize,
+}
+
+/// Reconstructs the picture of a Format 3 file into `output`.
+///
+/// A reference is a picture with the same number of macroblocks. P pictures use the forward reference, B pictures both; an
+/// unused one must be empty. If the picture is refused, `output` holds the macroblocks that the records before the refused
+/// one gave, and is otherwise as it was.
+///
+/// ```
+/// use format3::{read_header, reconstruct, Refusal};
+///
+/// // A grey picture of one macroblock: version, header, slice, and an intra macroblock whose six blocks are all 0.
+/// let mut file = vec![3, 0, 8, 1, 1, 1, 1, 0, 0, 0, 0, 0, 4, 3, 8, 0, 0, 0, 22, 4, 16, 0, 1];
+/// file.extend([0; 18]);
+/// let mut output = vec![0; read_header(&file)?.picture_bytes()];
+/// let picture = reconstruct(&file, &[], &[], &mut output)?;
+/// assert_eq!(picture.made, 1);
+/// assert_eq!(output, [128; 384]);
+///
+/// let refused = reconstruct(&file[..40], &[], &[], &mut output).unwrap_err();
+/// assert_eq!(refused.refusal, Refusal::RecordCut);
+/// assert_eq!((refused.place, refused.made), (17, 0));
+/// # Ok::<(), Box<dyn std::error::Error>>(())
+/// ```
+///
+/// # Errors
+///
+/// Refusals 1 to 21: [`Refusal::FileEmpty`] to [`Refusal::BackwardLength`], with the place in the file and how many
+/// macroblocks were made before.
+pub fn reconstruct(
+    file: &[u8],
+    forward: &[u8],
+    backward: &[u8],
+    output: &mut [u8],
+) -> Result<Reconstructed, RefusedPicture> {
+    let mut result = raw::PictureResult::default();
+    // SAFETY: each pointer belongs to a live slice, with its length, or to a live struct, and what is written overlaps nothing.
+    let answer = unsafe {
+        raw::format3_reconstruct(
+            file.as_ptr(),
+            file.len(),
+            forward.as_ptr(),
+            forward.len(),
+            backward.as_ptr(),
+            backward.len(),
+            output.as_mut_ptr(),
+            output.len(),
+            &mut result,
+        )
+    };
+    let raw::PictureResult { place, made } = result;
+    match Refusal::check(answer) {
+        Ok(()) => Ok(Reconstructed { made }),
+        Err(refusal) => Err(RefusedPicture {
+            refusal,
+            place,
+            made,
+        }),
+    }
+}

@@ -1,0 +1,2 @@
+-- What the walks through the exports share.
+pub mod Walk
