@@ -404,16 +404,21 @@ static bool fits_at(int place, int length, int component)
     return 0 <= first && first <= 2 * (length - 16);
 }
 
-static bool fits(const struct picture *picture, int address, const struct motion *motion)
+/* 0, or the refusal of the first direction whose vector doesn't fit. */
+static uint32_t test_fit(const struct picture *picture, int address, const struct motion *motion)
 {
+    static const uint32_t refusals[] = {
+        [FORWARD] = FORMAT3_REFUSED_FORWARD_VECTOR_OUTSIDE,
+        [BACKWARD] = FORMAT3_REFUSED_BACKWARD_VECTOR_OUTSIDE,
+    };
     int x = 16 * (address % picture->width), y = 16 * (address / picture->width);
     for (int k = 0; k < 2; k++) {
         if (motion->used[k]
             && !(fits_at(x, 16 * picture->width, motion->vector[k].right)
                 && fits_at(y, 16 * picture->height, motion->vector[k].down)))
-            return false;
+            return refusals[k];
     }
-    return true;
+    return 0;
 }
 
 /* ---- writing */
@@ -541,10 +546,10 @@ static uint32_t act_macroblock(struct picture *picture, struct rest body)
     int address = picture->next + symbols.skipped;
     struct motion motion = motion_of(picture, &symbols), skip = skip_motion(picture);
     for (int k = picture->next; k < address; k++)
-        if (!fits(picture, k, &skip))
-            return FORMAT3_REFUSED_VECTOR_OUTSIDE;
-    if (!fits(picture, address, &motion))
-        return FORMAT3_REFUSED_VECTOR_OUTSIDE;
+        if ((refusal = test_fit(picture, k, &skip)))
+            return refusal;
+    if ((refusal = test_fit(picture, address, &motion)))
+        return refusal;
     for (int k = picture->next; k < address; k++)
         write_macroblock(picture, k, &skip, 0, NULL);
     write_macroblock(picture, address, &motion, symbols.pattern, symbols.coefficients);

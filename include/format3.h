@@ -80,11 +80,12 @@ enum format3_answer {
     FORMAT3_REFUSED_PATTERN = 15,
     FORMAT3_REFUSED_COEFFICIENT = 16,
     FORMAT3_REFUSED_DC_COEFFICIENT = 17,
-    FORMAT3_REFUSED_VECTOR_OUTSIDE = 18,
+    FORMAT3_REFUSED_FORWARD_VECTOR_OUTSIDE = 18,
     FORMAT3_REFUSED_OUTPUT_LENGTH = 19,
     FORMAT3_REFUSED_FORWARD_LENGTH = 20,
     FORMAT3_REFUSED_BACKWARD_LENGTH = 21,
     FORMAT3_REFUSED_NUMBER_OUT_OF_RANGE = 22,
+    FORMAT3_REFUSED_BACKWARD_VECTOR_OUTSIDE = 23,
     FORMAT3_REFUSED_SLICE_CODE = 24,
     FORMAT3_REFUSED_SLICE_CUT = 25,
     FORMAT3_REFUSED_RECORDS_LENGTH = 26
@@ -130,8 +131,8 @@ static inline const char *format3_answer_text(uint32_t answer)
         return "a block's count of pairs, a level or a position is out of range";
     case FORMAT3_REFUSED_DC_COEFFICIENT:
         return "a DC difference or a DC coefficient is out of range";
-    case FORMAT3_REFUSED_VECTOR_OUTSIDE:
-        return "a vector points outside the reference picture";
+    case FORMAT3_REFUSED_FORWARD_VECTOR_OUTSIDE:
+        return "a forward vector points outside the forward reference";
     case FORMAT3_REFUSED_OUTPUT_LENGTH:
         return "the output's length is not 384 bytes per macroblock";
     case FORMAT3_REFUSED_FORWARD_LENGTH:
@@ -140,6 +141,8 @@ static inline const char *format3_answer_text(uint32_t answer)
         return "the backward reference's length is wrong";
     case FORMAT3_REFUSED_NUMBER_OUT_OF_RANGE:
         return "a number given to the transform, coefficient or vector function is out of range";
+    case FORMAT3_REFUSED_BACKWARD_VECTOR_OUTSIDE:
+        return "a backward vector points outside the backward reference";
     case FORMAT3_REFUSED_SLICE_CODE:
         return "a raw slice has bits that begin no code, a row outside the picture, or a code that goes too far";
     case FORMAT3_REFUSED_SLICE_CUT:
@@ -236,7 +239,7 @@ struct format3_picture_result {
  * each row by row. A reference is a picture with the same number of macroblocks. P pictures use the forward reference, B
  * pictures both; an unused reference has length 0.
  *
- * Returns 0 to 21.
+ * Returns 0 to 21 or 23.
  * Accepted (0): the output is the picture that clause 2.4.4 of ISO/IEC 11172-2 defines for the file's symbols and matrices
  * and these references, with the inverse transform of `format3_transform`. `place` is the file's length, and `made` is the
  * picture's count of macroblocks.

@@ -1,6 +1,7 @@
 //! Compares an implementation's entries, and a program `panel`, with the other decoder. An error names the first case that
 //! differs, by the seed and number that reproduce it.
 
+use std::collections::BTreeMap;
 use std::fmt::Debug;
 
 use crate::decoder::panel::{play, text, PANEL_LIMITS};
@@ -11,15 +12,27 @@ use crate::generator::{case, reel, small_cases, Case};
 use crate::program::Program;
 use crate::random::Random;
 
-/// How often each answer from 0 to 21 to a picture occurred.
-pub type Counts = [usize; Refusal::BackwardLength as usize + 1];
+/// How often each answer occurred.
+pub type Counts = BTreeMap<u32, usize>;
 
-/// How often each answer from 0 to 8 to a header occurred.
-pub type HeaderCounts = [usize; Refusal::Header as usize + 1];
+/// The answers that a picture can get: 0 to 21, and 23.
+pub fn picture_answers() -> impl Iterator<Item = u32> {
+    let backward_vector = Refusal::BackwardVectorOutside.number();
+    (0..=Refusal::BackwardLength.number()).chain([backward_vector])
+}
 
-/// Fails if an answer never occurred: the cases then test too little.
-pub fn require_every_answer(counts: &[usize]) -> Result<(), String> {
-    match counts.iter().position(|count| *count == 0) {
+/// The answers that a header can get: 0 to 8.
+pub fn header_answers() -> impl Iterator<Item = u32> {
+    0..=Refusal::Header.number()
+}
+
+/// Fails if one of the answers never occurred: the cases then test too little.
+pub fn require_every_answer(
+    counts: &Counts,
+    answers: impl IntoIterator<Item = u32>,
+) -> Result<(), String> {
+    let mut answers = answers.into_iter();
+    match answers.find(|answer| !counts.contains_key(answer)) {
         Some(answer) => Err(format!("no case was answered by {answer}")),
         None => Ok(()),
     }
@@ -42,12 +55,12 @@ pub(crate) fn require_same<T: PartialEq + Debug>(
 /// Compares pictures by seed and number: the answer and every byte of the output, also for refused pictures, the header, and
 /// some records.
 pub fn pictures(tested: &Entries, seed: u64, count: u64) -> Result<Counts, String> {
-    let mut counts = Counts::default();
+    let mut counts = Counts::new();
     for number in 0..count {
         let case = case(seed, number);
         let what = || format!("picture {number} of seed {seed}");
         let answer = same_picture(tested, &case, what)?;
-        counts[answer as usize] += 1;
+        *counts.entry(answer).or_default() += 1;
         let random = &mut Random::new(&[seed, number, 1]);
         same_records_shown(tested, &case.file, random)?;
     }
@@ -80,7 +93,7 @@ const STARTS: [[u8; 11]; 3] = [
 
 /// Compares the headers of files that are a version and a header: each type cut after each byte; with each byte set to every
 /// value, alone and with a small number in the byte after it; and every width and height.
-pub fn headers(tested: &Entries) -> Result<HeaderCounts, String> {
+pub fn headers(tested: &Entries) -> Result<Counts, String> {
     let mut files: Vec<Vec<u8>> = Vec::new();
     for start in STARTS {
         files.extend((0..start.len()).map(|length| start[..length].to_vec()));
@@ -96,10 +109,10 @@ pub fn headers(tested: &Entries) -> Result<HeaderCounts, String> {
     }
     let sizes = (0..=255).flat_map(|width| (0..=255).map(move |height| (width, height)));
     files.extend(sizes.map(|(width, height)| vec![3, 0, 8, 1, width, height, 1, 0, 0, 0, 0]));
-    let mut counts = HeaderCounts::default();
+    let mut counts = Counts::new();
     for file in &files {
         let answer = same_header(tested, file, || format!("header of {file:02x?}"))?;
-        counts[answer as usize] += 1;
+        *counts.entry(answer).or_default() += 1;
     }
     Ok(counts)
 }
@@ -116,7 +129,11 @@ fn same_header(
 }
 
 /// The answer's number, if both give the same answer and bytes, and read the same header.
-fn same_picture(tested: &Entries, case: &Case, what: impl Fn() -> String) -> Result<u32, String> {
+pub(crate) fn same_picture(
+    tested: &Entries,
+    case: &Case,
+    what: impl Fn() -> String,
+) -> Result<u32, String> {
     let run = |entries: &Entries| {
         let mut output = case.output.clone();
         let answer = (entries.reconstruct)(&case.file, &case.forward, &case.backward, &mut output);

@@ -1,8 +1,8 @@
 //! Compares an implementation's reader of raw slices with the other decoder's: answers and every byte of the buffer.
 
-use std::collections::{BTreeMap, BTreeSet};
+use std::collections::BTreeSet;
 
-use crate::compare::{require_same, require_same_bytes};
+use crate::compare::{require_same, require_same_bytes, Counts};
 use crate::decoder::refusals::Refusal;
 use crate::decoder::{Entries, Given, SliceAnswer, ENTRIES};
 use crate::fixtures::{stream_fixtures, StreamFixture};
@@ -13,11 +13,8 @@ use crate::generator::{
 use crate::random::Random;
 use crate::stream;
 
-/// How often each answer to a raw slice occurred.
-pub type SliceCounts = BTreeMap<u32, usize>;
-
 /// The answers that a raw slice can get.
-const SLICE_ANSWERS: [u32; 5] = [
+pub const SLICE_ANSWERS: [u32; 5] = [
     0,
     Refusal::Header as u32,
     Refusal::SliceCode as u32,
@@ -25,19 +22,10 @@ const SLICE_ANSWERS: [u32; 5] = [
     Refusal::RecordsLength as u32,
 ];
 
-/// Fails if an answer to a slice never occurred, like `require_every_answer`.
-pub fn require_every_slice_answer(counts: &SliceCounts) -> Result<(), String> {
-    let missing = |answer: &&u32| !counts.contains_key(answer);
-    match SLICE_ANSWERS.iter().find(missing) {
-        Some(answer) => Err(format!("no slice was answered by {answer}")),
-        None => Ok(()),
-    }
-}
-
 /// Compares raw slices by seed and number: the answer and every byte of the buffer, also for refused slices. Also fails if a word
 /// of Annex B occurs in no accepted slice.
-pub fn slices(tested: &Entries, seed: u64, count: u64) -> Result<SliceCounts, String> {
-    let mut counts = SliceCounts::new();
+pub fn slices(tested: &Entries, seed: u64, count: u64) -> Result<Counts, String> {
+    let mut counts = Counts::new();
     let mut missing = all_words();
     for number in 0..count {
         let case = slice_case(seed, number);

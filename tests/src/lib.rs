@@ -9,6 +9,7 @@ use program::Program;
 pub mod answers;
 pub mod code_table;
 pub mod compare;
+pub mod compare_misfits;
 pub mod compare_room_slices;
 pub mod compare_slices;
 pub mod decoder;
@@ -19,6 +20,7 @@ pub mod library;
 pub mod p1180;
 pub mod program;
 pub mod random;
+pub mod requests;
 pub mod sha256;
 pub mod stream;
 

@@ -1,17 +1,22 @@
 //! Tests the generator: its legal cases are accepted, and its damaged ones produce every answer.
 
-use format3_tests::compare::{headers, require_every_answer, Counts};
+use format3_tests::compare::{
+    header_answers, headers, picture_answers, require_every_answer, Counts,
+};
+use format3_tests::compare_misfits::{arrangements, misfits, require_every_arrangement};
 use format3_tests::compare_room_slices::{require_every_room_trial, room_slices};
-use format3_tests::compare_slices::{require_every_slice_answer, slices, SliceCounts};
+use format3_tests::compare_slices::{slices, SLICE_ANSWERS};
 use format3_tests::decoder::panel::{play, PANEL_LIMITS};
 use format3_tests::decoder::{reconstruct, ENTRIES};
-use format3_tests::generator::{case, reel, slice_case, small_cases, small_slice_cases, ROOM};
+use format3_tests::generator::{
+    case, misfit_cases, reel, slice_case, small_cases, small_slice_cases, Arrangement, Fit, ROOM,
+};
 
 const SEED: u64 = 1;
 
 #[test]
 fn single_pictures_bring_about_every_answer() {
-    let mut counts = Counts::default();
+    let mut counts = Counts::new();
     for number in 0..3000 {
         let mut case = case(SEED, number);
         let answer = reconstruct(&case.file, &case.forward, &case.backward, &mut case.output);
@@ -19,25 +24,25 @@ fn single_pictures_bring_about_every_answer() {
             !case.legal || answer.number == 0,
             "case {number}: {answer:?}"
         );
-        counts[answer.number as usize] += 1;
+        *counts.entry(answer.number).or_default() += 1;
         let (header, _) = (ENTRIES.read_header)(&case.file);
         assert!(
             header == 0 || header == answer.number,
             "case {number}: {header}, {answer:?}"
         );
     }
-    assert_eq!(require_every_answer(&counts), Ok(()));
+    assert_eq!(require_every_answer(&counts, picture_answers()), Ok(()));
 }
 
 #[test]
 fn headers_bring_about_every_answer() {
     let counts = headers(&ENTRIES).expect("the decoder is itself");
-    assert_eq!(require_every_answer(&counts), Ok(()));
+    assert_eq!(require_every_answer(&counts, header_answers()), Ok(()));
 }
 
 #[test]
 fn reels_bring_about_every_answer_and_word() {
-    let mut counts = Counts::default();
+    let mut counts = Counts::new();
     let mut words = Vec::new();
     for number in 0..1000 {
         let reel = reel(SEED, number);
@@ -45,12 +50,12 @@ fn reels_bring_about_every_answer_and_word() {
             let accepted = line.picture.is_some();
             assert!(!reel.legal || accepted, "reel {number}: {}", line.text);
             match line.answer {
-                Some(answer) => counts[answer.number as usize] += 1,
+                Some(answer) => *counts.entry(answer.number).or_default() += 1,
                 None => words.push(line.text),
             }
         }
     }
-    assert_eq!(require_every_answer(&counts), Ok(()));
+    assert_eq!(require_every_answer(&counts, picture_answers()), Ok(()));
     assert!(words.iter().any(|word| word == "long"));
     assert!(words.iter().any(|word| word.starts_with("cut ")));
 }
@@ -58,26 +63,64 @@ fn reels_bring_about_every_answer_and_word() {
 /// Each field of small pictures, at and just past the ends of its range, produces every refusal that a field can cause.
 #[test]
 fn changed_fields_bring_about_every_refusal_of_a_field() {
-    let mut counts = Counts::default();
+    let mut counts = Counts::new();
     for (file, case) in (SEED..SEED + 3).flat_map(small_cases) {
         for changed in file.each_field_changed() {
             let mut output = case.output.clone();
             let answer = reconstruct(&changed, &case.forward, &case.backward, &mut output);
-            counts[answer.number as usize] += 1;
+            *counts.entry(answer.number).or_default() += 1;
         }
     }
     // No field empties the file or changes the references that are lent.
-    for answer in [1, 20, 21] {
-        counts[answer] += 1;
+    let by_field = picture_answers().filter(|answer| ![1, 20, 21].contains(answer));
+    assert_eq!(require_every_answer(&counts, by_field), Ok(()));
+}
+
+/// Request No. 1: skipped macroblocks by address, then the record's own; each forward (18), then backward (23).
+fn first_misfit(arrangement: &Arrangement) -> u32 {
+    let mut numbered = arrangement
+        .macroblocks()
+        .flat_map(|[f, b]| [(f, 18), (b, 23)]);
+    let first = numbered.find(|(fit, _)| *fit == Fit::Misfits);
+    first.map_or(0, |(_, number)| number)
+}
+
+#[test]
+fn misfits_are_answered_by_the_first() {
+    for (number, mut case) in misfit_cases(SEED).into_iter().enumerate() {
+        let answer = reconstruct(&case.file, &case.forward, &case.backward, &mut case.output);
+        let first = arrangements(&case.file).last().map(first_misfit);
+        assert_eq!(Some(answer.number), first, "misfit {number}");
+        assert_eq!(answer.number == 0, case.legal, "misfit {number}");
     }
-    assert_eq!(require_every_answer(&counts), Ok(()));
+}
+
+/// A missing arrangement is reported.
+///
+/// In B, with k skipped macroblocks, a direction has 2^k arrangements of these if they use it, and 1 if they don't; its own
+/// macroblock has 3. Both directions unused by skipped ones is none. So there are 9, 9 * (3 * 3 - 1) and 9 * (5 * 5 - 1). All but
+/// 4 * 4^k, where nothing is unused, are there twice, by the pasts; and each four times, by the full-pel flags.
+///
+/// In P, its own macroblock has 4: intra, without a vector, with one that fits or doesn't. All but the last two without skipped ones
+/// are there twice, by the pasts; and each twice, by the full-pel flag.
+#[test]
+fn missing_arrangements_are_reported() {
+    let made = misfits(&ENTRIES, SEED).expect("the decoder is itself");
+    let required = made.arrangements.keys().filter(|arrangement| {
+        let mut counts = made.arrangements.clone();
+        counts.remove(arrangement);
+        require_every_arrangement(&counts).is_err()
+    });
+    let b = 2 * (9 + 9 * 8 + 9 * 24) - 4 * (1 + 4 + 16);
+    let p = 2 * (4 + 4 + 4) - 2;
+    assert_eq!(required.count(), 4 * b + 2 * p);
 }
 
 /// All answers occur and, as `slices` itself checks, every word of Annex B.
 #[test]
 fn slices_bring_about_every_answer_and_code() {
     let counts = slices(&ENTRIES, SEED, 6000).expect("every code stands in a slice");
-    assert_eq!(require_every_slice_answer(&counts), Ok(()));
+    assert_eq!(require_every_answer(&counts, SLICE_ANSWERS), Ok(()));
     for number in 0..1000 {
         let mut case = slice_case(SEED, number);
         let answer = (ENTRIES.read_slice)(&case.slice, case.given, &mut case.buffer);
@@ -96,14 +139,14 @@ fn few_slices_are_told_to_lack_codes() {
 /// Small slices with each bit, byte, length and number changed in turn produce every answer to a slice.
 #[test]
 fn changed_slices_bring_about_every_answer() {
-    let mut counts = SliceCounts::new();
+    let mut counts = Counts::new();
     for case in (SEED..SEED + 3).flat_map(small_slice_cases) {
         for mut changed in case.each_change() {
             let answer = (ENTRIES.read_slice)(&changed.slice, changed.given, &mut changed.buffer);
             *counts.entry(answer.number).or_default() += 1;
         }
     }
-    assert_eq!(require_every_slice_answer(&counts), Ok(()));
+    assert_eq!(require_every_answer(&counts, SLICE_ANSWERS), Ok(()));
 }
 
 /// There are 57 places around the room's end for I, and 29 each for P and B, each tried in seven ways. A missing trial is

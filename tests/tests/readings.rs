@@ -1,4 +1,4 @@
-//! Tests the other decoder against settled readings of document 01, where its words leave a choice.
+//! Tests the other decoder against settled readings of document 01 and request No. 1, where their words leave a choice.
 
 mod common;
 
@@ -157,6 +157,99 @@ fn a_skip_that_does_not_fit() {
     let p_skips_by_zero = &[4, 2, 0, 2, 0, 0, 0, 0];
     let file = file_of(&[p_header, SLICE, right, p_skips_by_zero]);
     assert_eq!(answer_with(&file, 3), (0, 37, 3));
+}
+
+/// 18 is for the forward vector, 23 for the backward one, which is tested after it. In a picture of one macroblock only vector 0
+/// fits.
+#[test]
+fn the_direction_that_does_not_fit() {
+    let b = &[1, 1, 1, 3, 0, 1, 0, 1];
+    assert_eq!(macroblock_number(b, &[2, 0, 1, 1, 0, 0, 0]), 18);
+    assert_eq!(macroblock_number(b, &[4, 0, 1, 1, 0, 0, 0]), 23);
+    assert_eq!(macroblock_number(b, &[4, 0, 1, 0, 0, 1, 0]), 23);
+    let both = |forward, backward| [6, 0, 1, forward, 0, 0, 0, backward, 0, 0, 0];
+    assert_eq!(macroblock_number(b, &both(0, 0)), 0);
+    assert_eq!(macroblock_number(b, &both(1, 0)), 18);
+    assert_eq!(macroblock_number(b, &both(0, 1)), 23);
+    assert_eq!(macroblock_number(b, &both(1, 1)), 18);
+    assert_eq!(macroblock_number(b, &[4, 0, 1, 1, 0, 0, 0, 0]), 6);
+    // A P has no backward vector: the type is refused first.
+    assert_eq!(macroblock_number(P, &[2, 0, 1, 1, 0, 0, 0]), 18);
+    assert_eq!(macroblock_number(P, &[4, 0, 1, 1, 0, 0, 0]), 12);
+    assert_eq!(macroblock_number(P, &both(0, 1)), 12);
+}
+
+/// Two by two macroblocks: from the first one, the skipped ones repeat vectors to the right, which leave the picture at the
+/// second, or down, which leave it at the third.
+#[test]
+fn the_direction_of_a_skip_that_does_not_fit() {
+    let b = &[1, 2, 2, 3, 0, 1, 0, 1];
+    let number = |records: &[&[u8]]| answer_with(&file_of(&[&[b, SLICE], records].concat()), 4);
+    let forward_right = &[4, 2, 0, 1, 1, 0, 0, 0];
+    let backward_right = &[4, 4, 0, 1, 1, 0, 0, 0];
+    // Their own vectors leave the picture at the left.
+    let forward_left = &[4, 2, 0, 2, -2_i8 as u8, 0, 0, 0];
+    let backward_left = &[4, 4, 0, 2, -2_i8 as u8, 0, 0, 0];
+    assert_eq!(number(&[forward_right, forward_left]), (18, 27, 1));
+    assert_eq!(number(&[forward_right, backward_left]), (18, 27, 1));
+    assert_eq!(number(&[backward_right, forward_left]), (23, 27, 1));
+    assert_eq!(number(&[backward_right, backward_left]), (23, 27, 1));
+    let both_right = &[4, 6, 0, 1, 1, 0, 0, 0, 1, 0, 0, 0];
+    assert_eq!(number(&[both_right, backward_left]), (18, 31, 1));
+    // The second macroblock is tested in both directions before the third.
+    let skips_two = &[4, 4, 0, 3, -1_i8 as u8, 0, 0, 0];
+    let down_and_right = &[4, 6, 0, 1, 0, 0, 1, 0, 1, 0, 0, 0];
+    assert_eq!(number(&[down_and_right, skips_two]), (23, 31, 1));
+    let right_and_down = &[4, 6, 0, 1, 1, 0, 0, 0, 0, 0, 1, 0];
+    assert_eq!(number(&[right_and_down, skips_two]), (18, 31, 1));
+}
+
+/// Two macroblocks side by side: the first has a backward vector to the right, which does not fit the second. A direction that is
+/// not used is not tested, although it keeps its past.
+#[test]
+fn an_unused_direction_that_does_not_fit() {
+    let b = &[1, 2, 1, 3, 0, 1, 0, 1];
+    let number = |second: &[u8]| {
+        let first = &[4, 6, 0, 1, 0, 0, 0, 0, 1, 0, 0, 0];
+        answer_with(&file_of(&[b, SLICE, first, second]), 2)
+    };
+    assert_eq!(number(&[4, 2, 0, 1, 0, 0, 0, 0]), (0, 41, 2));
+    assert_eq!(number(&[4, 4, 0, 1, 0, 0, 0, 0]), (23, 31, 1));
+    assert_eq!(number(GREY), (0, 55, 2));
+}
+
+/// Two macroblocks side by side: from the first one, 32 fits and 33 doesn't. The vector that is used is tested: a full-pel flag
+/// doubles that of its own direction.
+#[test]
+fn a_doubled_vector_that_does_not_fit() {
+    // Differences of 16, 17, 32 and 33 with f_code 3.
+    let [sixteen, seventeen, thirty_two, thirty_three] = [[4, 3], [5, 0], [8, 3], [9, 0]];
+    let number = |full_pel: [u8; 2], macroblock_type: u8, [code, residual]: [u8; 2]| {
+        let header = &[1, 2, 1, 3, full_pel[0], 3, full_pel[1], 3];
+        let first = &[4, macroblock_type, 0, 1, code, residual, 0, 0];
+        let back = &[
+            4,
+            macroblock_type,
+            0,
+            1,
+            code.wrapping_neg(),
+            residual,
+            0,
+            0,
+        ];
+        let (number, ..) = answer_with(&file_of(&[header, SLICE, first, back]), 2);
+        number
+    };
+    for (way, macroblock_type, refusal) in [(0, 2, 18), (1, 4, 23)] {
+        let mut own_flag = [0; 2];
+        own_flag[way] = 1;
+        let mut other_flag = [1; 2];
+        other_flag[way] = 0;
+        assert_eq!(number(own_flag, macroblock_type, sixteen), 0);
+        assert_eq!(number(own_flag, macroblock_type, seventeen), refusal);
+        assert_eq!(number(other_flag, macroblock_type, thirty_two), 0);
+        assert_eq!(number(other_flag, macroblock_type, thirty_three), refusal);
+    }
 }
 
 #[test]

@@ -35,8 +35,8 @@ pub struct Reconstructed {
 ///
 /// # Errors
 ///
-/// Refusals 1 to 21: [`Refusal::FileEmpty`] to [`Refusal::BackwardLength`], with the place in the file and how many
-/// macroblocks were made before.
+/// Refusals 1 to 21 ([`Refusal::FileEmpty`] to [`Refusal::BackwardLength`]) and 23 ([`Refusal::BackwardVectorOutside`]), with the
+/// place in the file and how many macroblocks were made before.
 pub fn reconstruct(
     file: &[u8],
     forward: &[u8],

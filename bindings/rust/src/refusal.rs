@@ -73,10 +73,10 @@ pub enum Refusal {
     ///
     /// Caused by the encoder. A difference is -255 to 255, a DC coefficient 0 to 2040.
     DcCoefficient,
-    /// 18: a vector points outside the reference picture.
+    /// 18: a forward vector points outside the forward reference.
     ///
-    /// Caused by the encoder. A motion code, a residual or a full-pel flag is wrong.
-    VectorOutside,
+    /// Caused by the encoder. A motion code, a residual or the full-pel flag of the forward direction is wrong; the macroblock's backward vector was not tested.
+    ForwardVectorOutside,
     /// 19: the output's length is not 384 bytes per macroblock.
     ///
     /// Caused by the caller. Lend 384 bytes per macroblock (`panel` lends none above 40 macroblocks).
@@ -93,6 +93,10 @@ pub enum Refusal {
     ///
     /// Caused by the caller. Check the ranges; the function gave zeros.
     NumberOutOfRange,
+    /// 23: a backward vector points outside the backward reference.
+    ///
+    /// Caused by the encoder. A motion code, a residual or the full-pel flag of the backward direction is wrong; the macroblock's forward vector, if it has one, fits.
+    BackwardVectorOutside,
     /// 24: a raw slice has bits that begin no code, a row outside the picture, or a code that goes too far.
     ///
     /// Caused by the writer of the slice. The slice is damaged, or the next start code was included; a code goes too far if it takes an increment past 396 or a coefficient past position 63.
@@ -111,7 +115,7 @@ pub enum Refusal {
 
 impl Refusal {
     /// The refusals that this crate knows, in order of their numbers.
-    pub const ALL: [Refusal; 25] = [
+    pub const ALL: [Refusal; 26] = [
         Refusal::FileEmpty,
         Refusal::Version,
         Refusal::RecordCut,
@@ -129,11 +133,12 @@ impl Refusal {
         Refusal::Pattern,
         Refusal::Coefficient,
         Refusal::DcCoefficient,
-        Refusal::VectorOutside,
+        Refusal::ForwardVectorOutside,
         Refusal::OutputLength,
         Refusal::ForwardLength,
         Refusal::BackwardLength,
         Refusal::NumberOutOfRange,
+        Refusal::BackwardVectorOutside,
         Refusal::SliceCode,
         Refusal::SliceCut,
         Refusal::RecordsLength,
@@ -172,11 +177,12 @@ impl Refusal {
             15 => Refusal::Pattern,
             16 => Refusal::Coefficient,
             17 => Refusal::DcCoefficient,
-            18 => Refusal::VectorOutside,
+            18 => Refusal::ForwardVectorOutside,
             19 => Refusal::OutputLength,
             20 => Refusal::ForwardLength,
             21 => Refusal::BackwardLength,
             22 => Refusal::NumberOutOfRange,
+            23 => Refusal::BackwardVectorOutside,
             24 => Refusal::SliceCode,
             25 => Refusal::SliceCut,
             26 => Refusal::RecordsLength,
@@ -208,11 +214,12 @@ impl Refusal {
             Refusal::Pattern => 15,
             Refusal::Coefficient => 16,
             Refusal::DcCoefficient => 17,
-            Refusal::VectorOutside => 18,
+            Refusal::ForwardVectorOutside => 18,
             Refusal::OutputLength => 19,
             Refusal::ForwardLength => 20,
             Refusal::BackwardLength => 21,
             Refusal::NumberOutOfRange => 22,
+            Refusal::BackwardVectorOutside => 23,
             Refusal::SliceCode => 24,
             Refusal::SliceCut => 25,
             Refusal::RecordsLength => 26,
@@ -245,11 +252,12 @@ impl Refusal {
             Refusal::Pattern => "a coded block pattern is not 1 to 63",
             Refusal::Coefficient => "a block's count of pairs, a level or a position is out of range",
             Refusal::DcCoefficient => "a DC difference or a DC coefficient is out of range",
-            Refusal::VectorOutside => "a vector points outside the reference picture",
+            Refusal::ForwardVectorOutside => "a forward vector points outside the forward reference",
             Refusal::OutputLength => "the output's length is not 384 bytes per macroblock",
             Refusal::ForwardLength => "the forward reference's length is wrong",
             Refusal::BackwardLength => "the backward reference's length is wrong",
             Refusal::NumberOutOfRange => "a number given to the transform, coefficient or vector function is out of range",
+            Refusal::BackwardVectorOutside => "a backward vector points outside the backward reference",
             Refusal::SliceCode => "a raw slice has bits that begin no code, a row outside the picture, or a code that goes too far",
             Refusal::SliceCut => "a raw slice ends before its first macroblock is complete, or within a later one",
             Refusal::RecordsLength => "the records of a raw slice don't fit the buffer",

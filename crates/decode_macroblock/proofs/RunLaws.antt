@@ -2,7 +2,7 @@
 use mathlib.Core.Path.{_≡_, refl, ap, _∙_, sym}
 use mathlib.Core.Bool.{Bool, true, false, cond}
 use mathlib.Core.List.{List}
-use Prim.Native.Nat.{ℕ, zero, suc, _+_, _-_, _≤_, _<_}
+use Prim.Native.Nat.{ℕ, zero, suc, _+_, _<_}
 use native.Mathlib.Omega.{arith}
 use lib.ListN.{length}
 use Rattle.symbols.specs.declared.size.PictureSize.{PictureSize}
@@ -48,10 +48,15 @@ or-fits Fits next e = (refl, e)
 or-fits Forward next e = absurd (let z : _≡_ {A = ℕ} 0 1 = cc in omega arith)
 or-fits Backward next e = absurd (let z : _≡_ {A = ℕ} 0 1 = cc in omega arith)
 
-or-stops : (fit next : Fit) → (fit ≡ Fits → ⊥) → orElse fit next ≡ fit
-or-stops Fits next h = absurd (h refl)
-or-stops Forward next h = refl
-or-stops Backward next h = refl
+pub or-else-assoc : (a b c : Fit) → orElse (orElse a b) c ≡ orElse a (orElse b c)
+or-else-assoc Fits b c = refl
+or-else-assoc Forward b c = refl
+or-else-assoc Backward b c = refl
+
+pub or-else-fits : (fit : Fit) → orElse fit Fits ≡ fit
+or-else-fits Fits = refl
+or-else-fits Forward = refl
+or-else-fits Backward = refl
 
 module _ (s : PictureSize) (m : Motion) where
   -- in a run that fits, each macroblock fits
@@ -62,41 +67,13 @@ module _ (s : PictureSize) (m : Motion) where
   run-fits first (suc n) (suc k) e h =
       ap (λ (a : ℕ). fitOf s a m) (omega arith) ∙ run-fits (first + 1) n k (or-fits (fitOf s first m) _ e .1) (omega arith)
 
-  -- before macroblock k of a run, the earlier ones fit, so the rest of the run decides
-  pub record Fitting (first skipped k : ℕ) : Type 0 where
-    pub left : ℕ
-    pub all : k + left ≡ skipped
-    pub same : firstMisfit s (first + k) left m ≡ firstMisfit s first skipped m
-
-  pub fitting-none : (first skipped : ℕ) → Fitting first skipped 0
-  fitting-none first skipped = record { left = skipped; all = omega arith; same = ap (λ (a : ℕ). firstMisfit s a skipped m) (omega arith) }
-
-  run-more : (first n : ℕ) → firstMisfit s first (suc n) m ≡ orElse (fitOf s first m) (firstMisfit s (first + 1) n m)
+  -- a run with one macroblock more
+  pub run-last : (first n : ℕ) → firstMisfit s first (suc n) m ≡ orElse (firstMisfit s first n m) (fitOf s (first + n) m)
   unfolding firstMisfit
-  run-more first n = refl
-
-  -- the next macroblock decides, or the rest after it
-  next : (first left : ℕ) (whole : Fit) → 0 < left → firstMisfit s first left m ≡ whole
-      → orElse (fitOf s first m) (firstMisfit s (first + 1) (left - 1) m) ≡ whole
-  next first left whole h e =
-      sym (run-more first (left - 1)) ∙ ap (λ (n : ℕ). firstMisfit s first n m) (omega arith) ∙ e
-
-  pub fitting-more : {first skipped k : ℕ} → Fitting first skipped k → k < skipped → fitOf s (first + k) m ≡ Fits → Fitting first skipped (k + 1)
-  fitting-more {first} {skipped} {k} f h e = record {
-    left = f .left - 1;
-    all = omega (arith, f .all);
-    same = ap (λ (a : ℕ). firstMisfit s a (f .left - 1) m) (omega arith)
-        ∙ sym (ap (λ (fit : Fit). orElse fit (firstMisfit s (first + k + 1) (f .left - 1) m)) e)
-        ∙ next (first + k) (f .left) (firstMisfit s first skipped m) (omega (arith, f .all)) (f .same);
-  }
-
-  pub fitting-stops : {first skipped k : ℕ} → Fitting first skipped k → k < skipped → (fitOf s (first + k) m ≡ Fits → ⊥) → fitOf s (first + k) m ≡ firstMisfit s first skipped m
-  fitting-stops {first} {skipped} {k} f h e =
-      sym (or-stops (fitOf s (first + k) m) _ e) ∙ next (first + k) (f .left) (firstMisfit s first skipped m) (omega (arith, f .all)) (f .same)
-
-  pub fitting-all : {first skipped k : ℕ} → Fitting first skipped k → skipped ≤ k → Fits ≡ firstMisfit s first skipped m
-  unfolding firstMisfit
-  fitting-all {first} {skipped} {k} f h = let none : f .left ≡ 0 = omega (arith, f .all) in rw none at (f .same)
+  run-last first zero = or-else-fits (fitOf s first m) ∙ ap (λ (a : ℕ). fitOf s a m) (omega arith)
+  run-last first (suc n) =
+      ap (orElse (fitOf s first m)) (run-last (first + 1) n ∙ ap (λ (a : ℕ). orElse (firstMisfit s (first + 1) n m) (fitOf s a m)) (omega arith))
+      ∙ sym (or-else-assoc (fitOf s first m) (firstMisfit s (first + 1) n m) (fitOf s (first + suc n) m))
 
 pub run-drawable : {s : PictureSize} {first skipped : ℕ} {m : Motion} {forward backward output next : List ℕ} (k : ℕ)
     → RunWritable s first skipped m forward backward output → k < skipped → length next ≡ length output → Writable s (first + k) m forward backward next

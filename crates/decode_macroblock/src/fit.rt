@@ -5,7 +5,7 @@ ghost use Rattle.symbols.specs.Requires.{SizeWithin};
 ghost use Rattle.symbols.specs.Size.{maxMacroblocks, macroblockCount};
 ghost use Rattle.decode_vectors.specs.Vector.{maxVector};
 ghost use Rattle.decode_macroblock.specs.Requires.{Inside, VectorWithin, MotionWithin};
-ghost use Rattle.decode_macroblock.specs.Fit.{directionFits, fitOf, firstMisfit};
+ghost use Rattle.decode_macroblock.specs.Fit.{directionFits, fitOf, orElse, firstMisfit};
 use crate::compensation::Motion;
 use crate::compensation::Vector;
 use crate::location;
@@ -57,16 +57,26 @@ pub fn fit_of(size: PictureSize, address: usize, motion: Motion) -> Fit
     Fit::Fits
 }
 
+// `fit` if it is a misfit, otherwise `next`.
+pub fn or_else(fit: Fit, next: Fit) -> Fit
+    ensures { λ r. ⌜ r ≡ orElse fit next ⌝ }
+{
+    match fit {
+        Fit::Fits => next,
+        Fit::Forward => Fit::Forward,
+        Fit::Backward => Fit::Backward,
+    }
+}
+
 // The first misfit among `skipped` macroblocks from address `first` on.
 pub fn first_misfit(size: PictureSize, first: usize, skipped: usize, motion: Motion) -> Fit
     requires { ⌜ SizeWithin maxMacroblocks size × (first + skipped ≤ macroblockCount size) × MotionWithin maxVector motion ⌝ }
     ensures { λ r. ⌜ r ≡ firstMisfit size first skipped motion ⌝ }
 {
+    let mut fit = Fit::Fits;
     for k in 0..skipped {
-        let fit = fit_of(size, first + k, motion);
-        let Fit::Fits = fit else {
-            return fit;
-        };
+        let next = fit_of(size, first + k, motion);
+        fit = or_else(fit, next);
     }
-    Fit::Fits
+    fit
 }

@@ -49,7 +49,7 @@ use Rattle.format3_picture.specs.Reconstruction.{planFor, coefficientsFo
 use Rattle.format3_picture.specs.MacroblockRecord.{contextOf, Applied}
 use Rattle.format3_picture.specs.Picture.{isComplete}
 use Rattle.format3_picture.specs.Requires.{LentLengths, StateWithin, PlanWithin, PlanLent, PlanWritable, SymbolsRead}
-use Rattle.format3_picture.specs.Step.{withMatrix, withSlice, RecordStep, stepAt}
+use Rattle.format3_picture.specs.Step.{withMatrix, withSlice, RecordStep, stepAt, stepAtRefusing}
 use Rattle.format3_picture.specs.Symbols.{Symbol}
 use Rattle.format3_picture.proofs.RecordLaws.{madeRecord, StepCases, refuses, matrix-passes, slice-starts, macroblocks-made, step-cases, found-after}
 
@@ -206,7 +206,7 @@ module _ (q : Matrices) (s : PictureState) (w : StateWithin s) where
         (coefficients-in-range q _ _ m (legal .blocks), tt)
 
   pub kept : {symbol : Symbol} {t : RecordStep} → StepCases q s symbol t → t .applied .verdict ≡ Passed → KeepsInvariant s (t .applied)
-  kept (refuses refusal t) e = let z : _≡_ {A = ℕ} 0 1 = cc in absurd (omega arith)
+  kept (refuses refusal) e = let z : _≡_ {A = ℕ} 0 1 = cc in absurd (omega arith)
   kept (matrix-passes turn body) e = record { within = matrix-within matrixKind turn body; header = refl; order = refl; in-range = tt }
   kept (slice-starts turn header legal start) e = record { within = slice-within sliceKind turn (header .scale) legal; header = refl; order = refl; in-range = tt }
   kept (macroblocks-made begun m legal) e = record { within = advanced-within m legal; header = refl; order = made-order m legal; in-range = made-in-range m legal }
@@ -220,7 +220,7 @@ pub record Ends (file : List ℕ) (at end : ℕ) : Type 0 where
   pub in-file : end ≤ length file
 
 pub step-ends : (file : List ℕ) (at : ℕ) (s : PictureState) (q : Matrices) → stepAt file at s q .applied .verdict ≡ Passed → Ends file at (stepAt file at s q .end)
-unfolding stepAt
+unfolding stepAtRefusing
 step-ends file at s q = go (recordOf file at) refl
   where
     go : (r : Record) → recordOf file at ≡ r → stepAt file at s q .applied .verdict ≡ Passed → Ends file at (stepAt file at s q .end)

@@ -1,4 +1,3 @@
-pub mod RefusalLaws
 pub mod RecordLaws
 pub mod InvariantLaws
 pub mod StartLaws

@@ -27,7 +27,7 @@ use Rattle.format3_header.specs.declared.file_start.FileStart.the-variants as F
 use Rattle.format3_picture.specs.State.{startState}
 use Rattle.format3_picture.specs.declared.state.PictureState.{PictureState}
 use Rattle.format3_picture.specs.Reconstruction.{macroblocksMadeFrom, macroblocksOf, reconstruction}
-use Rattle.format3_picture.specs.Picture.{Picture, isComplete, Answered, refusedAt, answeredBy, recordsFrom, recordsAfter, symbolsOf, withOutput, pictureOf}
+use Rattle.format3_picture.specs.Picture.{Picture, isComplete, Answered, refusedAt, answeredBy, recordsFrom, recordsAfter, symbolsOf, withOutput, pictureOf, pictureRefusing}
 use Rattle.format3_picture.specs.Requires.{StateWithin}
 use Rattle.format3_picture.specs.Step.{RecordStep}
 use Rattle.format3_picture.specs.Symbols.{Symbol, putInFront}
@@ -82,12 +82,12 @@ module _ (transform : List ℤ → ℕ → ℤ) (file forward backward output : 
   picture = pictureOf transform file forward backward output
 
   pub no-header : {refusal : Refusal} {place : ℕ} → fileStartOf file (length output) (length forward) (length backward) ≡ FileStart.Refused refusal place → picture ≡ withOutput (refusedAt refusal place 0) output
-  unfolding pictureOf
+  unfolding pictureRefusing
   no-header e = rw e
 
   module _ {h : Header} {end : ℕ} (e : fileStartOf file (length output) (length forward) (length backward) ≡ FileStart.HeaderRead h end) where
     pub header-read-is : picture ≡ withOutput (recordsAfter file h end .answer) (reconstruction transform (references forward backward) h (symbolsOf file h end) output)
-    unfolding pictureOf
+    unfolding pictureRefusing
     header-read-is = rw e
 
     start : Started file forward backward output h end

@@ -24,7 +24,7 @@ use Rattle.format3_macroblock.specs.Macroblock.{macroblockSymbolsOf, blocksToEn
 use Rattle.format3_macroblock.proofs.Laws.Macroblock.{noneCoded, none-then-end, none-then-more, none-through, whole-legal, coefficients-in-range}
 use Rattle.format3_picture.specs.declared.state.PictureState.{PictureState}
 use Rattle.format3_picture.specs.Requires.{startingPlan}
-use Rattle.format3_picture.specs.MacroblockRecord.{Applied, contextOf, refusedRecord, planApplied, symbolsApplied, parsedApplied, macroblockApplied}
+use Rattle.format3_picture.specs.MacroblockRecord.{Applied, contextOf, refusedRecord, planApplied, symbolsAppliedRefusing, parsedApplied, macroblockApplied}
 
 -- ---- the symbols
 module _ (q : Matrices) (s : PictureState) (body : List ℕ) where
@@ -59,7 +59,7 @@ module _ (q : Matrices) (s : PictureState) (m : MacroblockSymbols) (rest : List 
     pub in-range : BlocksInRange (d .coefficients)
 
   pub blocks-read : {d : DecodedBlocks} {n : ℕ} → ParsesAs (decodedToEndOf m scale q starting) rest (value d n) → BlocksRead d
-  unfolding symbolsApplied
+  unfolding symbolsAppliedRefusing
   blocks-read {d} found =
       let b = made-of (blocksToEndOf m starting) decoding rest found in
       let legal = all-at (whole-legal m starting rest) (b .found .0) in
@@ -74,7 +74,7 @@ module _ (q : Matrices) (s : PictureState) (m : MacroblockSymbols) (rest : List 
     bytes-behind more = rw (none-then-more m starting none-given rest more)
 
     pub predicted : isIntra (m .«macroblock_type») ≡ false → length rest ≤ 0 → from-blocks ≡ planApplied s (startingPlan s m) (decoding noneCoded .coefficients)
-    unfolding symbolsApplied
+    unfolding symbolsAppliedRefusing
     predicted inter none = go rest none
       where
         go : (bytes : List ℕ) → length bytes ≤ 0 → parsedApplied q s (macroblockWithSymbols (s .slice .dc) m bytes) ≡ planApplied s (startingPlan s m) (decoding noneCoded .coefficients)

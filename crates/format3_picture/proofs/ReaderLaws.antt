@@ -20,7 +20,7 @@ use Rattle.format3_picture.specs.State.{startState}
 use Rattle.format3_picture.specs.declared.state.PictureState.{PictureState}
 use Rattle.format3_picture.specs.Reconstruction.{macroblocksMadeFrom, macroblocksOf, reconstruction}
 use Rattle.format3_picture.specs.MacroblockRecord.{withApplied}
-use Rattle.format3_picture.specs.Picture.{Answered, refusedAt, endAnswer, answeredBy, followed, recordsFrom, recordsAfter, symbolsOf}
+use Rattle.format3_picture.specs.Picture.{Answered, refusedAt, endAnswer, answeredBy, followed, recordsFrom, recordsFromRefusing, recordsAfter, symbolsOf}
 use Rattle.format3_picture.specs.Requires.{LentLengths, Invariant}
 use Rattle.format3_picture.specs.Step.{stepAt}
 use Rattle.format3_picture.specs.Symbols.{symbolAt}
@@ -32,13 +32,13 @@ use Rattle.format3_picture.proofs.SymbolLaws.{madeOf, matrices-stay, ma
 -- ---- the records from an offset on, by the result of the first one
 module _ (file : List ℕ) (at : ℕ) (s : PictureState) (q : Matrices) where
   pub none-left : (n : ℕ) → length file ≤ at → recordsFrom file n at s q ≡ answeredBy (endAnswer (length file) s) q
-  unfolding recordsFrom
+  unfolding recordsFromRefusing
   none-left zero h = refl
   none-left (suc n) h = rw (le-leb (length file) at h)
 
   one-step : (n : ℕ) → at < length file → let t = stepAt file at s q in
       recordsFrom file (suc n) at s q ≡ followed (t .applied .verdict) (λ refusal. answeredBy (refusedAt refusal at (s .made)) q) (symbolAt file at s) (recordsFrom file n (t .end) (t .applied .state) (t .matrices))
-  unfolding recordsFrom
+  unfolding recordsFromRefusing
   one-step n h = rw (lt-leb (length file) at h)
 
   pub first-refused : {refusal : Refusal} (n : ℕ) → length file - at ≤ n → at < length file → stepAt file at s q .applied .verdict ≡ Refused refusal

@@ -7,13 +7,12 @@ use native.Mathlib.Omega.{arith}
 use lib.Dec.{T, eqb, eqb→eq}
 use lib.ListN.{length, take, drop}
 use Rattle.refusals.specs.declared.Refusal.{Refusal}
-use Rattle.refusals.proofs.Laws.{ofRecord}
+use Rattle.refusals.specs.declared.Refusal.the-variants.{BackwardVectorOutside}
 use Rattle.symbols.specs.Parsed.{Parsed, parsed, refused}
 use Rattle.symbols.specs.declared.slice.SliceHeader.{SliceHeader}
 use Rattle.symbols.specs.Macroblock.{Macroblock}
 use Rattle.symbols.proofs.Guard.{require-all}
 use Rattle.symbols.proofs.Parsed.{All, here}
-use Rattle.symbols.proofs.Refusals.{OfRecord, refused-by}
 use Rattle.decode_coefficients.specs.declared.matrices.Matrices.{Matrices}
 use Rattle.decode_macroblock.specs.declared.fit.Fit.{Fit}
 use Rattle.decode_macroblock.specs.declared.fit.Fit.the-variants.{Fits, Forward, Backward}
@@ -34,10 +33,9 @@ use Rattle.format3_macroblock.proofs.Laws.Slice.{slice-legal}
 use Rattle.format3_macroblock.proofs.Laws.Macroblock.{MacroblockLegal, macroblock-legal}
 use Rattle.format3_picture.specs.declared.state.PictureState.{PictureState}
 use Rattle.format3_picture.specs.Reconstruction.{planFor, coefficientsFor}
-use Rattle.format3_picture.specs.MacroblockRecord.{Applied, contextOf, refusedRecord, recordFit, stateAfter, planApplied, symbolsApplied, parsedApplied, macroblockApplied}
-use Rattle.format3_picture.specs.Step.{passedRecord, withMatrix, matrixApplied, withSlice, sliceStarted, sliceStartedFrom, sliceApplied, recordApplied, matricesAfter, RecordStep, stepWith, stepAt}
+use Rattle.format3_picture.specs.MacroblockRecord.{Applied, contextOf, refusedRecord, recordFit, stateAfter, planApplied, planAppliedRefusing, symbolsAppliedRefusing, parsedApplied, macroblockApplied}
+use Rattle.format3_picture.specs.Step.{passedRecord, withMatrix, matrixApplied, withSlice, sliceStarted, sliceStartedFrom, sliceApplied, recordApplied, recordAppliedRefusing, matricesAfter, RecordStep, stepOverRefusing, stepAt, stepAtRefusing}
 use Rattle.format3_picture.specs.Symbols.{Symbol, starts, continues, none, sliceSymbol, macroblockSymbol, symbolOf, symbolAt}
-use Rattle.format3_picture.proofs.RefusalLaws.{of-slice, of-macroblock, VerdictOf, of-matrix, FoundOf, of-found}
 
 -- a record whose macroblocks fit
 abbrev pub madeRecord : Matrices → PictureState → Macroblock → Applied
@@ -51,7 +49,7 @@ madeRecord q s m =
 
 -- the outcomes of a record: the symbol that it gives, and its result
 pub data StepCases (q : Matrices) (s : PictureState) : Symbol → RecordStep → Type 0 where
-  refuses : {symbol : Symbol} {after : Matrices} {end : ℕ} (refusal : Refusal) → T (ofRecord refusal) → StepCases q s symbol (record { applied = refusedRecord refusal s; matrices = after; end = end })
+  refuses : {symbol : Symbol} {after : Matrices} {end : ℕ} (refusal : Refusal) → StepCases q s symbol (record { applied = refusedRecord refusal s; matrices = after; end = end })
   matrix-passes : {after : Matrices} {end : ℕ} → inTurn (s .turn) matrixKind ≡ true → (body : List ℕ) → StepCases q s none (record { applied = passedRecord (withMatrix s body); matrices = after; end = end })
   slice-starts : {end : ℕ} → inTurn (s .turn) sliceKind ≡ true → (header : SliceHeader) → legalScale (header .scale) ≡ true → header .start ≡ s .next
       → StepCases q s (starts header) (record { applied = passedRecord (withSlice s (header .scale)); matrices = q; end = end })
@@ -64,47 +62,49 @@ module _ (q : Matrices) (s : PictureState) (end : ℕ) where
 
   matrix-way : inTurn (s .turn) matrixKind ≡ true → (body : List ℕ) (after : Matrices) → StepCases q s none (takes (matrixApplied s body) after)
   unfolding matrixApplied
-  matrix-way turn body after = go (matrixVerdict body (s .loaded)) refl (of-matrix body (s .loaded))
+  matrix-way turn body after = go (matrixVerdict body (s .loaded)) refl
     where
-      go : (v : Verdict) → matrixVerdict body (s .loaded) ≡ v → VerdictOf v → StepCases q s none (takes (matrixApplied s body) after)
-      go Passed e t = rw e (matrix-passes turn body)
-      go (Refused refusal) e t = rw e (refuses refusal t)
+      go : (v : Verdict) → matrixVerdict body (s .loaded) ≡ v → StepCases q s none (takes (matrixApplied s body) after)
+      go Passed e = rw e (matrix-passes turn body)
+      go (Refused refusal) e = rw e (refuses refusal)
 
   slice-way : inTurn (s .turn) sliceKind ≡ true → (body : List ℕ) → StepCases q s (sliceSymbol (sliceOf body)) (takes (sliceApplied s body) q)
   unfolding sliceStarted
-  slice-way turn body = go (sliceOf body) (of-slice body) (slice-legal body)
+  slice-way turn body = go (sliceOf body) (slice-legal body)
     where
-      go : (x : Parsed SliceHeader) → OfRecord x → All (λ l rest. legalScale (l .scale) ≡ true) x → StepCases q s (sliceSymbol x) (takes (sliceStartedFrom s x) q)
-      go (refused refusal) (refused-by t) l = refuses refusal t
-      go (parsed l rest) t (here legal) =
-          require-all (λ (a : Applied). StepCases q s (starts l) (takes a q)) _ _ _ (refuses _ tt) λ start.
+      go : (x : Parsed SliceHeader) → All (λ l rest. legalScale (l .scale) ≡ true) x → StepCases q s (sliceSymbol x) (takes (sliceStartedFrom s x) q)
+      go (refused refusal) l = refuses refusal
+      go (parsed l rest) (here legal) =
+          require-all (λ (a : Applied). StepCases q s (starts l) (takes a q)) _ _ _ (refuses _) λ start.
           slice-starts turn l legal (eqb→eq (l .start) (s .next) (subst T (sym start) tt))
 
   module _ (begun : s .turn ≡ Turn.Header → ⊥) where
-    fit-way : (m : Macroblock) → MacroblockLegal (contextOf s) m → StepCases q s (continues m) (takes (symbolsApplied q s m) q)
-    unfolding symbolsApplied planApplied
+    fit-way : (m : Macroblock) → MacroblockLegal (contextOf s) m → StepCases q s (continues m) (takes (planApplied s (planFor (s .header) (s .next) (s .slice) m) (coefficientsFor q (s .slice) m)) q)
+    unfolding planAppliedRefusing
     fit-way m legal = go (recordFit (s .header .size) (planFor (s .header) (s .next) (s .slice) m)) refl
       where
-        go : (f : Fit) → recordFit (s .header .size) (planFor (s .header) (s .next) (s .slice) m) ≡ f → StepCases q s (continues m) (takes (symbolsApplied q s m) q)
+        go : (f : Fit) → recordFit (s .header .size) (planFor (s .header) (s .next) (s .slice) m) ≡ f
+            → StepCases q s (continues m) (takes (planApplied s (planFor (s .header) (s .next) (s .slice) m) (coefficientsFor q (s .slice) m)) q)
         go Fits e = rw e (macroblocks-made begun m legal)
-        go Forward e = rw e (refuses _ tt)
-        go Backward e = rw e (refuses _ tt)
+        go Forward e = rw e (refuses _)
+        go Backward e = rw e (refuses _)
 
     macroblock-way : (body : List ℕ) → StepCases q s (macroblockSymbol (macroblockOf (contextOf s) body)) (takes (macroblockApplied q s body) q)
-    macroblock-way body = go (macroblockOf (contextOf s) body) (of-macroblock (contextOf s) body) (macroblock-legal (contextOf s) body)
+    unfolding symbolsAppliedRefusing
+    macroblock-way body = go (macroblockOf (contextOf s) body) (macroblock-legal (contextOf s) body)
       where
-        go : (x : Parsed Macroblock) → OfRecord x → All (λ m rest. MacroblockLegal (contextOf s) m) x → StepCases q s (macroblockSymbol x) (takes (parsedApplied q s x) q)
-        go (refused refusal) (refused-by t) l = refuses refusal t
-        go (parsed m rest) t (here legal) = fit-way m legal
+        go : (x : Parsed Macroblock) → All (λ m rest. MacroblockLegal (contextOf s) m) x → StepCases q s (macroblockSymbol x) (takes (parsedApplied q s x) q)
+        go (refused refusal) l = refuses refusal
+        go (parsed m rest) (here legal) = fit-way m legal
 
   -- after the header, only a matrix or a slice is in turn
   not-first : (turn : Turn) (kind : ℕ) → inTurn turn kind ≡ true → eqb kind matrixKind ≡ false → eqb kind sliceKind ≡ false → turn ≡ Turn.Header → ⊥
   not-first turn kind e f g h = let z : _≡_ {A = Bool} false true = rw (f, g) at (rw h at e) in subst T (sym z) tt
 
-  applied-cases : (kind : ℕ) (body : List ℕ) → StepCases q s (symbolOf s kind body) (stepWith s q kind body end)
-  unfolding recordApplied
+  applied-cases : (kind : ℕ) (body : List ℕ) → StepCases q s (symbolOf s kind body) (takes (recordApplied q s kind body) (matricesAfter kind body q))
+  unfolding recordAppliedRefusing
   applied-cases kind body =
-      require-all (λ (a : Applied). StepCases q s (symbolOf s kind body) (takes a (matricesAfter kind body q))) _ _ _ (refuses _ tt) λ turn.
+      require-all (λ (a : Applied). StepCases q s (symbolOf s kind body) (takes a (matricesAfter kind body q))) _ _ _ (refuses _) λ turn.
       by-kind turn (eqb kind matrixKind) (eqb kind sliceKind) refl refl
     where
       by-kind : inTurn (s .turn) kind ≡ true → (is-matrix is-slice : Bool) → eqb kind matrixKind ≡ is-matrix → eqb kind sliceKind ≡ is-slice
@@ -114,12 +114,12 @@ module _ (q : Matrices) (s : PictureState) (end : ℕ) where
       by-kind turn false false e f = rw (e, f) (macroblock-way (not-first (s .turn) kind turn e f) body)
 
 pub step-cases : (file : List ℕ) (at : ℕ) (s : PictureState) (q : Matrices) → StepCases q s (symbolAt file at s) (stepAt file at s q)
-unfolding stepAt symbolAt
-step-cases file at s q = go (recordOf file at) refl (of-found file at)
+unfolding stepAtRefusing symbolAt
+step-cases file at s q = go (recordOf file at) refl
   where
-    go : (r : Record) → recordOf file at ≡ r → FoundOf r → StepCases q s (symbolAt file at s) (stepAt file at s q)
-    go (Record.Refused refusal) e t = rw e (refuses refusal t)
-    go (Record.Found kind start n) e t = rw e (applied-cases q s (start + n) kind (take n (drop start file)))
+    go : (r : Record) → recordOf file at ≡ r → StepCases q s (symbolAt file at s) (stepAt file at s q)
+    go (Record.Refused refusal) e = rw e (refuses refusal)
+    go (Record.Found kind start n) e = rw e (applied-cases q s (start + n) kind (take n (drop start file)))
 
 -- ---- which records make no macroblock
 pub matrix-makes-none : (s : PictureState) (body : List ℕ) → matrixApplied s body .macroblocks ≡ []
@@ -142,24 +142,24 @@ pub refused-makes-none : (q : Matrices) (s : PictureState) (file : List ℕ) (at
 refused-makes-none q s file at refusal = go (step-cases file at s q)
   where
     go : {symbol : Symbol} {t : RecordStep} → StepCases q s symbol t → t .applied .verdict ≡ Refused refusal → t .applied .macroblocks ≡ []
-    go (refuses other t) e = refl
+    go (refuses other) e = refl
     go (matrix-passes turn body) e = refl
     go (slice-starts turn header legal start) e = refl
     go (macroblocks-made begun m legal) e = let z : _≡_ {A = ℕ} 0 1 = cc in absurd (omega arith)
 
 -- ---- a record at an offset, by what is found there
 module _ (file : List ℕ) (at : ℕ) (s : PictureState) (q : Matrices) where
-  pub step-found : {kind start n : ℕ} → recordOf file at ≡ Record.Found kind start n → stepAt file at s q ≡ stepWith s q kind (take n (drop start file)) (start + n)
-  unfolding stepAt
+  pub step-found : {kind start n : ℕ} → recordOf file at ≡ Record.Found kind start n → stepAt file at s q ≡ stepOverRefusing BackwardVectorOutside s q kind (take n (drop start file)) (start + n)
+  unfolding stepAtRefusing
   step-found e = rw e
 
   pub step-unfound : {refusal : Refusal} → recordOf file at ≡ Record.Refused refusal → stepAt file at s q ≡ record { applied = refusedRecord refusal s; matrices = q; end = at }
-  unfolding stepAt
+  unfolding stepAtRefusing
   step-unfound e = rw e
 
 -- ---- a matrix record that passes has the right length
 pub matrix-long : (q : Matrices) (s : PictureState) (body : List ℕ) → recordApplied q s matrixKind body .verdict ≡ Passed → length body ≡ 65
-unfolding recordApplied matrixApplied
+unfolding recordAppliedRefusing matrixApplied
 matrix-long q s body = require-all (λ (a : Applied). a .verdict ≡ Passed → length body ≡ 65) _ _ _ (λ e. let z : _≡_ {A = ℕ} 0 1 = cc in absurd (omega arith)) λ turn. go (matrixVerdict body (s .loaded)) refl
   where
     go : (v : Verdict) → matrixVerdict body (s .loaded) ≡ v → matrixApplied s body .verdict ≡ Passed → length body ≡ 65

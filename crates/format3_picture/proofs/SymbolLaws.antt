@@ -22,7 +22,7 @@ use Rattle.format3_records.specs.declared.verdict.Verdict.the-variants.{Passed,
 use Rattle.format3_picture.specs.State.{startState}
 use Rattle.format3_picture.specs.declared.state.PictureState.{PictureState}
 use Rattle.format3_picture.specs.Reconstruction.{macroblocksMadeFrom, macroblocksOfSlice, macroblocksOf}
-use Rattle.format3_picture.specs.Picture.{Answered, answeredBy, endAnswer, refusedAt, followed, recordsFrom, recordsAfter, symbolsOf}
+use Rattle.format3_picture.specs.Picture.{Answered, answeredBy, endAnswer, refusedAt, followed, recordsFrom, recordsFromRefusing, recordsAfter, symbolsOf}
 use Rattle.format3_picture.specs.Step.{RecordStep, stepAt}
 use Rattle.format3_picture.specs.Symbols.{Symbol, symbolAt, Gathered, putInFront}
 use Rattle.format3_picture.proofs.RecordLaws.{madeRecord, StepCases, refuses, matrix-passes, slice-starts, macroblocks-made, step-cases}
@@ -48,7 +48,7 @@ module _ (file : List ℕ) where
       → ((s : PictureState) (q : Matrices) (symbol : Symbol) (t : RecordStep) → StepCases q s symbol t → t .applied .verdict ≡ Passed
       → (rest : Answered) → P (t .applied .state) (t .matrices) rest → P s q (record { answer = rest .answer; gathered = putInFront symbol (rest .gathered) }))
       → (n at : ℕ) (s : PictureState) (q : Matrices) → P s q (recordsFrom file n at s q)
-  unfolding recordsFrom
+  unfolding recordsFromRefusing
   by-records P ends stops passes zero at s q = ends s q
   by-records P ends stops passes (suc n) at s q = over (leb (length file) at) (let t = stepAt file at s q in by-records P ends stops passes n (t .end) (t .applied .state) (t .matrices))
     where
@@ -71,7 +71,7 @@ Stays s q a = inTurn (s .turn) matrixKind ≡ false → a .gathered .matrices �
 
 pub stay : (s : PictureState) (q : Matrices) {symbol : Symbol} {t : RecordStep} → StepCases q s symbol t → t .applied .verdict ≡ Passed
     → (rest : Answered) → Stays (t .applied .state) (t .matrices) rest → inTurn (s .turn) matrixKind ≡ false → putInFront symbol (rest .gathered) .matrices ≡ q
-stay s q (refuses refusal t) v rest later e = let z : _≡_ {A = ℕ} 0 1 = cc in absurd (omega arith)
+stay s q (refuses refusal) v rest later e = let z : _≡_ {A = ℕ} 0 1 = cc in absurd (omega arith)
 stay s q (matrix-passes turn body) v rest later e = absurd (subst T (sym turn ∙ e) tt)
 stay s q (slice-starts turn header legal start) v rest later e = later refl
 stay s q (macroblocks-made begun m legal) v rest later e = later (none-after q s m)
@@ -85,7 +85,7 @@ Starts s q a = s .turn ≡ Turn.Header → a .gathered .further ≡ []
 
 start : (s : PictureState) (q : Matrices) {symbol : Symbol} {t : RecordStep} → StepCases q s symbol t → t .applied .verdict ≡ Passed
     → (rest : Answered) → Starts (t .applied .state) (t .matrices) rest → s .turn ≡ Turn.Header → putInFront symbol (rest .gathered) .further ≡ []
-start s q (refuses refusal t) v rest later e = let z : _≡_ {A = ℕ} 0 1 = cc in absurd (omega arith)
+start s q (refuses refusal) v rest later e = let z : _≡_ {A = ℕ} 0 1 = cc in absurd (omega arith)
 start s q (matrix-passes turn body) v rest later e = later refl
 start s q (slice-starts turn header legal begins) v rest later e = refl
 start s q (macroblocks-made begun m legal) v rest later e = absurd (begun e)
@@ -98,7 +98,7 @@ pub made-next : (s : PictureState) (q : Matrices) {symbol : Symbol} {t : RecordS
     → (g : Gathered) → (inTurn (t .applied .state .turn) matrixKind ≡ false → g .matrices ≡ t .matrices)
     → madeOf s (putInFront symbol g) ≡ t .applied .macroblocks ++ madeOf (t .applied .state) g
 unfolding macroblocksMadeFrom joined
-made-next s q (refuses refusal t) v g stays = let z : _≡_ {A = ℕ} 0 1 = cc in absurd (omega arith)
+made-next s q (refuses refusal) v g stays = let z : _≡_ {A = ℕ} 0 1 = cc in absurd (omega arith)
 made-next s q (matrix-passes turn body) v g stays = refl
 made-next s q (slice-starts turn header legal begins) v g stays = rw begins
 made-next s q (macroblocks-made begun m legal) v g stays = rw (stays (none-after q s m), append-assoc)

@@ -24,7 +24,7 @@ use Rattle.format3_records.specs.declared.verdict.Verdict.{Verdict}
 use Rattle.format3_records.specs.declared.verdict.Verdict.the-variants.{Passed, Refused}
 use Rattle.format3_picture.specs.declared.state.PictureState.{PictureState}
 use Rattle.format3_picture.specs.Requires.{startingPlan}
-use Rattle.format3_picture.specs.MacroblockRecord.{outcomeOf, refusedRecord, recordFit, fitVerdict, stateAfter, planApplied, withApplied}
+use Rattle.format3_picture.specs.MacroblockRecord.{outcomeOf, refusedRecord, recordFit, fitVerdict, stateAfter, planApplied, planAppliedRefusing, withApplied}
 
 -- ---- what the tests imply
 passed-fits : (f : Fit) → fitVerdict f ≡ Passed → f ≡ Fits
@@ -48,11 +48,11 @@ module _ (size : PictureSize) (p : Plan) where
 module _ (s : PictureState) (p : Plan) where
   module _ (c : List (List ℤ)) where
     pub misfit : {refusal : Refusal} → fitVerdict (recordFit (s .header .size) p) ≡ Refused refusal → planApplied s p c ≡ refusedRecord refusal s
-    unfolding planApplied
+    unfolding planAppliedRefusing
     misfit e = rw e
 
     pub made : fitVerdict (recordFit (s .header .size) p) ≡ Passed → planApplied s p c ≡ record { verdict = Passed; state = stateAfter s p; macroblocks = macroblocksOfPlan p c }
-    unfolding planApplied
+    unfolding planAppliedRefusing
     made e = rw e
 
   -- ---- the skipped macroblocks, then its own
@@ -71,7 +71,7 @@ module _ (s : PictureState) (p : Plan) where
           rw none-coded (λ i. withBlocks position (λ block. (block-uncoded transform r position (p .motion) c block ∙ sym (block-uncoded transform r position (p .motion) [] block)) i) 6 picture)
 
       pub any-coefficients : (c : List (List ℤ)) (picture : List ℕ) → withApplied transform r s (planApplied s p c) picture ≡ withApplied transform r s (planApplied s p []) picture
-      unfolding planApplied
+      unfolding planAppliedRefusing
       any-coefficients c picture = go (fitVerdict (recordFit (s .header .size) p)) refl
         where
           go : (v : Verdict) → fitVerdict (recordFit (s .header .size) p) ≡ v → withApplied transform r s (planApplied s p c) picture ≡ withApplied transform r s (planApplied s p []) picture
@@ -79,7 +79,7 @@ module _ (s : PictureState) (p : Plan) where
           go (Refused refusal) e = rw e
 
   pub same-outcome : (c : List (List ℤ)) → outcomeOf (planApplied s p c) ≡ outcomeOf (planApplied s p [])
-  unfolding planApplied
+  unfolding planAppliedRefusing
   same-outcome c = go (fitVerdict (recordFit (s .header .size) p)) refl
     where
       go : (v : Verdict) → fitVerdict (recordFit (s .header .size) p) ≡ v → outcomeOf (planApplied s p c) ≡ outcomeOf (planApplied s p [])

@@ -1,10 +1,10 @@
--- What a macroblock record does (document 01, kind 4 and refusal 18).
+-- What a macroblock record does (document 01, kind 4 and refusal 18; request No. 1, refusal 23).
 use mathlib.Core.List.{List, []}
 use Prim.Native.Nat.{ℕ, _+_}
 use lib.Dec.{eqb}
 use lib.IntN.{ℤ}
 use Rattle.refusals.specs.declared.Refusal.{Refusal}
-use Rattle.refusals.specs.declared.Refusal.the-variants.{VectorOutside}
+use Rattle.refusals.specs.declared.Refusal.the-variants.{ForwardVectorOutside, BackwardVectorOutside}
 use Rattle.symbols.specs.Parsed.{Parsed, parsed, refused}
 use Rattle.symbols.specs.Size.{macroblockCount}
 use Rattle.symbols.specs.declared.size.PictureSize.{PictureSize}
@@ -53,14 +53,9 @@ pub record Applied : Type 0 where
 abbrev pub refusedRecord : Refusal → PictureState → Applied
 refusedRecord refusal s = record { verdict = Refused refusal; state = s; macroblocks = [] }
 
--- "Last 18: skipped macroblocks in order, then its own, forward before backward"
+-- "Last 18: skipped macroblocks in order, then its own, forward before backward"; request No. 1: "Place and order stay"
 unfoldable pub recordFit : PictureSize → Plan → Fit
 recordFit size p = orElse (firstMisfit size (p .first) (p .skipped) (p .«skip_motion»)) (fitOf size (p .address) (p .motion))
-
-abbrev pub fitVerdict : Fit → Verdict
-fitVerdict Fits = Passed
-fitVerdict Forward = Refused VectorOutside
-fitVerdict Backward = Refused VectorOutside
 
 -- the state after the record's macroblocks are made
 abbrev pub stateAfter : PictureState → Plan → PictureState
@@ -73,25 +68,46 @@ stateAfter s p = record {
   slice = p .slice;
 }
 
--- if every macroblock of the record fits, all are made; otherwise the record is refused and makes none
-unfoldable pub planApplied : PictureState → Plan → List (List ℤ) → Applied
-planApplied s p coefficients = go (fitVerdict (recordFit (s .header .size) p))
-  where
-    go : Verdict → Applied
-    go Passed = record { verdict = Passed; state = stateAfter s p; macroblocks = macroblocksOfPlan p coefficients }
-    go (Refused refusal) = refusedRecord refusal s
+-- ---- with any refusal for a backward misfit, so that a theorem can say what depends on it (`Refusing`); then the reader's
+module _ (backwardRefusal : Refusal) where
+  -- request No. 1: "18 speaks of the forward vector alone"
+  abbrev pub fitVerdictRefusing : Fit → Verdict
+  fitVerdictRefusing Fits = Passed
+  fitVerdictRefusing Forward = Refused ForwardVectorOutside
+  fitVerdictRefusing Backward = Refused backwardRefusal
 
--- what a macroblock's symbols do: test that the vectors fit (18), then make the macroblocks
-unfoldable pub symbolsApplied : Matrices → PictureState → Macroblock → Applied
-symbolsApplied q s m = planApplied s (planFor (s .header) (s .next) (s .slice) m) (coefficientsFor q (s .slice) m)
+  -- if every macroblock of the record fits, all are made; otherwise the record is refused and makes none
+  unfoldable pub planAppliedRefusing : PictureState → Plan → List (List ℤ) → Applied
+  planAppliedRefusing s p coefficients = go (fitVerdictRefusing (recordFit (s .header .size) p))
+    where
+      go : Verdict → Applied
+      go Passed = record { verdict = Passed; state = stateAfter s p; macroblocks = macroblocksOfPlan p coefficients }
+      go (Refused refusal) = refusedRecord refusal s
+
+  -- what a macroblock's symbols do: test that the vectors fit (18 and 23), then make the macroblocks
+  unfoldable pub symbolsAppliedRefusing : Matrices → PictureState → Macroblock → Applied
+  symbolsAppliedRefusing q s m = planAppliedRefusing s (planFor (s .header) (s .next) (s .slice) m) (coefficientsFor q (s .slice) m)
+
+  abbrev pub parsedAppliedRefusing : Matrices → PictureState → Parsed Macroblock → Applied
+  parsedAppliedRefusing q s (parsed m rest) = symbolsAppliedRefusing q s m
+  parsedAppliedRefusing q s (refused refusal) = refusedRecord refusal s
+
+  -- a macroblock record: reads and tests all its symbols, then makes its macroblocks
+  abbrev pub macroblockAppliedRefusing : Matrices → PictureState → List ℕ → Applied
+  macroblockAppliedRefusing q s body = parsedAppliedRefusing q s (macroblockOf (contextOf s) body)
+
+-- request No. 1: "23 when the backward vector doesn't fit"
+abbrev pub fitVerdict : Fit → Verdict
+fitVerdict = fitVerdictRefusing BackwardVectorOutside
+
+abbrev pub planApplied : PictureState → Plan → List (List ℤ) → Applied
+planApplied = planAppliedRefusing BackwardVectorOutside
 
 abbrev pub parsedApplied : Matrices → PictureState → Parsed Macroblock → Applied
-parsedApplied q s (parsed m rest) = symbolsApplied q s m
-parsedApplied q s (refused refusal) = refusedRecord refusal s
+parsedApplied = parsedAppliedRefusing BackwardVectorOutside
 
--- a macroblock record: reads and tests all its symbols, then makes its macroblocks
 abbrev pub macroblockApplied : Matrices → PictureState → List ℕ → Applied
-macroblockApplied q s body = parsedApplied q s (macroblockOf (contextOf s) body)
+macroblockApplied = macroblockAppliedRefusing BackwardVectorOutside
 
 -- ---- what the code answers, and what it leaves in the output
 abbrev pub outcomeOf : Applied → RecordOutcome

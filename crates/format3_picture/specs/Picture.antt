@@ -7,7 +7,7 @@ use lib.IntN.{ℤ}
 use lib.ListN.{length}
 use Rattle.refusals.specs.Refusal.{accepted, numberOf}
 use Rattle.refusals.specs.declared.Refusal.{Refusal}
-use Rattle.refusals.specs.declared.Refusal.the-variants.{FileEnds}
+use Rattle.refusals.specs.declared.Refusal.the-variants.{FileEnds, BackwardVectorOutside}
 use Rattle.symbols.specs.declared.header.Header.{Header}
 use Rattle.decode_coefficients.specs.Matrices.{defaultMatrices}
 use Rattle.decode_coefficients.specs.declared.matrices.Matrices.{Matrices}
@@ -22,7 +22,7 @@ use Rattle.format3_header.specs.declared.file_start.FileStart.the-variants as F
 use Rattle.format3_picture.specs.State.{startState}
 use Rattle.format3_picture.specs.declared.state.PictureState.{PictureState}
 use Rattle.format3_picture.specs.Reconstruction.{Symbols, reconstruction}
-use Rattle.format3_picture.specs.Step.{stepAt}
+use Rattle.format3_picture.specs.Step.{stepAtRefusing}
 use Rattle.format3_picture.specs.Symbols.{Symbol, symbolAt, Gathered, noneGathered, putInFront}
 use Rattle.format3_picture.specs.declared.reader.Answer.{Answer}
 
@@ -56,23 +56,10 @@ abbrev pub followed : Verdict → (Refusal → Answered) → Symbol → Answered
 followed (Refused refusal) stop symbol rest = stop refusal
 followed Passed stop symbol rest = record { answer = rest .answer; gathered = putInFront symbol (rest .gathered) }
 
--- the records from an offset on, in sequence; n is at least their number. The first refusal decides
-unfoldable pub recordsFrom : List ℕ → ℕ → ℕ → PictureState → Matrices → Answered
-recordsFrom file zero at s q = answeredBy (endAnswer (length file) s) q
-recordsFrom file (suc n) at s q =
-    cond (leb (length file) at) (answeredBy (endAnswer (length file) s) q)
-    (let t = stepAt file at s q in
-    followed (t .applied .verdict) (λ refusal. answeredBy (refusedAt refusal at (s .made)) q) (symbolAt file at s)
-    (recordsFrom file n (t .end) (t .applied .state) (t .matrices)))
-
--- all records after a header that ends at this offset
-abbrev pub recordsAfter : List ℕ → Header → ℕ → Answered
-recordsAfter file h end = recordsFrom file (length file) end (startState h) defaultMatrices
-
--- the symbols of the records that pass: of all records if the file is accepted, otherwise of those before the refused one.
+-- the symbols that are gathered: of all records if the file is accepted, otherwise of those before the refused one.
 -- "a macroblock needs a slice" (5), so none is left over in `further`
-abbrev pub symbolsOf : List ℕ → Header → ℕ → Symbols
-symbolsOf file h end = let g = recordsAfter file h end .gathered in record { matrices = g .matrices; slices = g .slices }
+abbrev pub symbolsIn : Answered → Symbols
+symbolsIn a = record { matrices = a .gathered .matrices; slices = a .gathered .slices }
 
 -- the answer, with the output
 pub record Picture : Type 0 where
@@ -84,13 +71,42 @@ pub record Picture : Type 0 where
 abbrev pub withOutput : Answer → List ℕ → Picture
 withOutput a output = record { number = a .number; place = a .place; made = a .made; output = output }
 
--- the whole definition, for any inverse transform: the answer, and what 2.4.4 makes of the symbols in the lent output
-unfoldable pub pictureOf : (List ℤ → ℕ → ℤ) → List ℕ → List ℕ → List ℕ → List ℕ → Picture
-pictureOf transform file forward backward output = go (fileStartOf file (length output) (length forward) (length backward))
-  where
-    go : FileStart → Picture
-    go (FileStart.Refused refusal place) = withOutput (refusedAt refusal place 0) output
-    go (FileStart.HeaderRead h end) = withOutput (recordsAfter file h end .answer) (reconstruction transform (references forward backward) h (symbolsOf file h end) output)
+-- ---- with any refusal for a backward misfit; then the reader's
+module _ (backwardRefusal : Refusal) where
+  -- the records from an offset on, in sequence; n is at least their number. The first refusal decides
+  unfoldable pub recordsFromRefusing : List ℕ → ℕ → ℕ → PictureState → Matrices → Answered
+  recordsFromRefusing file zero at s q = answeredBy (endAnswer (length file) s) q
+  recordsFromRefusing file (suc n) at s q =
+      cond (leb (length file) at) (answeredBy (endAnswer (length file) s) q)
+      (let t = stepAtRefusing backwardRefusal file at s q in
+      followed (t .applied .verdict) (λ refusal. answeredBy (refusedAt refusal at (s .made)) q) (symbolAt file at s)
+      (recordsFromRefusing file n (t .end) (t .applied .state) (t .matrices)))
+
+  -- all records after a header that ends at this offset
+  abbrev pub recordsAfterRefusing : List ℕ → Header → ℕ → Answered
+  recordsAfterRefusing file h end = recordsFromRefusing file (length file) end (startState h) defaultMatrices
+
+  -- the whole definition, for any inverse transform: the answer, and what 2.4.4 makes of the symbols in the lent output
+  unfoldable pub pictureRefusing : (List ℤ → ℕ → ℤ) → List ℕ → List ℕ → List ℕ → List ℕ → Picture
+  pictureRefusing transform file forward backward output = go (fileStartOf file (length output) (length forward) (length backward))
+    where
+      go : FileStart → Picture
+      go (FileStart.Refused refusal place) = withOutput (refusedAt refusal place 0) output
+      go (FileStart.HeaderRead h end) =
+          let a = recordsAfterRefusing file h end in
+          withOutput (a .answer) (reconstruction transform (references forward backward) h (symbolsIn a) output)
+
+abbrev pub recordsFrom : List ℕ → ℕ → ℕ → PictureState → Matrices → Answered
+recordsFrom = recordsFromRefusing BackwardVectorOutside
+
+abbrev pub recordsAfter : List ℕ → Header → ℕ → Answered
+recordsAfter = recordsAfterRefusing BackwardVectorOutside
+
+abbrev pub symbolsOf : List ℕ → Header → ℕ → Symbols
+symbolsOf file h end = symbolsIn (recordsAfter file h end)
+
+abbrev pub pictureOf : (List ℤ → ℕ → ℤ) → List ℕ → List ℕ → List ℕ → List ℕ → Picture
+pictureOf = pictureRefusing BackwardVectorOutside
 
 -- the answer without the output, as the code gives it
 abbrev pub answerOf : Picture → Answer

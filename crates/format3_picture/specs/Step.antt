@@ -1,11 +1,11 @@
--- What a record does: its turn is tested, then it is applied by its kind (document 01, refusals 3 to 6 and 9 to 18).
+-- What a record does: its turn is tested, then it is applied by its kind (document 01, refusals 3 to 6 and 9 to 18; request No. 1, 23).
 use mathlib.Core.Bool.{cond, false}
 use mathlib.Core.List.{List, []}
 use Prim.Native.Nat.{ℕ, _+_}
 use lib.Dec.{eqb}
 use lib.ListN.{take, drop}
 use Rattle.refusals.specs.declared.Refusal.{Refusal}
-use Rattle.refusals.specs.declared.Refusal.the-variants.{RecordCut, OutOfTurn, SliceStart}
+use Rattle.refusals.specs.declared.Refusal.the-variants.{RecordCut, OutOfTurn, SliceStart, BackwardVectorOutside}
 use Rattle.symbols.specs.Guard.{require_else_then_}
 use Rattle.symbols.specs.Parsed.{Parsed, parsed, refused}
 use Rattle.symbols.specs.declared.slice.SliceHeader.{SliceHeader}
@@ -20,7 +20,7 @@ use Rattle.format3_records.specs.declared.verdict.Verdict.the-variants.{Passed,
 use Rattle.format3_matrices.specs.Matrix.{matrixVerdict, loadedWith, nowLoaded}
 use Rattle.format3_macroblock.specs.Slice.{sliceOf}
 use Rattle.format3_picture.specs.declared.state.PictureState.{PictureState}
-use Rattle.format3_picture.specs.MacroblockRecord.{Applied, refusedRecord, macroblockApplied}
+use Rattle.format3_picture.specs.MacroblockRecord.{Applied, refusedRecord, macroblockAppliedRefusing}
 
 -- a record that changes the state and makes no macroblock
 abbrev pub passedRecord : PictureState → Applied
@@ -68,14 +68,6 @@ sliceStartedFrom s (refused refusal) = refusedRecord refusal s
 abbrev pub sliceApplied : PictureState → List ℕ → Applied
 sliceApplied s body = sliceStartedFrom s (sliceOf body)
 
--- a record: its turn (5), then what its kind does
-unfoldable pub recordApplied : Matrices → PictureState → ℕ → List ℕ → Applied
-recordApplied q s kind body =
-    require inTurn (s .turn) kind else refusedRecord OutOfTurn s then
-    cond (eqb kind matrixKind) (matrixApplied s body)
-    (cond (eqb kind sliceKind) (sliceApplied s body)
-    (macroblockApplied q s body))
-
 -- the matrices in effect after a record that passes; after a refused one they are not used
 abbrev pub matricesAfter : ℕ → List ℕ → Matrices → Matrices
 matricesAfter kind body q = cond (eqb kind matrixKind) (loadedWith body q) q
@@ -86,16 +78,32 @@ pub record RecordStep : Type 0 where
   pub matrices : Matrices
   pub end : ℕ
 
--- a whole record with this body
-abbrev pub stepWith : PictureState → Matrices → ℕ → List ℕ → ℕ → RecordStep
-stepWith s q kind body end = record { applied = recordApplied q s kind body; matrices = matricesAfter kind body q; end = end }
+-- ---- with any refusal for a backward misfit; then the reader's
+module _ (backwardRefusal : Refusal) where
+  -- a record: its turn (5), then what its kind does
+  unfoldable pub recordAppliedRefusing : Matrices → PictureState → ℕ → List ℕ → Applied
+  recordAppliedRefusing q s kind body =
+      require inTurn (s .turn) kind else refusedRecord OutOfTurn s then
+      cond (eqb kind matrixKind) (matrixApplied s body)
+      (cond (eqb kind sliceKind) (sliceApplied s body)
+      (macroblockAppliedRefusing backwardRefusal q s body))
 
-unfoldable pub stepAt : List ℕ → ℕ → PictureState → Matrices → RecordStep
-stepAt file at s q = go (recordOf file at)
-  where
-    go : Record → RecordStep
-    go (Record.Refused refusal) = record { applied = refusedRecord refusal s; matrices = q; end = at }
-    go (Record.Found kind start n) = stepWith s q kind (take n (drop start file)) (start + n)
+  -- a whole record with this body
+  abbrev pub stepOverRefusing : PictureState → Matrices → ℕ → List ℕ → ℕ → RecordStep
+  stepOverRefusing s q kind body end = record { applied = recordAppliedRefusing q s kind body; matrices = matricesAfter kind body q; end = end }
+
+  unfoldable pub stepAtRefusing : List ℕ → ℕ → PictureState → Matrices → RecordStep
+  stepAtRefusing file at s q = go (recordOf file at)
+    where
+      go : Record → RecordStep
+      go (Record.Refused refusal) = record { applied = refusedRecord refusal s; matrices = q; end = at }
+      go (Record.Found kind start n) = stepOverRefusing s q kind (take n (drop start file)) (start + n)
+
+abbrev pub recordApplied : Matrices → PictureState → ℕ → List ℕ → Applied
+recordApplied = recordAppliedRefusing BackwardVectorOutside
+
+abbrev pub stepAt : List ℕ → ℕ → PictureState → Matrices → RecordStep
+stepAt = stepAtRefusing BackwardVectorOutside
 
 -- ---- the refusal in an answer of the code; no caller asks for it if there is none
 abbrev pub recordRefusal : Record → Refusal

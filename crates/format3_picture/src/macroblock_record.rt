@@ -85,11 +85,9 @@ fn record_fit(size: PictureSize, plan: Plan) -> Fit
 {
     let skip_motion = plan.skip_motion;
     let motion = plan.motion;
-    match fit::first_misfit(size, plan.first, plan.skipped, skip_motion) {
-        Fit::Fits => fit::fit_of(size, plan.address, motion),
-        Fit::Forward => Fit::Forward,
-        Fit::Backward => Fit::Backward,
-    }
+    let skipped = fit::first_misfit(size, plan.first, plan.skipped, skip_motion);
+    let own = fit::fit_of(size, plan.address, motion);
+    fit::or_else(skipped, own)
 }
 
 fn fit_verdict(fit: Fit) -> Verdict
@@ -97,8 +95,8 @@ fn fit_verdict(fit: Fit) -> Verdict
 {
     match fit {
         Fit::Fits => Verdict::Passed,
-        Fit::Forward => Verdict::Refused(Refusal::VectorOutside),
-        Fit::Backward => Verdict::Refused(Refusal::VectorOutside),
+        Fit::Forward => Verdict::Refused(Refusal::ForwardVectorOutside),
+        Fit::Backward => Verdict::Refused(Refusal::BackwardVectorOutside),
     }
 }
 

@@ -10,7 +10,7 @@ use Rattle.refusals.specs.declared.Refusal.{Refusal}
 use Rattle.refusals.specs.declared.Refusal.the-variants as R
 use Rattle.refusals.specs.Refusal.{accepted, numberOf}
 
--- the refusals by number; 0 and 23, which no refusal has, hold the first one
+-- the refusals by number; 0, which no refusal has, holds the first one
 byNumber : List Refusal
 byNumber =
     R.FileEmpty ∷
@@ -31,12 +31,12 @@ byNumber =
     R.Pattern ∷
     R.Coefficient ∷
     R.DcCoefficient ∷
-    R.VectorOutside ∷
+    R.ForwardVectorOutside ∷
     R.OutputLength ∷
     R.ForwardLength ∷
     R.BackwardLength ∷
     R.NumberOutOfRange ∷
-    R.FileEmpty ∷
+    R.BackwardVectorOutside ∷
     R.SliceCode ∷
     R.SliceCut ∷
     R.RecordsLength ∷
@@ -64,7 +64,8 @@ back R.VectorCode = refl
 back R.Pattern = refl
 back R.Coefficient = refl
 back R.DcCoefficient = refl
-back R.VectorOutside = refl
+back R.ForwardVectorOutside = refl
+back R.BackwardVectorOutside = refl
 back R.OutputLength = refl
 back R.ForwardLength = refl
 back R.BackwardLength = refl
@@ -85,6 +86,6 @@ never-accepted refusal e =
     let none : numberOf R.FileEmpty ≡ 0 = sym (ap numberOf first) ∙ e in
     omega arith
 
--- ---- the refusals that a record after the header can cause: 3 to 6 and 9 to 18
-abbrev pub ofRecord : Refusal → Bool
-ofRecord refusal = leb 3 (numberOf refusal) && cond (leb (numberOf refusal) 6) true (leb 9 (numberOf refusal) && leb (numberOf refusal) 18)
+-- ---- the refusals that reading a record after the header can cause: 3 to 6 and 9 to 17. Vectors that don't fit cause 18 and 23
+abbrev pub ofReading : Refusal → Bool
+ofReading refusal = leb 3 (numberOf refusal) && cond (leb (numberOf refusal) 6) true (leb 9 (numberOf refusal) && leb (numberOf refusal) 17)

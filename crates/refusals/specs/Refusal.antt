@@ -1,4 +1,4 @@
--- The refusals and their numbers (document 01, "Refusals by who can cause them", and request No. 2); no other definition holds one.
+-- The refusals and their numbers (document 01, "Refusals by who can cause them", and the requests of document 02); no other definition holds one.
 use Prim.Native.Nat.{ℕ}
 use Rattle.refusals.specs.declared.Refusal.{Refusal}
 use Rattle.refusals.specs.declared.Refusal.the-variants.{
@@ -19,7 +19,8 @@ use Rattle.refusals.specs.declared.Refusal.the-variants.{
   Pattern,
   Coefficient,
   DcCoefficient,
-  VectorOutside,
+  ForwardVectorOutside,
+  BackwardVectorOutside,
   OutputLength,
   ForwardLength,
   BackwardLength,
@@ -68,14 +69,16 @@ numberOf Pattern = 15
 numberOf Coefficient = 16
 -- a DC difference outside -255..255, or a DC outside 0..2040
 numberOf DcCoefficient = 17
--- a vector doesn't fit
-numberOf VectorOutside = 18
+-- a vector doesn't fit; request No. 1: "From now on 18 speaks of the forward vector alone"
+numberOf ForwardVectorOutside = 18
 -- the output, the forward or the backward reference has the wrong length
 numberOf OutputLength = 19
 numberOf ForwardLength = 20
 numberOf BackwardLength = 21
 -- a number out of range, given straight to the coefficient, transform or vector entry
 numberOf NumberOutOfRange = 22
+-- request No. 1: "23 when the backward vector doesn't fit"
+numberOf BackwardVectorOutside = 23
 -- request No. 2, raw slices: "24 when the bits left, however they went on, begin no code (a forbidden level is none), the row isn't in the
 -- picture, or a code takes an increment past 396 or a coefficient past position 63"
 numberOf SliceCode = 24

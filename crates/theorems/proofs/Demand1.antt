@@ -37,4 +37,4 @@ seven-missing transform file forward backward output number = record {
 }
 
 pub worked : Worked
-worked = Files.worked
+worked = Files.worked-files .0

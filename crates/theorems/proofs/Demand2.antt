@@ -7,7 +7,14 @@ use Rattle.theorems_picture.specs.Worked.{zeros}
 use Rattle.theorems.specs.Demand2.{ExactlyWhenNoneApplies, AcceptedIsReconstruction, SameAnswer, SameBytes, OutputOfSymbols, RefusedMakesSymbols, WorkedSymbols}
 
 pub accepted-exactly : ExactlyWhenNoneApplies
-accepted-exactly transform file forward backward output = (Laws.none-applies transform file forward backward output, Laws.accepted-by-none transform file forward backward output)
+accepted-exactly transform file forward backward output = (
+  (λ number. record {
+    of-document-01 = λ refusal place before other. Laws.none-applies transform file forward backward output number refusal place before;
+    added = λ refusal place before by-request. Laws.none-applies transform file forward backward output number refusal place before;
+  }),
+  (λ none. Laws.accepted-by-none transform file forward backward output (λ refusal place before a.
+      none .of-document-01 refusal place before (λ by-request. none .added refusal place before by-request a) a)),
+)
 
 pub accepted-is-reconstruction : AcceptedIsReconstruction
 accepted-is-reconstruction transform file forward backward output number =

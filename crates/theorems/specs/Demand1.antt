@@ -7,7 +7,7 @@
 -- document 01's. Two parts of the demand need no theorem: no entry has a `requires`, so each takes every input, and the checker accepts
 -- no function that may not return.
 --
--- `Applies` (crates/theorems_picture/specs/Applies.antt) says which refusal of document 01 applies to a file, at which place (a byte
+-- `Applies` (crates/theorems_picture/specs/Applies.antt) says which refusal applies to a file, at which place (a byte
 -- offset), and which macroblocks the records before it made. `ownerOf` is the address of the macroblock that a byte belongs to, and
 -- `byteOf` is the macroblock's value for the byte (crates/decode_macroblock/specs).
 use mathlib.Core.List.{List}
@@ -18,7 +18,7 @@ use lib.IntN.{ℤ}
 use lib.ListN.{length, getD}
 use Rattle.refusals.specs.Refusal.{accepted, numberOf}
 use Rattle.refusals.specs.declared.Refusal.{Refusal}
-use Rattle.refusals.specs.declared.Refusal.the-variants.{FileEnds}
+use Rattle.refusals.specs.declared.Refusal.the-variants.{FileEnds, BackwardVectorOutside}
 use Rattle.symbols.specs.Size.{macroblockCount}
 use Rattle.symbols.specs.declared.header.Header.{Header}
 use Rattle.decode_macroblock.specs.Byte.{byteOf}
@@ -36,7 +36,7 @@ KeepsLength =
     (transform : List ℤ → ℕ → ℤ) (file forward backward output : List ℕ)
     → length (pictureOf transform file forward backward output .output) ≡ length output
 
--- "either does its work or gives one of the numbered refusals": the picture is accepted, or a refusal of document 01 applies
+-- "either does its work or gives one of the numbered refusals": the picture is accepted, or a refusal applies
 abbrev pub WorkOrRefusal : Type 0
 WorkOrRefusal =
     (transform : List ℤ → ℕ → ℤ) (file forward backward output : List ℕ)
@@ -49,11 +49,11 @@ RefusalGiven =
     → Applies file forward backward output refusal place before
     → answerOf (pictureOf transform file forward backward output) ≡ refusedAt refusal place (length before)
 
--- the reader's numbers are 0 and those of the refusals 1 to 21; two refusals never share a number, and none has that of acceptance
+-- the reader's numbers are 0, document 01's refusals 1 to 21, and 23; two refusals never share a number, and none has that of acceptance
 abbrev pub NumberListed : Type 0
 NumberListed =
     (transform : List ℤ → ℕ → ℤ) (file forward backward output : List ℕ)
-    → pictureOf transform file forward backward output .number ≤ 21
+    → (pictureOf transform file forward backward output .number ≤ 21) ⊎ (pictureOf transform file forward backward output .number ≡ numberOf BackwardVectorOutside)
 
 abbrev pub NumbersDiffer : Type 0
 NumbersDiffer = (a b : Refusal) → numberOf a ≡ numberOf b → a ≡ b
@@ -95,6 +95,6 @@ SevenMissing =
     → pictureOf transform file forward backward output .number ≡ numberOf FileEnds
     → Missing transform file forward backward output
 
--- Thirty files and their answers: each refusal 1 to 21 applies to at least one of them, and two are accepted
+-- Thirty-six files and their answers: each refusal 1 to 21 and 23 applies to at least one of them, and two are accepted
 abbrev pub Worked : Type 0
 Worked = answers cases ≡ expectations cases

@@ -6,7 +6,7 @@
 -- `pictureOf` with document 01's.
 -- `symbolsOf` has the symbols and matrices that a file's records give, and `reconstruction`
 -- (crates/format3_picture/specs/Reconstruction.antt) is what clause 2.4.4 makes of them: no byte of the file occurs in it.
--- No later request has added a refusal to the reader.
+-- Request No. 1 has added a refusal to the reader, 23 (Request1.antt).
 use mathlib.Core.List.{List, []}
 use mathlib.Core.Logic.{_↔_}
 use mathlib.Core.Path.{_≡_}
@@ -15,6 +15,7 @@ use lib.IntN.{ℤ}
 use lib.ListN.{length, getD, replicate}
 use Rattle.refusals.specs.Refusal.{accepted}
 use Rattle.refusals.specs.declared.Refusal.{Refusal}
+use Rattle.refusals.specs.declared.Refusal.the-variants.{BackwardVectorOutside}
 use Rattle.symbols.specs.Size.{macroblockCount}
 use Rattle.symbols.specs.declared.header.Header.{Header}
 use Rattle.decode_macroblock.specs.Byte.{byteOf}
@@ -27,12 +28,20 @@ use Rattle.format3_picture.specs.Reconstruction.{macroblocksOf, reconstruction}
 use Rattle.theorems_picture.specs.Applies.{Reached, Passing, fileStart, Applies}
 use Rattle.theorems_picture.specs.Worked.{twoSlices, twoWide, twoSlicesSymbols}
 
--- "it is accepted exactly when no refusal of document 01 applies"
+-- the refusals that requests have added to the reading of a picture: 23, by No. 1
+abbrev pub AddedByRequest : Refusal → Type 0
+AddedByRequest refusal = refusal ≡ BackwardVectorOutside
+
+-- "no refusal of document 01 applies, nor one that a later request adds to its reading", at any place and after any macroblocks
+pub record NoneApplies (file forward backward output : List ℕ) : Type 0 where
+  pub of-document-01 : (refusal : Refusal) (place : ℕ) (before : List MadeMacroblock) → ¬ AddedByRequest refusal → ¬ Applies file forward backward output refusal place before
+  pub added : (refusal : Refusal) (place : ℕ) (before : List MadeMacroblock) → AddedByRequest refusal → ¬ Applies file forward backward output refusal place before
+
+-- "it is accepted exactly when no refusal of document 01 applies, nor one that a later request adds to its reading"
 abbrev pub ExactlyWhenNoneApplies : Type 0
 ExactlyWhenNoneApplies =
     (transform : List ℤ → ℕ → ℤ) (file forward backward output : List ℕ)
-    → (pictureOf transform file forward backward output .number ≡ accepted)
-    ↔ ((refusal : Refusal) (place : ℕ) (before : List MadeMacroblock) → ¬ Applies file forward backward output refusal place before)
+    → (pictureOf transform file forward backward output .number ≡ accepted) ↔ NoneApplies file forward backward output
 
 -- "A picture that is accepted equals, byte for byte, the one that .. clause 2.4.4 defines for those symbols, matrices and reference pictures"
 pub record AcceptedPicture (transform : List ℤ → ℕ → ℤ) (file forward backward output : List ℕ) : Type 0 where

@@ -1,7 +1,8 @@
 -- Demand 1 of a picture: what the lent output holds, and the numbers that are given. Assumes nothing.
 use mathlib.Core.Bool.{Bool, true, false, cond}
 use mathlib.Core.List.{List}
-use mathlib.Core.Path.{_≡_, refl, sym, _∙_, subst}
+use mathlib.Core.Logic.{_⊎_, inl, inr}
+use mathlib.Core.Path.{_≡_, refl, sym, ap, _∙_, subst}
 use Prim.Native.Nat.{ℕ, _≤_, _<_}
 use native.Mathlib.Omega.{arith}
 use lib.Dec.{lit≤}
@@ -9,7 +10,7 @@ use lib.IntN.{ℤ}
 use lib.ListN.{length, getD}
 use Rattle.refusals.specs.Refusal.{accepted, numberOf}
 use Rattle.refusals.specs.declared.Refusal.{Refusal}
-use Rattle.refusals.specs.declared.Refusal.the-variants.{FileEnds}
+use Rattle.refusals.specs.declared.Refusal.the-variants.{FileEnds, BackwardVectorOutside}
 use Rattle.symbols.specs.Pattern.{isCoded}
 use Rattle.symbols.specs.Size.{macroblockCount}
 use Rattle.symbols.specs.declared.header.Header.{Header}
@@ -23,27 +24,43 @@ use Rattle.format3_header.specs.declared.file_start.FileStart.{FileStart}
 use Rattle.format3_header.specs.declared.file_start.FileStart.the-variants as FileStart
 use Rattle.format3_picture.specs.Picture.{Picture, isComplete, withOutput, symbolsOf, pictureOf}
 use Rattle.format3_picture.specs.Reconstruction.{macroblocksOf}
-use Rattle.format3_picture.specs.Step.{RecordStep}
-use Rattle.format3_picture.specs.Symbols.{Symbol}
-use Rattle.format3_picture.proofs.RecordLaws.{StepCases, refuses, matrix-passes, slice-starts, macroblocks-made, step-cases}
-use Rattle.format3_picture.proofs.RefusalLaws.{VerdictOf}
 use Rattle.format3_picture.proofs.PictureLaws.{no-header, header-read-is, header-read-byte, header-read-long}
 use Rattle.format3_picture.proofs.StartLaws.{Started, header-read}
 use Rattle.theorems_accuracy.specs.ExactSum.{CoefficientsInRange}
 use Rattle.theorems_picture.specs.Applies.{Reached, verdictAt, Passing, fileStart, Applies, to-start, to-record, to-end}
 use Rattle.theorems_picture.proofs.AmongLaws.{each-map, order-count, among-own, among-others}
-use Rattle.theorems_picture.proofs.FileStartLaws.{Other, of-record, StartListed, start-listed}
+use Rattle.theorems_picture.proofs.DecidingLaws.{RefusedByVector, why-refused, OfVector, refused-of}
+use Rattle.theorems_picture.proofs.FileStartLaws.{NeitherEndNorVector, StartListed, start-listed}
 use Rattle.theorems_picture.proofs.PassingLaws.{Stands, stands, Stop, at-record, at-end, answerAt, stops, stopped}
 
+-- the numbers of the reader: up to 21, and 23
+abbrev pub Listed : ℕ → Type 0
+Listed n = (n ≤ 21) ⊎ (n ≡ numberOf BackwardVectorOutside)
+
 -- a record is refused by a listed refusal that is not 7
-pub record-other : (file : List ℕ) (r : Reached) {refusal : Refusal} → verdictAt file r ≡ Refused refusal → Other refusal
-record-other file r {refusal} v = of-record refusal (subst VerdictOf v (go (step-cases file (r .offset) (r .state) (r .matrices))))
-  where
-    go : {symbol : Symbol} {t : RecordStep} → StepCases (r .matrices) (r .state) symbol t → VerdictOf (t .applied .verdict)
-    go (refuses other t) = t
-    go (matrix-passes turn body) = tt
-    go (slice-starts turn header legal start) = tt
-    go (macroblocks-made begun m legal) = tt
+module _ (file : List ℕ) (r : Reached) {refusal : Refusal} (v : verdictAt file r ≡ Refused refusal) where
+  why : NeitherEndNorVector refusal ⊎ OfVector refusal
+  why = go (why-refused file (r .offset) (r .state) (r .matrices) refusal v)
+    where
+      go : NeitherEndNorVector refusal ⊎ RefusedByVector file (r .offset) (r .state) (r .matrices) refusal → NeitherEndNorVector refusal ⊎ OfVector refusal
+      go (inl neither) = inl neither
+      go (inr vector) = inr (refused-of vector)
+
+  pub record-listed : Listed (numberOf refusal)
+  record-listed = go why
+    where
+      go : NeitherEndNorVector refusal ⊎ OfVector refusal → Listed (numberOf refusal)
+      go (inl neither) = inl (neither .is-listed)
+      go (inr (inl e)) = inl (subst (λ (n : ℕ). n ≤ 21) (sym (ap numberOf e)) (lit≤ tt))
+      go (inr (inr e)) = inr (ap numberOf e)
+
+  pub record-not-end : numberOf refusal ≡ numberOf FileEnds → ⊥
+  record-not-end seven = go why
+    where
+      go : NeitherEndNorVector refusal ⊎ OfVector refusal → ⊥
+      go (inl neither) = neither .not-end seven
+      go (inr (inl e)) = omega (arith, seven, ap numberOf e)
+      go (inr (inr e)) = omega (arith, seven, ap numberOf e)
 
 module _ (transform : List ℤ → ℕ → ℤ) (file forward backward output : List ℕ) where
   abbrev picture : Picture
@@ -77,18 +94,18 @@ module _ (transform : List ℤ → ℕ → ℤ) (file forward backward output : 
           header-read-is transform file forward backward output e
           ∙ (λ i. withOutput (ends .answer i) (withMacroblocks transform (references forward backward) (h .size) (ends .macroblocks i) output))
 
-      stopped-listed : Stop file h end r → picture .number ≤ 21
+      stopped-listed : Stop file h end r → Listed (picture .number)
       stopped-listed s = rw (stopped-is s) (by-stop s)
         where
-          by-stop : (x : Stop file h end r) → answerAt file h end x .number ≤ 21
-          by-stop (at-record inside refusal v) = record-other file r v .is-listed
+          by-stop : (x : Stop file h end r) → Listed (answerAt file h end x .number)
+          by-stop (at-record inside refusal v) = record-listed file r v
           by-stop (at-end past) = go (isComplete (r .state .turn))
             where
-              go : (complete : Bool) → cond complete accepted (numberOf FileEnds) ≤ 21
-              go true = lit≤ tt
-              go false = lit≤ tt
+              go : (complete : Bool) → Listed (cond complete accepted (numberOf FileEnds))
+              go true = inl (lit≤ tt)
+              go false = inl (lit≤ tt)
 
-    header-read-listed : picture .number ≤ 21
+    header-read-listed : Listed (picture .number)
     header-read-listed = let s = stopped file h end in stopped-listed (s .passing) (s .stop)
 
     -- ---- its bytes, by the macroblocks of its symbols
@@ -116,15 +133,15 @@ module _ (transform : List ℤ → ℕ → ℤ) (file forward backward output : 
   keeps (FileStart.Refused refusal place) e = rw (no-header transform file forward backward output e)
   keeps (FileStart.HeaderRead h end) e = header-read-long transform file forward backward output e
 
-  listed : (x : FileStart) → fileStart file forward backward output ≡ x → StartListed file x → picture .number ≤ 21
-  listed (FileStart.Refused refusal place) e p = rw (no-header transform file forward backward output e) (p .is-listed)
+  listed : (x : FileStart) → fileStart file forward backward output ≡ x → StartListed file x → Listed (picture .number)
+  listed (FileStart.Refused refusal place) e p = rw (no-header transform file forward backward output e) (inl (p .is-listed))
   listed (FileStart.HeaderRead h end) e p = header-read-listed e
 
-  -- ---- the lent memory keeps its length, and the numbers are 0 to 21
+  -- ---- the lent memory keeps its length, and the numbers are 0 to 21 and 23
   pub keeps-length : length (picture .output) ≡ length output
   keeps-length = keeps _ refl
 
-  pub number-listed : picture .number ≤ 21
+  pub number-listed : Listed (picture .number)
   number-listed = listed _ refl (start-listed file (length output) (length forward) (length backward))
 
   -- ---- a refusal applies

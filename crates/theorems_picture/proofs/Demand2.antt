@@ -26,7 +26,7 @@ use Rattle.format3_picture.specs.Reconstruction.{macroblocksOf, reconstruction}
 use Rattle.format3_picture.specs.declared.reader.Answer.{Answer}
 use Rattle.format3_picture.proofs.PictureLaws.{no-header, header-read-is}
 use Rattle.theorems_picture.specs.Applies.{Reached, Passing, fileStart, Applies, to-start, to-record, to-end, AppliesTo}
-use Rattle.theorems_picture.proofs.Demand1.{record-other, start, stands-at, made-few, made-count, in-order, stopped-is}
+use Rattle.theorems_picture.proofs.Demand1.{record-not-end, start, stands-at, made-few, made-count, in-order, stopped-is}
 use Rattle.theorems_picture.proofs.FileStartLaws.{StartListed, start-listed}
 use Rattle.theorems_picture.proofs.PassingLaws.{Stands, Stop, at-record, at-end, stops, stopped}
 
@@ -148,7 +148,7 @@ module _ (transform : List ℤ → ℕ → ℤ) (file forward backward output : 
     where
       given : {refusal : Refusal} {place : ℕ} {before : List MadeMacroblock} → Applies file forward backward output refusal place before → numberOf refusal ≡ numberOf FileEnds → place ≡ length file
       given (to-start refusal place e) n = subst (StartListed file) e (start-listed file (length output) (length forward) (length backward)) .at-end n
-      given (to-record h end e r passing inside refusal v) n = absurd (record-other file r v .not-seven n)
+      given (to-record h end e r passing inside refusal v) n = absurd (record-not-end file r v n)
       given (to-end h end e r passing past missing) n = refl
 
       go : Decided → picture .place ≡ length file
@@ -162,7 +162,7 @@ module _ (transform : List ℤ → ℕ → ℤ) (file forward backward output : 
     where
       given : {refusal : Refusal} {place : ℕ} {before : List MadeMacroblock} → Applies file forward backward output refusal place before → numberOf refusal ≡ numberOf FileEnds → length before < macroblockCount (g .size)
       given (to-start refusal place e) n = let z : _≡_ {A = ℕ} 0 1 = cc in absurd (omega arith)
-      given (to-record h end e r passing inside refusal v) n = absurd (record-other file r v .not-seven n)
+      given (to-record h end e r passing inside refusal v) n = absurd (record-not-end file r v n)
       given (to-end h end e r passing past missing) n =
           let same : _≡_ {A = Header} h g = cc in
           subst (λ (k : Header). length (r .macroblocks) < macroblockCount (k .size)) same (omega (arith, missing, made-count transform file forward backward output e passing))

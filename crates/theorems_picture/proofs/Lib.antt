@@ -1,7 +1,12 @@
 pub mod AmongLaws
+pub mod RefusalLaws
 pub mod PassingLaws
 pub mod FileStartLaws
+pub mod DecidingLaws
 pub mod HeaderLaws
 pub mod Demand1
 pub mod Demand2
+pub mod AnyRefusalLaws
+pub mod MisfitLaws
+pub mod Request1
 pub mod Worked

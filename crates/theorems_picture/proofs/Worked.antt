@@ -4,6 +4,7 @@ use mathlib.Core.Path.{_≡_, refl}
 use lib.ListN.{replicate}
 use Rattle.math.specs.Test.{allBelow}
 use Rattle.refusals.specs.Refusal.{accepted}
+use Rattle.refusals.specs.declared.Refusal.the-variants.{ForwardVectorOutside}
 use Rattle.symbols.specs.Guard.{require_else_then_}
 use Rattle.symbols.specs.Size.{legalSize}
 use Rattle.symbols.specs.Header.{typeI, legalCodings, legalHeader, headerWith}
@@ -13,8 +14,8 @@ use Rattle.decode_coefficients.specs.Dc.{dcPastOf, withDcPast, startingDcPasts}
 use Rattle.decode_vectors.specs.Vector.{vectorDifferenceOf as vectorDifference, wrapped, vectorOf, codeInRange, residualInRange}
 use Rattle.decode_prediction.specs.Fit.{vectorFits, macroblockFits}
 use Rattle.decode_macroblock.specs.Fit.{directionFits, fitOf, firstMisfit}
-use Rattle.decode_state.specs.Plan.{planOf}
-use Rattle.decode_state.specs.Vectors.{vectorPastsBefore, forwardAfter, vectorPastsAfter, predictsForward, predictsBackward, ownMotion, nextVectorPasts}
+use Rattle.decode_state.specs.Plan.{skipMotion, planOf}
+use Rattle.decode_state.specs.Vectors.{vectorPastsBefore, forwardAfter, backwardAfter, vectorPastsAfter, predictsForward, predictsBackward, ownMotion, nextVectorPasts}
 use Rattle.format3_records.specs.Field.{twosComplement, byte, twoBytes, signedByte, signedTwoBytes}
 use Rattle.format3_records.specs.Record.{recordLengthAt, kindAt, recordOf}
 use Rattle.format3_header.specs.Header.{headerOf}
@@ -29,25 +30,26 @@ use Rattle.format3_macroblock.specs.MacroblockHead.{legalIncrement, headOf}
 use Rattle.format3_macroblock.specs.VectorCodes.{vectorCodeOf, vectorCodesOf}
 use Rattle.format3_macroblock.specs.Macroblock.{patternOf, macroblockSymbolsOf as macroblockSymbols, blocksToEndOf, macroblockOf}
 use Rattle.format3_macroblock.specs.Vectors.{vectorsOf}
-use Rattle.format3_picture.specs.MacroblockRecord.{recordFit, planApplied, symbolsApplied}
-use Rattle.format3_picture.specs.Picture.{recordsFrom, symbolsOf, pictureOf}
-use Rattle.format3_picture.specs.Step.{matrixApplied, sliceStarted, recordApplied, stepAt}
+use Rattle.format3_picture.specs.MacroblockRecord.{recordFit, planAppliedRefusing, symbolsAppliedRefusing}
+use Rattle.format3_picture.specs.Picture.{recordsFromRefusing, symbolsOf, pictureRefusing}
+use Rattle.format3_picture.specs.Step.{matrixApplied, sliceStarted, recordAppliedRefusing, stepAtRefusing}
 use Rattle.format3_picture.specs.Symbols.{symbolAt}
 use Rattle.theorems_picture.specs.Applies.{fileStart}
-use Rattle.theorems_picture.specs.Worked.{cases, answers, expectations, twoSlices, twoWide, twoSlicesSymbols}
+use Rattle.theorems_picture.specs.Worked.{misfits, cases, answersWith, answers, expectations, expectationsBefore, twoSlices, twoWide, twoSlicesSymbols}
 
-pub worked : answers cases ≡ expectations cases
-unfolding symbolAt allBelow require_else_then_ vectorFits macroblockFits vectorDifference wrapped vectorOf codeInRange residualInRange twosComplement byte twoBytes signedByte signedTwoBytes recordLengthAt kindAt recordOf legalSize legalCodings legalHeader headerWith headerOf lentLengths firstHeader fileStartOf positive matrixVerdict scaleOf sliceFieldsOf sliceOf legalType legalIncrement headOf vectorCodeOf vectorCodesOf pairsOf legalDifference legalDc differenceOf legalCount countOf levelsOf blockOf dcPastOf withDcPast isCoded blocksOf patternOf macroblockSymbols startingDcPasts blocksToEndOf macroblockOf vectorsOf directionFits fitOf firstMisfit planOf vectorPastsBefore forwardAfter vectorPastsAfter predictsForward predictsBackward ownMotion nextVectorPasts recordFit planApplied symbolsApplied recordsFrom pictureOf matrixApplied sliceStarted recordApplied stepAt
-worked = refl
+-- all of them, those of a B picture alone, and the latter with 18 for a backward misfit
+pub worked-files : (answers cases ≡ expectations cases) × (answers misfits ≡ expectations misfits) × (answersWith ForwardVectorOutside misfits ≡ expectationsBefore misfits)
+unfolding symbolAt allBelow require_else_then_ vectorFits macroblockFits vectorDifference wrapped vectorOf codeInRange residualInRange twosComplement byte twoBytes signedByte signedTwoBytes recordLengthAt kindAt recordOf legalSize legalCodings legalHeader headerWith headerOf lentLengths firstHeader fileStartOf positive matrixVerdict scaleOf sliceFieldsOf sliceOf legalType legalIncrement headOf vectorCodeOf vectorCodesOf pairsOf legalDifference legalDc differenceOf legalCount countOf levelsOf blockOf dcPastOf withDcPast isCoded blocksOf patternOf macroblockSymbols startingDcPasts blocksToEndOf macroblockOf vectorsOf directionFits fitOf firstMisfit planOf vectorPastsBefore forwardAfter backwardAfter skipMotion vectorPastsAfter predictsForward predictsBackward ownMotion nextVectorPasts recordFit planAppliedRefusing symbolsAppliedRefusing recordsFromRefusing pictureRefusing matrixApplied sliceStarted recordAppliedRefusing stepAtRefusing
+worked-files = (refl, refl, refl)
 
 pub two-slices-header : fileHeaderOf (firstHeader twoSlices) ≡ record { number = accepted; «coding_type» = typeI; width = 2; height = 1; «records_start» = 11 }
 unfolding require_else_then_ recordLengthAt kindAt recordOf legalSize legalCodings legalHeader headerWith headerOf firstHeader fileHeaderOf
 two-slices-header = refl
 
 pub two-slices-header-read : fileStart twoSlices [] [] (replicate 768 7) ≡ HeaderRead twoWide 11
-unfolding symbolAt require_else_then_ twosComplement byte twoBytes signedTwoBytes recordLengthAt kindAt recordOf legalSize legalCodings legalHeader headerWith headerOf lentLengths firstHeader fileStartOf scaleOf sliceFieldsOf sliceOf legalType legalIncrement headOf legalDifference legalDc differenceOf legalCount countOf levelsOf blockOf dcPastOf withDcPast isCoded blocksOf macroblockSymbols startingDcPasts blocksToEndOf macroblockOf vectorsOf directionFits fitOf firstMisfit planOf predictsForward predictsBackward ownMotion recordFit planApplied symbolsApplied recordsFrom sliceStarted recordApplied stepAt pairsOf
+unfolding symbolAt require_else_then_ twosComplement byte twoBytes signedTwoBytes recordLengthAt kindAt recordOf legalSize legalCodings legalHeader headerWith headerOf lentLengths firstHeader fileStartOf scaleOf sliceFieldsOf sliceOf legalType legalIncrement headOf legalDifference legalDc differenceOf legalCount countOf levelsOf blockOf dcPastOf withDcPast isCoded blocksOf macroblockSymbols startingDcPasts blocksToEndOf macroblockOf vectorsOf directionFits fitOf firstMisfit planOf predictsForward predictsBackward ownMotion recordFit planAppliedRefusing symbolsAppliedRefusing recordsFromRefusing sliceStarted recordAppliedRefusing stepAtRefusing pairsOf
 two-slices-header-read = refl
 
 pub two-slices-symbols : symbolsOf twoSlices twoWide 11 ≡ twoSlicesSymbols
-unfolding symbolAt require_else_then_ twosComplement byte twoBytes signedTwoBytes recordLengthAt kindAt recordOf legalSize legalCodings legalHeader headerWith headerOf lentLengths firstHeader fileStartOf scaleOf sliceFieldsOf sliceOf legalType legalIncrement headOf legalDifference legalDc differenceOf legalCount countOf levelsOf blockOf dcPastOf withDcPast isCoded blocksOf macroblockSymbols startingDcPasts blocksToEndOf macroblockOf vectorsOf directionFits fitOf firstMisfit planOf predictsForward predictsBackward ownMotion recordFit planApplied symbolsApplied recordsFrom sliceStarted recordApplied stepAt pairsOf
+unfolding symbolAt require_else_then_ twosComplement byte twoBytes signedTwoBytes recordLengthAt kindAt recordOf legalSize legalCodings legalHeader headerWith headerOf lentLengths firstHeader fileStartOf scaleOf sliceFieldsOf sliceOf legalType legalIncrement headOf legalDifference legalDc differenceOf legalCount countOf levelsOf blockOf dcPastOf withDcPast isCoded blocksOf macroblockSymbols startingDcPasts blocksToEndOf macroblockOf vectorsOf directionFits fitOf firstMisfit planOf predictsForward predictsBackward ownMotion recordFit planAppliedRefusing symbolsAppliedRefusing recordsFromRefusing sliceStarted recordAppliedRefusing stepAtRefusing pairsOf
 two-slices-symbols = refl

@@ -1,4 +1,4 @@
--- The records of a file that pass, and the refusals of document 01 that apply to it (document 01, "Refusals by who can cause them").
+-- The records of a file that pass, and the refusals that apply to it (document 01, "Refusals by who can cause them"; request No. 1).
 use mathlib.Core.List.{List, [], _++_}
 use mathlib.Core.Path.{_≡_}
 use Prim.Native.Nat.{ℕ, _≤_, _<_}
@@ -51,7 +51,7 @@ pub data Passing (file : List ℕ) (h : Header) (end : ℕ) : Reached → Type 0
 abbrev pub fileStart : List ℕ → List ℕ → List ℕ → List ℕ → FileStart
 fileStart file forward backward output = fileStartOf file (length output) (length forward) (length backward)
 
--- a refusal of document 01 applies: which one, at which place, and the macroblocks that the records before it made
+-- a refusal applies: which one, at which place, and the macroblocks that the records before it made
 pub data Applies (file forward backward output : List ℕ) : Refusal → ℕ → List MadeMacroblock → Type 0 where
   -- to the file's start: 1, 2, and those of the first record, which "ends with 19, 20, 21"
   to-start : (refusal : Refusal) (place : ℕ) → fileStart file forward backward output ≡ FileStart.Refused refusal place

@@ -1,2 +1,3 @@
 pub mod Applies
+pub mod Misfit
 pub mod Worked

@@ -37,7 +37,7 @@ use Rattle.format3_picture.specs.State.{startState}
 use Rattle.format3_picture.specs.declared.state.PictureState.{PictureState}
 use Rattle.format3_picture.specs.Step.{stepAt}
 use Rattle.format3_picture.specs.Symbols.{Symbol, symbolAt}
-use Rattle.format3_picture.specs.Picture.{isComplete, refusedAt, Answered, answeredBy, followed, recordsFrom, pictureOf}
+use Rattle.format3_picture.specs.Picture.{isComplete, refusedAt, Answered, answeredBy, followed, recordsFrom, recordsFromRefusing, pictureOf, pictureRefusing}
 use Rattle.theorems_records.specs.WellFramed.{WellFramed}
 use Rattle.theorems_records.specs.FieldFit.{Matching}
 use Rattle.theorems_records.proofs.Framed.{framed}
@@ -72,7 +72,7 @@ module _ (file : List ℕ) where
   not-at-end at {first} rest one stands = lt-leb (length file) at (omega (arith, length-drop at file, ap length stands, length-append first rest, some-bytes one))
 
   records-framed : (n at : ℕ) (s : PictureState) (q : Matrices) {records : List ℕ} → WellFormedRecords records → drop at file ≡ records → WellFramed (recordsFrom file n at s q .answer .number)
-  unfolding recordsFrom
+  unfolding recordsFromRefusing
   records-framed zero at s q whole stands = end-framed (isComplete (s .turn))
   records-framed (suc n) at s q Whole.none stands = rw (at-end at stands) (end-framed (isComplete (s .turn)))
   records-framed (suc n) at s q (Whole.more {rest = rest} one others) stands =
@@ -143,7 +143,7 @@ module _ (fields records : List ℕ) (seven : length fields ≡ 7) where
   -- the strict reader never answers 3, 4 or 6 to records that the writer wrote, put after any header: rules out a writer that cuts a record,
   -- counts its bytes or its pairs wrongly, or leaves out a field
   pub picture-framed : (transform : List ℤ → ℕ → ℤ) (forward backward output : List ℕ) → WellFormedRecords records → WellFramed (pictureOf transform file forward backward output .number)
-  unfolding pictureOf
+  unfolding pictureRefusing
   picture-framed transform forward backward output whole = go (fileStartOf file (length output) (length forward) (length backward)) refl (file-start-well-framed (length output) (length forward) (length backward))
     where
       go : (x : FileStart) → fileStartOf file (length output) (length forward) (length backward) ≡ x → FileStartWellFramed fields x → WellFramed (pictureOf transform file forward backward output .number)

@@ -28,8 +28,8 @@ use Rattle.format3_macroblock.specs.Macroblock.{macroblockOf}
 use Rattle.format3_writer.specs.Bytes.{bigEndianBytes}
 use Rattle.format3_writer.specs.Records.{recordBytes, sliceBody, sliceRecord, macroblockBody, macroblockRecord}
 use Rattle.format3_picture.specs.declared.state.PictureState.{PictureState}
-use Rattle.format3_picture.specs.MacroblockRecord.{contextOf, Applied, recordFit, planApplied, symbolsApplied, parsedApplied}
-use Rattle.format3_picture.specs.Step.{sliceStarted, sliceStartedFrom, recordApplied, stepAt}
+use Rattle.format3_picture.specs.MacroblockRecord.{contextOf, Applied, recordFit, planApplied, planAppliedRefusing, symbolsAppliedRefusing, parsedApplied}
+use Rattle.format3_picture.specs.Step.{sliceStarted, sliceStartedFrom, recordApplied, recordAppliedRefusing, stepAt, stepAtRefusing}
 use Rattle.format3_picture.specs.Symbols.{Symbol, starts, continues, sliceSymbol, macroblockSymbol, symbolOf, symbolAt}
 use Rattle.theorems_records.specs.WellFramed.{WellFramed}
 use Rattle.theorems_records.specs.FieldFit.{Matching, MacroblockFitsFields}
@@ -57,7 +57,7 @@ module _ (q : Matrices) (s : PictureState) where
   slice-framed (other o not) = o
 
   planned-framed : (p : Plan) (coefficients : List (List ℤ)) → AppliedWellFramed (planApplied s p coefficients)
-  unfolding planApplied
+  unfolding planAppliedRefusing
   planned-framed p coefficients = go (recordFit (s .header .size) p) refl
     where
       go : (f : Fit) → recordFit (s .header .size) p ≡ f → AppliedWellFramed (planApplied s p coefficients)
@@ -66,17 +66,17 @@ module _ (q : Matrices) (s : PictureState) where
       go Fit.Backward e = rw e (framed _ refl)
 
   macroblock-framed : {P : Macroblock → Type 0} {Legal : Type 0} {behind : List ℕ} {x : Parsed Macroblock} → ReadBack P Legal behind x → AppliedWellFramed (parsedApplied q s x)
-  unfolding symbolsApplied
+  unfolding symbolsAppliedRefusing
   macroblock-framed (back p) = planned-framed _ _
   macroblock-framed (other o not) = o
 
   -- a record in its turn, or out of it
   slice-applied : (scale start : ℕ) → AppliedWellFramed (recordApplied q s sliceKind (sliceBody scale start))
-  unfolding recordApplied
+  unfolding recordAppliedRefusing
   slice-applied scale start = require-all AppliedWellFramed _ _ _ (framed _ refl) λ turn. slice-framed (slice-back scale start)
 
   macroblock-applied : (m : Macroblock) → Matching m → AppliedWellFramed (recordApplied q s macroblockKind (macroblockBody m))
-  unfolding recordApplied
+  unfolding recordAppliedRefusing
   macroblock-applied m matching = require-all AppliedWellFramed _ _ _ (framed _ refl) λ turn. macroblock-framed (macroblock-back (contextOf s) m matching)
 
   -- the step over the record at an offset, with the rest of the file after it
@@ -86,7 +86,7 @@ module _ (q : Matrices) (s : PictureState) where
 
   step-at : (file : List ℕ) (at kind : ℕ) (body rest : List ℕ) → drop at file ≡ recordBytes kind body ++ rest → legalKind kind ≡ true → length body ≤ 65534
       → AppliedWellFramed (recordApplied q s kind body) → StepWellFormed file at rest
-  unfolding stepAt
+  unfolding stepAtRefusing
   step-at file at kind body rest stands known short acts =
       let shown = record-shown file at kind body rest stands known short in
       record {
@@ -117,20 +117,20 @@ module _ (q : Matrices) (s : PictureState) where
 
   read-at : (file : List ℕ) (at kind : ℕ) (body rest : List ℕ) (symbol : Symbol) → drop at file ≡ recordBytes kind body ++ rest → legalKind kind ≡ true → eqb kind matrixKind ≡ false → length body ≤ 65534
       → (recordApplied q s kind body .verdict ≡ Passed → symbolOf s kind body ≡ symbol) → TakenAs file at symbol (recordBytes kind body)
-  unfolding stepAt symbolAt
+  unfolding stepAtRefusing symbolAt
   read-at file at kind body rest symbol stands known no-matrix short reads =
       let shown = record-shown file at kind body rest stands known short in
       record { read = rw (shown, record-body file at kind body rest stands) reads; same-matrices = rw (shown, no-matrix); before = rw shown (record-before file at kind body rest stands) }
 
   pub slice-step : (file : List ℕ) (at scale start : ℕ) (rest : List ℕ) → Fits w16 start → drop at file ≡ sliceRecord scale start ++ rest → TakenAs file at (starts (record { scale = scale; start = start })) (sliceRecord scale start)
-  unfolding recordApplied sliceBody bigEndianBytes
+  unfolding recordAppliedRefusing sliceBody bigEndianBytes
   slice-step file at scale start rest fits stands =
       read-at file at sliceKind (sliceBody scale start) rest _ stands refl refl (omega arith)
       (require-all (λ (a : Applied). a .verdict ≡ Passed → sliceSymbol (sliceOf (sliceBody scale start)) ≡ starts (record { scale = scale; start = start })) _ _ _ (λ passed. absurd (not-passed passed)) λ turn.
       slice-read (slice-back scale start) fits)
 
   pub macroblock-step : (file : List ℕ) (at : ℕ) (m : Macroblock) (rest : List ℕ) → WellFormedMacroblock m → MacroblockFitsFields m → drop at file ≡ macroblockRecord m ++ rest → TakenAs file at (continues m) (macroblockRecord m)
-  unfolding recordApplied
+  unfolding recordAppliedRefusing
   macroblock-step file at m rest whole fits stands =
       read-at file at macroblockKind (macroblockBody m) rest _ stands refl refl (whole .short)
       (require-all (λ (a : Applied). a .verdict ≡ Passed → macroblockSymbol (macroblockOf (contextOf s) (macroblockBody m)) ≡ continues m) _ _ _ (λ passed. absurd (not-passed passed)) λ turn.

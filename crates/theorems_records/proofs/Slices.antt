@@ -37,7 +37,7 @@ use Rattle.format3_picture.specs.declared.state.PictureState.{PictureState}
 use Rattle.format3_picture.specs.Reconstruction.{reconstruction}
 use Rattle.format3_picture.specs.Symbols.{Symbol, starts, continues, Gathered, putInFront}
 use Rattle.format3_picture.specs.Step.{stepAt}
-use Rattle.format3_picture.specs.Picture.{endAnswer, refusedAt, Answered, answeredBy, followed, recordsFrom, recordsAfter, symbolsOf, pictureOf}
+use Rattle.format3_picture.specs.Picture.{endAnswer, refusedAt, Answered, answeredBy, followed, recordsFrom, recordsFromRefusing, recordsAfter, symbolsOf, pictureOf, pictureRefusing}
 use Rattle.theorems_records.proofs.Record.{record-after, record-before}
 use Rattle.theorems_records.specs.WellFormed.{WellFormedRecord, of-slice, of-macroblock}
 use Rattle.theorems_records.specs.Slices.{EncodableMacroblock, EncodableMacroblocks, EncodableSlices, slicesFile, symbolsFor, Beginning}
@@ -136,7 +136,7 @@ module _ (file : List ℕ) where
 
   gathers : (n at : ℕ) (s : PictureState) (q : Matrices) {further : List Macroblock} {slices : List Slice} {records : List ℕ} → Rest further slices records → drop at file ≡ records → length records ≤ n
       → Gathers at further slices q (recordsFrom file n at s q)
-  unfolding recordsFrom
+  unfolding recordsFromRefusing
   gathers n at s q none stands few = go n
     where
       go : (n : ℕ) → Gathers at [] [] q (recordsFrom file n at s q)
@@ -203,17 +203,17 @@ module _ (fields : List ℕ) (h : Header) (slices : List Slice) (legal : headerO
       reads-beginning = slices-begun (header-read-gathers .begun)
 
       pub reads-before : take (pictureOf transform file forward backward output .place) file ≡ slicesFile fields (symbolsOf file h end .slices)
-      unfolding pictureOf joined
+      unfolding pictureRefusing joined
       reads-before = rw e (header-read-gathers .before ∙ rw (record-before file 1 headerKind fields (recordsFor slices) refl, none-before (header-read-gathers .begun)))
 
       header-read-symbols : pictureOf transform file forward backward output .number ≡ accepted → symbolsOf file h end ≡ symbolsFor slices
-      unfolding pictureOf
+      unfolding pictureRefusing
       header-read-symbols whole = let g = header-read-gathers in rw (g .same, g .all (rw e at whole) .1)
 
     -- ---- the file is accepted: its header of seven bytes is read, and exactly these slices are read
     module _ (whole : pictureOf transform file forward backward output .number ≡ accepted) where
       pub accepted-header-read : fileStartOf file (length output) (length forward) (length backward) ≡ FileStart.HeaderRead h 11
-      unfolding pictureOf
+      unfolding pictureRefusing
       accepted-header-read = go (fileStartOf file (length output) (length forward) (length backward)) refl
         where
           go : (x : FileStart) → fileStartOf file (length output) (length forward) (length backward) ≡ x → fileStartOf file (length output) (length forward) (length backward) ≡ FileStart.HeaderRead h 11
@@ -229,5 +229,5 @@ module _ (fields : List ℕ) (h : Header) (slices : List Slice) (legal : headerO
       accepted-symbols = header-read-symbols 11 accepted-header-read whole
 
       pub accepted-output : pictureOf transform file forward backward output .output ≡ reconstruction transform (references forward backward) h (symbolsFor slices) output
-      unfolding pictureOf
+      unfolding pictureRefusing
       accepted-output = rw (accepted-header-read, accepted-symbols)

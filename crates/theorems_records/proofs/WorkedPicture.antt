@@ -29,9 +29,9 @@ use Rattle.format3_macroblock.specs.Macroblock.{macroblockSymbolsOf as macroblo
 use Rattle.format3_macroblock.specs.Vectors.{vectorsOf}
 use Rattle.format3_writer.specs.Bytes.{complement, bigEndianBytes}
 use Rattle.format3_writer.specs.Records.{recordHead, recordBytes, sliceBody, sliceRecords, levelsBytes, blockBytes, headBytes, patternBytes, macroblockBody}
-use Rattle.format3_picture.specs.MacroblockRecord.{recordFit, planApplied, symbolsApplied}
-use Rattle.format3_picture.specs.Picture.{recordsFrom, pictureOf}
-use Rattle.format3_picture.specs.Step.{sliceStarted, recordApplied, stepAt}
+use Rattle.format3_picture.specs.MacroblockRecord.{recordFit, planAppliedRefusing, symbolsAppliedRefusing}
+use Rattle.format3_picture.specs.Picture.{recordsFromRefusing, pictureOf, pictureRefusing}
+use Rattle.format3_picture.specs.Step.{sliceStarted, recordAppliedRefusing, stepAtRefusing}
 use Rattle.format3_picture.specs.Symbols.{symbolAt}
 use Rattle.theorems_records.specs.Slices.{slicesFile}
 use Rattle.theorems_records.specs.WorkedSlices.{oneMacroblock, oneMacroblockFields, oneSliceSymbols}
@@ -41,5 +41,5 @@ unfolding headerOf headerWith legalHeader legalSize legalCodings require_else_th
 one-header = refl
 
 pub one-slice-accepted : (transform : List ℤ → ℕ → ℤ) → pictureOf transform (slicesFile oneMacroblockFields (oneSliceSymbols ∷ [])) [] [] (replicate 384 7) .number ≡ accepted
-unfolding symbolAt require_else_then_ twosComplement byte twoBytes signedTwoBytes recordLengthAt kindAt recordOf legalSize legalCodings legalHeader headerWith headerOf lentLengths firstHeader fileStartOf scaleOf sliceFieldsOf sliceOf legalType legalIncrement headOf legalDifference legalDc differenceOf legalCount countOf levelsOf blockOf dcPastOf withDcPast isCoded blocksOf macroblockSymbols startingDcPasts blocksToEndOf macroblockOf vectorsOf directionFits fitOf firstMisfit planOf predictsForward predictsBackward ownMotion recordFit planApplied symbolsApplied recordsFrom sliceStarted recordApplied stepAt pairsOf joined recordHead recordBytes sliceBody sliceRecords blockBytes levelsBytes headBytes patternBytes macroblockBody complement bigEndianBytes pictureOf
+unfolding symbolAt require_else_then_ twosComplement byte twoBytes signedTwoBytes recordLengthAt kindAt recordOf legalSize legalCodings legalHeader headerWith headerOf lentLengths firstHeader fileStartOf scaleOf sliceFieldsOf sliceOf legalType legalIncrement headOf legalDifference legalDc differenceOf legalCount countOf levelsOf blockOf dcPastOf withDcPast isCoded blocksOf macroblockSymbols startingDcPasts blocksToEndOf macroblockOf vectorsOf directionFits fitOf firstMisfit planOf predictsForward predictsBackward ownMotion recordFit planAppliedRefusing symbolsAppliedRefusing recordsFromRefusing sliceStarted recordAppliedRefusing stepAtRefusing pairsOf joined recordHead recordBytes sliceBody sliceRecords blockBytes levelsBytes headBytes patternBytes macroblockBody complement bigEndianBytes pictureRefusing
 one-slice-accepted transform = refl

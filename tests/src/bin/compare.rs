@@ -5,12 +5,13 @@
 use std::process::ExitCode;
 
 use format3_tests::compare::{
-    changed_fields, coefficients, headers, panel, pictures, require_every_answer, transforms,
-    vectors,
+    changed_fields, coefficients, header_answers, headers, panel, picture_answers, pictures,
+    require_every_answer, transforms, vectors,
 };
+use format3_tests::compare_misfits::{misfits, Misfits};
 use format3_tests::compare_room_slices::room_slices;
 use format3_tests::compare_slices::{
-    changed_slices, ended_slices, long_slices, require_every_slice_answer, slices, stream_slices,
+    changed_slices, ended_slices, long_slices, slices, stream_slices, SLICE_ANSWERS,
 };
 use format3_tests::library::ENTRIES;
 use format3_tests::{exit_code, panel_argument};
@@ -52,13 +53,19 @@ fn compare_entries(count: u64, seed: u64) -> Result<(), String> {
     println!("{} blocks", transforms(&ENTRIES, seed, 20_000)?);
     let counts = headers(&ENTRIES)?;
     println!("headers, by answer: {counts:?}");
-    require_every_answer(&counts)?;
+    require_every_answer(&counts, header_answers())?;
     for seed in seed..seed + 4 {
         println!("{} changed fields", changed_fields(&ENTRIES, seed)?);
     }
     let counts = pictures(&ENTRIES, seed, count)?;
     println!("{count} pictures, by answer: {counts:?}");
-    require_every_answer(&counts)?;
+    require_every_answer(&counts, picture_answers())?;
+    let Misfits {
+        answers,
+        arrangements,
+    } = misfits(&ENTRIES, seed)?;
+    let occurred = arrangements.len();
+    println!("{occurred} arrangements of vectors that fit or don't, by answer: {answers:?}");
     compare_slices(10 * count, seed)
 }
 
@@ -73,5 +80,5 @@ fn compare_slices(count: u64, seed: u64) -> Result<(), String> {
     println!("{around} slices around the end of the reader's room");
     let counts = slices(&ENTRIES, seed, count)?;
     println!("{count} slices, by answer: {counts:?}");
-    require_every_slice_answer(&counts)
+    require_every_answer(&counts, SLICE_ANSWERS)
 }

@@ -3,6 +3,7 @@
 use super::coefficients::{from_zigzag, Block};
 use super::refusals::{require, Refusal};
 use super::size::Size;
+use super::vectors::Vector;
 
 pub const VERSION: u8 = 3;
 
@@ -46,7 +47,7 @@ fn sized<const LENGTH: usize>(body: &[u8]) -> Result<[u8; LENGTH], Refusal> {
     body.try_into().map_err(|_| Refusal::BodyLength)
 }
 
-#[derive(Clone, Copy, Debug, PartialEq, Eq)]
+#[derive(Clone, Copy, Debug, PartialEq, Eq, PartialOrd, Ord)]
 pub enum PictureType {
     I,
     P,
@@ -58,6 +59,14 @@ pub enum PictureType {
 pub struct Direction {
     pub full_pel: bool,
     pub f_code: i64,
+}
+
+impl Direction {
+    /// A vector as it is used: "the full-pel flag doubles it".
+    pub fn used(self, vector: Vector) -> Vector {
+        let factor = if self.full_pel { 2 } else { 1 };
+        vector.map(|part| factor * part)
+    }
 }
 
 #[derive(Clone, Copy, Debug, PartialEq, Eq)]

@@ -201,8 +201,7 @@ fn vectors(
             let decoded = vector(fields, direction, state.vector_pasts[way])?;
             // "The past keeps this number; the full-pel flag doubles it afterwards for use."
             state.vector_pasts[way] = decoded;
-            let factor = if direction.full_pel { 2 } else { 1 };
-            vectors[way] = Some(decoded.map(|part| factor * part));
+            vectors[way] = Some(direction.used(decoded));
         }
     }
     // "Pasts are 0 .. after intra; in P also after a macroblock without vector". In B every other one has a vector.

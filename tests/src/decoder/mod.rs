@@ -1,5 +1,6 @@
-//! A second decoder of Format 3, to compare with: written for clarity, not speed, from document 01 alone, and for raw slices from
-//! request No. 2 and Annex B. Each module follows one heading, and each function one sentence, which its comment quotes.
+//! A second decoder of Format 3, to compare with: written for clarity, not speed, from document 01 and request No. 1 alone, and
+//! for raw slices from request No. 2 and Annex B. Each module follows one heading, and each function one sentence, which its
+//! comment quotes.
 
 pub mod annex_b;
 pub mod bits;

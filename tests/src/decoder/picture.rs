@@ -7,7 +7,7 @@ use super::file::{self, Header, PictureType};
 use super::macroblock::{component, macroblock, CodedBlock, Last, Macroblock, SliceState};
 use super::refusals::{require, Answer, Refusal};
 use super::transform::inverse_transform;
-use super::vectors::{fits, prediction, Vectors};
+use super::vectors::{fits, prediction, Vector, Vectors};
 
 /// Makes the picture of a file. "Order: 1, 2; in each record 3, 4, 5", then the tests of its kind.
 /// The output is written record by record, so a refusal leaves the macroblocks of the records before it.
@@ -128,7 +128,7 @@ impl Picture<'_> {
         Ok(())
     }
 
-    /// "Last 18: skipped macroblocks in order, then its own, forward before backward." Then writes them all.
+    /// "Last 18: skipped macroblocks in order, then its own"; request No. 1 adds 23 to it. Then writes them all.
     fn act_macroblock(
         &mut self,
         header: &Header,
@@ -205,18 +205,20 @@ impl Picture<'_> {
 }
 
 /// "Skipped: P copies with vector 0; B repeats the last macroblock's directions and vectors." An I picture skips none.
-fn skip_vectors(picture_type: PictureType, last: Last) -> Vectors {
+pub fn skip_vectors(picture_type: PictureType, last: Last) -> Vectors {
     match (picture_type, last) {
         (PictureType::B, Last::Predicted(vectors)) => vectors,
         _ => [Some([0; 2]), None],
     }
 }
 
+/// Request No. 1: "18 speaks of the forward vector alone." "23 when the backward vector doesn't fit, tested just after the same
+/// macroblock's forward one."
 fn require_fit(header: &Header, address: usize, vectors: Vectors) -> Result<(), Refusal> {
-    for vector in vectors.into_iter().flatten() {
-        require(fits(header.size, address, vector), Refusal::VectorOutside)?;
-    }
-    Ok(())
+    let fits = |vector: Option<Vector>| vector.is_none_or(|used| fits(header.size, address, used));
+    let [forward, backward] = vectors;
+    require(fits(forward), Refusal::ForwardVectorOutside)?;
+    require(fits(backward), Refusal::BackwardVectorOutside)
 }
 
 /// The offset of a block's first pel from its macroblock's in the plane: the four Y blocks go left to right, top to bottom.

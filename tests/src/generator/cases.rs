@@ -72,19 +72,24 @@ pub fn case(seed: u64, number: u64) -> Case {
 /// A picture that is legal except for its style's strays, with references and output.
 fn written(random: &mut Random, header: Header, style: Style) -> (File, Case) {
     let file = picture(random, header, style);
+    let case = lent(random, header, &file);
+    (file, case)
+}
+
+/// A legal file, with references and output for its header.
+pub fn lent(random: &mut Random, header: Header, file: &File) -> Case {
     let bytes = header.size.bytes();
     let [forward, backward] = header
         .picture_type
         .uses()
         .map(|used| random.bytes(if used { bytes } else { 0 }));
-    let case = Case {
+    Case {
         file: file.bytes.clone(),
         forward,
         backward,
         output: random.bytes(bytes),
         legal: true,
-    };
-    (file, case)
+    }
 }
 
 /// The output or a reference, or several of them, have the wrong length.

@@ -4,6 +4,7 @@ mod cases;
 pub mod codes;
 mod damage;
 mod file;
+mod misfits;
 mod picture;
 mod reels;
 mod room_slices;
@@ -13,6 +14,7 @@ mod slices;
 
 pub use cases::{case, small_cases, Case};
 pub use file::File;
+pub use misfits::{all_arrangements, misfit_cases, Arrangement, Fit};
 pub use reels::{reel, Reel};
 pub use room_slices::{
     reach, record_ends, room_slices, RoomCase, RoomSlice, RoomTrial, ROOM, TRIALS,

@@ -63,17 +63,7 @@ pub fn random_header(random: &mut Random, picture_type: PictureType, size: Size)
 
 /// A file with a header, perhaps matrices, and all of the picture's macroblocks in slices.
 pub fn picture(random: &mut Random, header: Header, style: Style) -> File {
-    let mut writer = Writer {
-        random,
-        file: File::versioned(),
-        header,
-        style,
-        next: 0,
-        dc_pasts: [FIRST_DC; 3],
-        vector_pasts: [[0; 2]; 2],
-        last: None,
-    };
-    writer.header();
+    let mut writer = Writer::new(random, header, style);
     for which in [INTRA, NON_INTRA] {
         if writer.random.once_in(3) {
             writer.matrix(which);
@@ -91,13 +81,22 @@ const SCALE_ENDS: [i64; 5] = [0, 1, 31, 32, 255];
 /// The DC predictor at a slice's start, divided by 8.
 const FIRST_DC: i64 = 128;
 
-struct Writer<'a> {
+/// What a macroblock record says of its place and its vectors.
+struct Plan {
+    macroblock_type: u8,
+    skipped: usize,
+    /// The vectors that the type has, not doubled.
+    vectors: Vectors,
+}
+
+/// Writes a picture, one slice record or macroblock after another.
+pub struct Writer<'a> {
     random: &'a mut Random,
-    file: File,
+    pub file: File,
     header: Header,
     style: Style,
     /// The next address.
-    next: usize,
+    pub next: usize,
     /// The DC pasts (predictors) divided by 8, so that a coded difference is simply their difference.
     dc_pasts: [i64; 3],
     vector_pasts: [Vector; 2],
@@ -105,7 +104,23 @@ struct Writer<'a> {
     last: Option<Vectors>,
 }
 
-impl Writer<'_> {
+impl<'a> Writer<'a> {
+    /// A picture of which only the header is written.
+    pub fn new(random: &'a mut Random, header: Header, style: Style) -> Writer<'a> {
+        let mut writer = Writer {
+            random,
+            file: File::versioned(),
+            header,
+            style,
+            next: 0,
+            dc_pasts: [FIRST_DC; 3],
+            vector_pasts: [[0; 2]; 2],
+            last: None,
+        };
+        writer.header();
+        writer
+    }
+
     fn header(&mut self) {
         let Header {
             size,
@@ -144,6 +159,22 @@ impl Writer<'_> {
 
     /// Writes a slice record and its macroblocks, at least one.
     fn slice(&mut self) {
+        self.slice_record();
+        loop {
+            self.macroblock();
+            if self.whole() || self.random.once_in(self.style.slice_once_in) {
+                return;
+            }
+        }
+    }
+
+    /// True if the picture's last macroblock is written.
+    pub fn whole(&self) -> bool {
+        self.next == self.header.size.macroblocks()
+    }
+
+    /// Writes a slice record, which a macroblock must follow.
+    pub fn slice_record(&mut self) {
         let start = self.next as i64;
         let scale = self.scale();
         self.file.record(SLICE, |file| {
@@ -153,13 +184,6 @@ impl Writer<'_> {
         self.dc_pasts = [FIRST_DC; 3];
         self.vector_pasts = [[0; 2]; 2];
         self.last = None;
-        loop {
-            self.macroblock();
-            let over = self.next == self.header.size.macroblocks();
-            if over || self.random.once_in(self.style.slice_once_in) {
-                return;
-            }
-        }
     }
 
     fn scale(&mut self) -> i64 {
@@ -167,15 +191,53 @@ impl Writer<'_> {
         self.random.pick(&[1, 31, within, within])
     }
 
-    fn macroblock(&mut self) {
+    /// Writes a random macroblock.
+    pub fn macroblock(&mut self) {
         let stray = self.style.stray_once_in != 0 && self.random.once_in(self.style.stray_once_in);
+        let plan = self.plan(stray);
+        self.write(plan, stray);
+    }
+
+    fn plan(&mut self, stray: bool) -> Plan {
+        let macroblock_type = self.macroblock_type();
+        let skipped = self.skipped(stray);
+        let mut vectors = [None; 2];
+        for (way, vector) in vectors.iter_mut().enumerate() {
+            if macroblock_type & (2 << way) != 0 {
+                *vector = Some(self.vector(way, self.next + skipped, stray));
+            }
+        }
+        Plan {
+            macroblock_type,
+            skipped,
+            vectors,
+        }
+    }
+
+    /// Writes a macroblock with these vectors, not doubled, of a random type that has just them.
+    pub fn macroblock_with(&mut self, skipped: usize, vectors: Vectors, intra: bool) {
+        let uses = vectors.map(|vector| vector.is_some());
+        let has_them = |chosen: &u8| [chosen & 2 != 0, chosen & 4 != 0] == uses;
+        let mut types = legal_types(self.header.picture_type).to_vec();
+        types.retain(|chosen| has_them(chosen) && (chosen & 16 != 0) == intra);
+        let plan = Plan {
+            macroblock_type: self.random.pick(&types),
+            skipped,
+            vectors,
+        };
+        self.write(plan, false);
+    }
+
+    fn write(&mut self, plan: Plan, stray: bool) {
+        let chosen = plan.macroblock_type;
         let mut body = File::empty();
-        let chosen = self.macroblock_type(&mut body);
-        let address = self.increment(&mut body, stray);
+        let others = [0, 1, 2, 4, 8, 9, 10, 12, 15, 16, 18, 31, 32, 48, 255];
+        body.byte("macroblock type", chosen.into(), &others);
+        self.increment(&mut body, plan.skipped);
         if chosen & 1 != 0 {
             body.byte("scale", self.scale(), &SCALE_ENDS);
         }
-        self.vectors(&mut body, chosen, address, stray);
+        self.vectors(&mut body, plan.vectors);
         let intra = chosen & 16 != 0;
         if !intra {
             self.dc_pasts = [FIRST_DC; 3];
@@ -187,42 +249,37 @@ impl Writer<'_> {
             }
         }
         self.file.record(MACROBLOCK, |file| file.append(body));
-        self.next = address + 1;
+        self.next += plan.skipped + 1;
     }
 
-    fn macroblock_type(&mut self, body: &mut File) -> u8 {
+    fn macroblock_type(&mut self) -> u8 {
         let legal = legal_types(self.header.picture_type);
-        let chosen = if self.random.once_in(self.style.intra_once_in) {
+        if self.random.once_in(self.style.intra_once_in) {
             self.random.pick(&[16, 17])
         } else {
             self.random.pick(legal)
-        };
-        let others = [0, 1, 2, 4, 8, 9, 10, 12, 15, 16, 18, 31, 32, 48, 255];
-        body.byte("macroblock type", chosen.into(), &others);
-        chosen
+        }
     }
 
-    /// Writes the increment, and updates the pasts for skipped macroblocks. Returns the macroblock's own address.
-    fn increment(&mut self, body: &mut File, stray: bool) -> usize {
-        let left = self.header.size.macroblocks() - self.next;
-        let skipped = self.skipped(left - 1, stray);
+    /// Writes the increment, and updates the pasts for skipped macroblocks.
+    fn increment(&mut self, body: &mut File, skipped: usize) {
         if skipped > 0 {
             self.dc_pasts = [FIRST_DC; 3];
             if self.header.picture_type == PictureType::P {
                 self.vector_pasts = [[0; 2]; 2];
             }
         }
-        let left = left as i64;
+        let left = (self.header.size.macroblocks() - self.next) as i64;
         let others = [0, 1, 2, left, left + 1, left + 256, 0xffff];
         body.word("increment", skipped as i64 + 1, &others);
-        self.next + skipped
     }
 
     /// How many macroblocks to skip: only where that is legal, and only as long as the repeated vectors fit.
-    fn skipped(&mut self, most: usize, stray: bool) -> usize {
+    fn skipped(&mut self, stray: bool) -> usize {
         let Some(vectors) = self.last else {
             return 0;
         };
+        let most = self.header.size.macroblocks() - self.next - 1;
         let wanted = self.random.below(self.style.most_skipped.min(most) + 1);
         if stray || self.header.picture_type != PictureType::B {
             return wanted;
@@ -234,12 +291,11 @@ impl Writer<'_> {
         (self.next..self.next + wanted).take_while(fit).count()
     }
 
-    /// Writes the vectors of the directions used, and keeps them as pasts.
-    fn vectors(&mut self, body: &mut File, chosen: u8, address: usize, stray: bool) {
-        let mut vectors = [None; 2];
-        for (way, vector) in vectors.iter_mut().enumerate() {
-            if chosen & (2 << way) != 0 {
-                *vector = Some(self.vector(body, way, address, stray));
+    /// Writes the vectors, and keeps them as pasts.
+    fn vectors(&mut self, body: &mut File, vectors: Vectors) {
+        for (way, vector) in vectors.into_iter().enumerate() {
+            if let Some(vector) = vector {
+                self.codes(body, way, vector);
             }
         }
         if vectors == [None; 2] {
@@ -251,31 +307,37 @@ impl Writer<'_> {
             PictureType::P => true,
             PictureType::B => vectors != [None; 2],
         };
-        self.last = may_skip.then_some(vectors);
+        let used = |way: usize| Some(self.header.directions[way].used(vectors[way]?));
+        self.last = may_skip.then_some([used(0), used(1)]);
     }
 
-    /// Writes a vector that fits (or, if stray, perhaps just doesn't) as codes and residuals. Returns it as used.
-    fn vector(&mut self, body: &mut File, way: usize, address: usize, stray: bool) -> Vector {
+    /// A vector, not doubled, that fits (or, if stray, perhaps just doesn't).
+    fn vector(&mut self, way: usize, address: usize, stray: bool) -> Vector {
         let Direction { full_pel, f_code } = self.header.directions[way];
         let f = f_of(f_code);
         let factor = if full_pel { 2 } else { 1 };
         let (column, row) = self.header.size.column_row(address);
         let Size { width, height } = self.header.size;
-        for (axis, (at, extent)) in [(column, width), (row, height)].into_iter().enumerate() {
+        [(column, width), (row, height)].map(|(at, extent)| {
             let low = (-32 * at as i64 / factor).max(-16 * f);
             let high = (32 * (extent - 1 - at) as i64 / factor).min(16 * f - 1);
             let fit = self.edge_or_within(low, high);
-            let wanted = if stray {
-                let any = self.random.pick(&[low - 1, high + 1, fit]);
-                any.clamp(-16 * f, 16 * f - 1)
-            } else {
-                fit
-            };
+            if !stray {
+                return fit;
+            }
+            let any = self.random.pick(&[low - 1, high + 1, fit]);
+            any.clamp(-16 * f, 16 * f - 1)
+        })
+    }
+
+    /// Writes a vector as codes and residuals, and keeps it as past.
+    fn codes(&mut self, body: &mut File, way: usize, vector: Vector) {
+        let f = f_of(self.header.directions[way].f_code);
+        for (axis, part) in vector.into_iter().enumerate() {
             let past = self.vector_pasts[way][axis];
-            self.code_and_residual(body, f, wanted - past);
-            self.vector_pasts[way][axis] = wanted;
+            self.code_and_residual(body, f, part - past);
         }
-        self.vector_pasts[way].map(|part| factor * part)
+        self.vector_pasts[way] = vector;
     }
 
     fn edge_or_within(&mut self, low: i64, high: i64) -> i64 {

@@ -28,7 +28,7 @@ pub fn reel(seed: u64, number: u64) -> Reel {
             _ => random.pick(&TYPES),
         };
         let file = if legal {
-            legal_file(random, picture_type, size).bytes
+            random_file(random, picture_type, size, 0).bytes
         } else {
             any_file(random, picture_type, size)
         };
@@ -48,19 +48,29 @@ fn push(reel: &mut Vec<u8>, file: &[u8]) {
     reel.extend(file);
 }
 
-fn legal_file(random: &mut Random, picture_type: PictureType, size: Size) -> File {
+/// A picture that is legal except for strays: one macroblock in this many, or none if that is 0.
+fn random_file(
+    random: &mut Random,
+    picture_type: PictureType,
+    size: Size,
+    stray_once_in: usize,
+) -> File {
     let header = random_header(random, picture_type, size);
     let most_pairs = random.pick(&[1, 3, 64]);
-    let style = Style::random(random, most_pairs);
+    let style = Style {
+        stray_once_in,
+        ..Style::random(random, most_pairs)
+    };
     picture(random, header, style)
 }
 
-/// A picture that may differ from the reel in type or size, or be damaged or empty.
+/// A picture that may differ from the reel in type or size, have strays, or be damaged or empty.
 fn any_file(random: &mut Random, picture_type: PictureType, size: Size) -> Vec<u8> {
     let another_type = random.pick(&TYPES);
     let picture_type = random.pick(&[picture_type, picture_type, picture_type, another_type]);
     let size = any_size(random, size);
-    let file = legal_file(random, picture_type, size);
+    let stray_once_in = random.pick(&[0, 0, 3, 8]);
+    let file = random_file(random, picture_type, size, stray_once_in);
     match random.below(10) {
         0 => Vec::new(),
         1..=4 => damaged(random, &file),

@@ -1,21 +1,22 @@
--- `fit::first_misfit` meets its contract: before macroblock k the earlier ones fit, so the rest of the run decides. Assumes nothing.
-use mathlib.Core.Path.{_∙_, sym}
-use mathlib.Core.Logic.{inl, inr}
-use Prim.Native.Nat.{_-_}
+-- `fit::first_misfit` meets its contract: before macroblock k, `fit` is the first misfit of the k before it. Assumes nothing.
+use mathlib.Core.Path.{_≡_, refl, _∙_, sym, ap}
+use Prim.Native.Nat.{ℕ, _-_, _≤_}
 use native.Mathlib.Omega.{arith}
 use borrow.Author.Needs.{needs}
-use Rattle.decode_macroblock.proofs.RunLaws.{Fitting, fitting-none, fitting-more, fitting-stops, fitting-all}
+use Rattle.decode_macroblock.specs.Fit.{orElse, firstMisfit}
+use Rattle.decode_macroblock.proofs.RunLaws.{run-last}
 use Rattle.decode_macroblock.proofs.fit.first_misfit.Statement.{statement}
 use Rattle.decode_macroblock.proofs.fit.first_misfit.Tie as tie
 
 abbrev Inv-loop : tie.InvT-loop
-Inv-loop size first skipped motion k₀ k = Fitting size motion first skipped k
+Inv-loop size first skipped motion fit₀ k₀ fit k = (fit ≡ firstMisfit size first k motion) × (k ≤ skipped)
 
 abbrev μ-loop : tie.MeasureT-loop
-μ-loop size first skipped motion k₀ k = skipped - k
+μ-loop size first skipped motion fit₀ k₀ fit k = skipped - k
 
 loop-holds : tie.Need-loop-holds Inv-loop μ-loop
-loop-holds c = fitting-none _ _ _ _
+unfolding firstMisfit
+loop-holds c = (refl, omega arith)
 
 add-fit-of : tie.Need-add-fit-of Inv-loop μ-loop
 add-fit-of c = omega (arith, c .before .before .pre .0, c .before .before .pre .1)
@@ -23,18 +24,8 @@ add-fit-of c = omega (arith, c .before .before .pre .0, c .before .before .pre .
 fit-of-requires : tie.Need-fit-of-requires Inv-loop μ-loop
 fit-of-requires c κs = let s = c .before .before in (s .pre .0, omega (arith, s .pre .1), s .pre .2)
 
-enum-told : tie.Need-enum-told Inv-loop μ-loop
-enum-told c = search needs
-
-returns : tie.Need-returns Inv-loop μ-loop
-returns c =
-    let called = c .before in
-    called .fit-of .ensures
-    ∙ fitting-stops _ _ (called .before .before .loop .inv) (called .before .loop-test .taken)
-    (λ e. let same = called .fit-of .ensures ∙ e in elim (c .match .keys2) [
-      | inl tag ↦ omega (arith, rw same at tag)
-      | inr tag ↦ omega (arith, rw same at tag)
-    ])
+or-else-requires : tie.Need-or-else-requires Inv-loop μ-loop
+or-else-requires c κs = search needs
 
 add-k : tie.Need-add-k Inv-loop μ-loop
 add-k c = omega arith
@@ -44,11 +35,21 @@ loop-less c = omega arith
 
 loop-again : tie.Need-loop-again Inv-loop μ-loop
 loop-again c =
-    let called = c .before .before in
-    fitting-more _ _ (called .before .before .loop .inv) (called .before .loop-test .taken) (sym (called .fit-of .ensures) ∙ c .enum-told .given .1)
+    let own = c .before in
+    let at = c .before .before .before in
+    let a = at .before .args in (
+      c .or-else .ensures
+          ∙ (λ i. orElse (at .loop .inv .0 i) (own .fit-of .ensures i))
+          ∙ sym (run-last (a .size) (a .motion) (a .first) (at .loop .k))
+          ∙ ap (λ (n : ℕ). firstMisfit (a .size) (a .first) n (a .motion)) (omega arith),
+      omega arith,
+    )
 
-returns-2 : tie.Need-returns-2 Inv-loop μ-loop
-returns-2 c = fitting-all _ _ (c .before .loop .inv) (omega arith)
+returns : tie.Need-returns Inv-loop μ-loop
+returns c =
+    let at = c .before in
+    let a = at .before .args in
+    at .loop .inv .0 ∙ ap (λ (n : ℕ). firstMisfit (a .size) (a .first) n (a .motion)) (omega (arith, at .loop .inv .1))
 
 pub first-misfit-spec : {M : Type 1} → statement M
 first-misfit-spec =
@@ -59,9 +60,8 @@ first-misfit-spec =
     loop-holds
     add-fit-of
     fit-of-requires
-    enum-told
-    returns
+    or-else-requires
     add-k
     loop-less
     loop-again
-    returns-2)
+    returns)

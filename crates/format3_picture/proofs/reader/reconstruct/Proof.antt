@@ -3,7 +3,7 @@
 use mathlib.Core.Path.{sym, _∙_}
 use borrow.Author.Needs.{needs}
 use Rattle.format3_picture.proofs.StartLaws.{Started, header-read}
-use Rattle.format3_picture.specs.Picture.{pictureOf}
+use Rattle.format3_picture.specs.Picture.{pictureRefusing}
 use Rattle.format3_picture.proofs.reader.reconstruct.Statement.{statement}
 use Rattle.format3_picture.proofs.reader.reconstruct.Tie as tie
 
@@ -27,7 +27,7 @@ read-records-requires : tie.Need-read-records-requires
 read-records-requires c κs = let s = started (c .before .before) in (s .header, s .lent, s .in-file)
 
 returns : tie.Need-returns
-unfolding pictureOf
+unfolding pictureRefusing
 returns c =
     let e = sym (c .before .before .before .before .read-file-start .ensures) ∙ c .before .before .refusal .given .1 in
     (rw e (c .refused-at .ensures), rw e)
@@ -36,7 +36,7 @@ same-length : tie.Need-same-length
 same-length c = search needs
 
 returns-2 : tie.Need-returns-2
-unfolding pictureOf
+unfolding pictureRefusing
 returns-2 c =
     let e = sym (c .before .before .before .before .before .before .before .read-file-start .ensures) ∙ c .before .before .before .before .before .header .given .1 in
     (rw e (c .before .before .read-records .ensures .0), rw e (c .before .before .read-records .ensures .1))

@@ -4,7 +4,7 @@ use borrow.Author.Tests.{eq-eqb, ne-eqb, not-true, not-false}
 use borrow.Author.Needs.{needs}
 use Rattle.symbols.specs.Guard.{require_else_then_}
 use Rattle.decode_macroblock.proofs.BlocksLaws.{macroblocks-none}
-use Rattle.format3_picture.specs.Step.{recordApplied}
+use Rattle.format3_picture.specs.Step.{recordAppliedRefusing}
 use Rattle.format3_picture.proofs.RecordLaws.{matrix-makes-none, slice-makes-none}
 use Rattle.format3_picture.proofs.records.apply_record.Statement.{statement}
 use Rattle.format3_picture.proofs.records.apply_record.Tie as tie
@@ -16,7 +16,7 @@ refused-record-requires : tie.Need-refused-record-requires
 refused-record-requires c κs = search needs
 
 returns : tie.Need-returns
-unfolding recordApplied require_else_then_
+unfolding recordAppliedRefusing require_else_then_
 returns c =
     let e = sym (c .before .before .in-turn .ensures) ∙ not-true _ (c .before .if1 .taken) in
     (rw e (c .refused-record .ensures), rw e (macroblocks-none _ _ _ _))
@@ -25,7 +25,7 @@ apply-matrix-requires : tie.Need-apply-matrix-requires
 apply-matrix-requires c κs = tt
 
 returns-2 : tie.Need-returns-2
-unfolding recordApplied require_else_then_
+unfolding recordAppliedRefusing require_else_then_
 returns-2 c =
     let e = sym (c .before .before .before .in-turn .ensures) ∙ not-false _ (c .before .before .if1 .left) in
     let is-matrix = eq-eqb _ _ (c .before .if2 .taken) in
@@ -35,7 +35,7 @@ apply-slice-requires : tie.Need-apply-slice-requires
 apply-slice-requires c κs = tt
 
 returns-3 : tie.Need-returns-3
-unfolding recordApplied require_else_then_
+unfolding recordAppliedRefusing require_else_then_
 returns-3 c =
     let e = sym (c .before .before .before .before .in-turn .ensures) ∙ not-false _ (c .before .before .before .if1 .left) in
     let no-matrix = ne-eqb _ _ (c .before .before .if2 .left) in
@@ -49,7 +49,7 @@ same-length : tie.Need-same-length
 same-length c = search needs
 
 returns-4 : tie.Need-returns-4
-unfolding recordApplied require_else_then_
+unfolding recordAppliedRefusing require_else_then_
 returns-4 c =
     let e = sym (c .before .before .before .before .before .before .before .in-turn .ensures) ∙ not-false _ (c .before .before .before .before .before .before .if1 .left) in
     let no-matrix = ne-eqb _ _ (c .before .before .before .before .before .if2 .left) in

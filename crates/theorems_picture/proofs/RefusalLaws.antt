@@ -1,17 +1,17 @@
--- A record causes only the refusals 3 to 6 and 9 to 18, whatever its bytes. Assumes nothing.
+-- Reading a record causes only the refusals 3 to 6 and 9 to 17, whatever its bytes. Assumes nothing.
 use mathlib.Core.Bool.{Bool, true, false, cond}
 use mathlib.Core.List.{List, [], _∷_}
 use Prim.Native.Nat.{ℕ, zero, suc, _+_}
 use lib.Dec.{T}
 use lib.IntN.{ℤ, pos}
 use Rattle.refusals.specs.declared.Refusal.the-variants as R
-use Rattle.refusals.proofs.Laws.{ofRecord}
+use Rattle.refusals.proofs.Laws.{ofReading}
 use Rattle.symbols.specs.Parsed.{give, optional_default_read_}
 use Rattle.symbols.specs.MacroblockType.{hasScale, hasForward, hasBackward, hasPattern, isIntra}
 use Rattle.symbols.specs.Pair.{firstPosition, afterPair}
 use Rattle.symbols.specs.Pattern.{isCoded}
 use Rattle.symbols.proofs.Guard.{require-all}
-use Rattle.symbols.proofs.Refusals.{OfRecord, legal, refused-by, of-then, of-need, of-given}
+use Rattle.symbols.proofs.Refusals.{OfReading, legal, refused-by, of-then, of-need, of-given}
 use Rattle.decode_coefficients.specs.Dc.{dcPastOf, dcPastsAfter, startingDcPasts}
 use Rattle.decode_coefficients.specs.declared.dc.DcPasts.{DcPasts}
 use Rattle.format3_records.specs.Field.{byte, twoBytes, signedByte, signedTwoBytes}
@@ -33,43 +33,43 @@ use Rattle.format3_macroblock.specs.Macroblock.{patternOf, codedPatternOf, macr
 use Rattle.format3_macroblock.specs.declared.macroblock.MacroblockContext.{MacroblockContext}
 
 -- ---- fields
-of-byte : (bytes : List ℕ) → OfRecord (byte bytes)
+of-byte : (bytes : List ℕ) → OfReading (byte bytes)
 unfolding byte
 of-byte [] = refused-by tt
 of-byte (b ∷ rest) = legal
 
-of-word : (bytes : List ℕ) → OfRecord (twoBytes bytes)
+of-word : (bytes : List ℕ) → OfReading (twoBytes bytes)
 unfolding twoBytes
 of-word [] = refused-by tt
 of-word (a ∷ []) = refused-by tt
 of-word (a ∷ b ∷ rest) = legal
 
-of-signed-byte : (bytes : List ℕ) → OfRecord (signedByte bytes)
+of-signed-byte : (bytes : List ℕ) → OfReading (signedByte bytes)
 unfolding signedByte
 of-signed-byte bytes = of-then (of-byte bytes) λ n rest. legal
 
-of-signed-word : (bytes : List ℕ) → OfRecord (signedTwoBytes bytes)
+of-signed-word : (bytes : List ℕ) → OfReading (signedTwoBytes bytes)
 unfolding signedTwoBytes
 of-signed-word bytes = of-then (of-word bytes) λ n rest. legal
 
 -- ---- a slice
-of-scale : (bytes : List ℕ) → OfRecord (scaleOf bytes)
+of-scale : (bytes : List ℕ) → OfReading (scaleOf bytes)
 unfolding scaleOf
 of-scale bytes =
     of-then (of-byte bytes) λ scale rest.
     of-need _ R.QuantizerScale _ rest tt
     legal
 
-pub of-slice : (body : List ℕ) → OfRecord (sliceOf body)
+pub of-slice : (body : List ℕ) → OfReading (sliceOf body)
 unfolding sliceOf sliceFieldsOf
 of-slice body =
-    require-all OfRecord _ _ _ (refused-by tt) λ long.
+    require-all OfReading _ _ _ (refused-by tt) λ long.
     of-then (of-scale body) λ scale rest.
     of-then (of-word rest) λ start end.
     legal
 
 -- ---- a macroblock's symbols before its blocks
-of-head : (c : HeadContext) (bytes : List ℕ) → OfRecord (headOf c bytes)
+of-head : (c : HeadContext) (bytes : List ℕ) → OfReading (headOf c bytes)
 unfolding headOf
 of-head c bytes =
     of-then (of-byte bytes) λ type rest.
@@ -79,7 +79,7 @@ of-head c bytes =
     (of-then (of-given (hasScale type) 0 scaleOf left (of-scale left)) λ scale end.
     legal))
 
-of-code : (f : ℕ) (bytes : List ℕ) → OfRecord (vectorCodeOf f bytes)
+of-code : (f : ℕ) (bytes : List ℕ) → OfReading (vectorCodeOf f bytes)
 unfolding vectorCodeOf
 of-code f bytes =
     of-then (of-signed-byte bytes) λ code rest.
@@ -88,35 +88,35 @@ of-code f bytes =
     of-need _ R.VectorCode _ end tt
     legal)
 
-of-codes : (f : ℕ) (bytes : List ℕ) → OfRecord (vectorCodesOf f bytes)
+of-codes : (f : ℕ) (bytes : List ℕ) → OfReading (vectorCodesOf f bytes)
 unfolding vectorCodesOf
 of-codes f bytes =
     of-then (of-code f bytes) λ horizontal rest.
     of-then (of-code f rest) λ vertical end.
     legal
 
-of-vectors : (type f b : ℕ) (bytes : List ℕ) → OfRecord (vectorsOf type f b bytes)
+of-vectors : (type f b : ℕ) (bytes : List ℕ) → OfReading (vectorsOf type f b bytes)
 unfolding vectorsOf
 of-vectors type f b bytes =
     of-then (of-given (hasForward type) _ (vectorCodesOf f) bytes (of-codes f bytes)) λ forward rest.
     of-then (of-given (hasBackward type) _ (vectorCodesOf b) rest (of-codes b rest)) λ backward end.
     legal
 
-of-pattern : (bytes : List ℕ) → OfRecord (patternOf bytes)
+of-pattern : (bytes : List ℕ) → OfReading (patternOf bytes)
 unfolding patternOf
 of-pattern bytes =
     of-then (of-byte bytes) λ pattern rest.
     of-need _ R.Pattern _ rest tt
     legal
 
-of-coded-pattern : (type : ℕ) (bytes : List ℕ) → OfRecord (codedPatternOf type bytes)
+of-coded-pattern : (type : ℕ) (bytes : List ℕ) → OfReading (codedPatternOf type bytes)
 of-coded-pattern type bytes = go (isIntra type)
   where
-    go : (intra : Bool) → OfRecord (cond intra (give 63) (optional hasPattern type default 0 read patternOf) bytes)
+    go : (intra : Bool) → OfReading (cond intra (give 63) (optional hasPattern type default 0 read patternOf) bytes)
     go true = legal
     go false = of-given (hasPattern type) 0 patternOf bytes (of-pattern bytes)
 
-of-symbols : (c : MacroblockContext) (bytes : List ℕ) → OfRecord (macroblockSymbolsOf c bytes)
+of-symbols : (c : MacroblockContext) (bytes : List ℕ) → OfReading (macroblockSymbolsOf c bytes)
 unfolding macroblockSymbolsOf
 of-symbols c bytes =
     of-then (of-head (c .head) bytes) λ head rest.
@@ -125,7 +125,7 @@ of-symbols c bytes =
     legal
 
 -- ---- its blocks
-of-pair : (next : ℕ) (bytes : List ℕ) → OfRecord (pairOf next bytes)
+of-pair : (next : ℕ) (bytes : List ℕ) → OfReading (pairOf next bytes)
 unfolding pairOf
 of-pair next bytes =
     of-then (of-byte bytes) λ run rest.
@@ -134,7 +134,7 @@ of-pair next bytes =
     of-need _ R.Coefficient _ end tt
     legal)
 
-of-pairs : (n next : ℕ) (bytes : List ℕ) → OfRecord (pairsOf n next bytes)
+of-pairs : (n next : ℕ) (bytes : List ℕ) → OfReading (pairsOf n next bytes)
 unfolding pairsOf
 of-pairs zero next bytes = legal
 of-pairs (suc n) next bytes =
@@ -142,13 +142,13 @@ of-pairs (suc n) next bytes =
     of-then (of-pairs n (afterPair next pair) rest) λ pairs end.
     legal
 
-of-levels : (intra : Bool) (bytes : List ℕ) → OfRecord (levelsOf intra bytes)
+of-levels : (intra : Bool) (bytes : List ℕ) → OfReading (levelsOf intra bytes)
 unfolding levelsOf countOf
 of-levels intra bytes =
     of-then (of-then (of-byte bytes) λ count rest. of-need _ R.Coefficient _ rest tt legal) λ count rest.
     of-pairs count (firstPosition intra) rest
 
-of-difference : (past : ℤ) (bytes : List ℕ) → OfRecord (differenceOf past bytes)
+of-difference : (past : ℤ) (bytes : List ℕ) → OfReading (differenceOf past bytes)
 unfolding differenceOf
 of-difference past bytes =
     of-then (of-signed-word bytes) λ difference rest.
@@ -156,14 +156,14 @@ of-difference past bytes =
     (of-need _ R.DcCoefficient _ rest tt
     legal)
 
-of-block : (intra : Bool) (past : ℤ) (bytes : List ℕ) → OfRecord (blockOf intra past bytes)
+of-block : (intra : Bool) (past : ℤ) (bytes : List ℕ) → OfReading (blockOf intra past bytes)
 unfolding blockOf
 of-block intra past bytes =
     of-then (of-given intra (pos 0) (differenceOf past) bytes (of-difference past bytes)) λ difference rest.
     of-then (of-levels intra rest) λ pairs end.
     legal
 
-of-blocks : (intra : Bool) (pattern n : ℕ) (pasts : DcPasts) (block : ℕ) (bytes : List ℕ) → OfRecord (blocksOf intra pattern n pasts block bytes)
+of-blocks : (intra : Bool) (pattern n : ℕ) (pasts : DcPasts) (block : ℕ) (bytes : List ℕ) → OfReading (blocksOf intra pattern n pasts block bytes)
 unfolding blocksOf
 of-blocks intra pattern zero pasts block bytes = legal
 of-blocks intra pattern (suc n) pasts block bytes =
@@ -171,11 +171,11 @@ of-blocks intra pattern (suc n) pasts block bytes =
     of-then (of-blocks intra pattern n (dcPastsAfter intra pasts block b) (block + 1) rest) λ blocks end.
     legal
 
-of-end : {A : Type 0} (a : A) (bytes : List ℕ) → OfRecord (atEnd a bytes)
+of-end : {A : Type 0} (a : A) (bytes : List ℕ) → OfReading (atEnd a bytes)
 of-end a [] = legal
 of-end a (b ∷ rest) = refused-by tt
 
-pub of-macroblock : (c : MacroblockContext) (body : List ℕ) → OfRecord (macroblockOf c body)
+pub of-macroblock : (c : MacroblockContext) (body : List ℕ) → OfReading (macroblockOf c body)
 unfolding macroblockOf blocksToEndOf
 of-macroblock c body =
     of-then (of-symbols c body) λ m rest.
@@ -185,7 +185,7 @@ of-macroblock c body =
 -- ---- a matrix, and the record itself
 abbrev pub VerdictOf : Verdict → Type 0
 VerdictOf Passed = T true
-VerdictOf (Refused refusal) = T (ofRecord refusal)
+VerdictOf (Refused refusal) = T (ofReading refusal)
 
 pub of-matrix : (body : List ℕ) (loaded : Loaded) → VerdictOf (matrixVerdict body loaded)
 unfolding matrixVerdict
@@ -199,7 +199,7 @@ of-matrix body loaded =
 
 abbrev pub FoundOf : Record → Type 0
 FoundOf (Record.Found kind start n) = T true
-FoundOf (Record.Refused refusal) = T (ofRecord refusal)
+FoundOf (Record.Refused refusal) = T (ofReading refusal)
 
 pub of-found : (file : List ℕ) (at : ℕ) → FoundOf (recordOf file at)
 unfolding recordOf

@@ -1,0 +1,31 @@
+-- Request No. 1: each theorem cites its law. Assumes nothing.
+use mathlib.Core.Logic.{inl, inr}
+use mathlib.Core.Path.{refl}
+use Rattle.theorems_picture.proofs.AnyRefusalLaws.{picture-alike, counted-alike, number-alike, place-alike, made-alike, output-alike, accepted-alike, alike-accepted}
+use Rattle.theorems_picture.proofs.Request1 as Laws
+use Rattle.theorems_picture.proofs.Worked.{worked-files}
+use Rattle.theorems.specs.Request1.{ForwardIs18, BackwardIs23, BackwardOnlyInB, OnlyTheNumber, WorkedMisfits}
+
+pub forward-is-18 : ForwardIs18
+forward-is-18 transform file forward backward output = (Laws.vector-refused transform file forward backward output (inl refl), Laws.refused-vector transform file forward backward output)
+
+pub backward-is-23 : BackwardIs23
+backward-is-23 transform file forward backward output = (Laws.vector-refused transform file forward backward output (inr refl), Laws.refused-vector transform file forward backward output)
+
+pub backward-only-in-B : BackwardOnlyInB
+backward-only-in-B transform file forward backward output h end e number = Laws.backward-only-in-B transform file forward backward output number h end e
+
+pub only-the-number : OnlyTheNumber
+only-the-number backwardRefusal transform file forward backward output =
+    let alike = picture-alike backwardRefusal transform file forward backward output in
+    record {
+      place = place-alike backwardRefusal alike;
+      made = made-alike backwardRefusal alike;
+      same-output = output-alike backwardRefusal alike;
+      same-accepted = (alike-accepted backwardRefusal alike, accepted-alike backwardRefusal alike);
+      counted = counted-alike backwardRefusal alike;
+      other-number = number-alike backwardRefusal alike;
+    }
+
+pub worked-misfits : WorkedMisfits
+worked-misfits = record { told = worked-files .1; before = worked-files .2 }

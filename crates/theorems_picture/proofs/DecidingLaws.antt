@@ -1,0 +1,213 @@
+-- What decides on a record, whatever the refusal of a backward misfit: reading it or, if its symbols are legal, its vectors. Assumes nothing.
+use mathlib.Core.Bool.{Bool, true, false}
+use mathlib.Core.List.{List}
+use mathlib.Core.Logic.{_⊎_, inl, inr}
+use mathlib.Core.Path.{_≡_, refl, sym, ap, _∙_, subst}
+use Prim.Native.Nat.{ℕ, _+_}
+use native.Mathlib.Omega.{arith}
+use lib.Dec.{T, eqb}
+use lib.ListN.{take, drop}
+use Rattle.refusals.specs.declared.Refusal.{Refusal}
+use Rattle.refusals.specs.declared.Refusal.the-variants.{OutOfTurn, ForwardVectorOutside, BackwardVectorOutside}
+use Rattle.symbols.specs.Guard.{require_else_then_}
+use Rattle.symbols.specs.Parsed.{Parsed, parsed, refused}
+use Rattle.symbols.specs.declared.slice.SliceHeader.{SliceHeader}
+use Rattle.symbols.specs.Macroblock.{Macroblock}
+use Rattle.symbols.proofs.Guard.{require-all}
+use Rattle.symbols.proofs.Parsed.{All, here}
+use Rattle.symbols.proofs.Refusals.{OfReading, refused-by}
+use Rattle.decode_coefficients.specs.declared.matrices.Matrices.{Matrices}
+use Rattle.decode_macroblock.specs.declared.fit.Fit.{Fit}
+use Rattle.decode_macroblock.specs.declared.fit.Fit.the-variants.{Fits, Forward, Backward}
+use Rattle.format3_records.specs.Record.{matrixKind, sliceKind, recordOf}
+use Rattle.format3_records.specs.Turn.{inTurn}
+use Rattle.format3_records.specs.declared.record.Record.{Record}
+use Rattle.format3_records.specs.declared.record.Record.the-variants as Record
+use Rattle.format3_records.specs.declared.verdict.Verdict.{Verdict}
+use Rattle.format3_records.specs.declared.verdict.Verdict.the-variants.{Passed, Refused}
+use Rattle.format3_matrices.specs.Matrix.{matrixVerdict}
+use Rattle.format3_macroblock.specs.Slice.{sliceOf}
+use Rattle.format3_macroblock.specs.Macroblock.{macroblockOf}
+use Rattle.format3_macroblock.proofs.Laws.Macroblock.{MacroblockLegal, macroblock-legal}
+use Rattle.format3_picture.specs.MacroblockRecord.{Applied, contextOf, refusedRecord, recordFit, fitVerdict, planApplied, planAppliedRefusing, symbolsAppliedRefusing, macroblockAppliedRefusing}
+use Rattle.format3_picture.specs.Reconstruction.{planFor, coefficientsFor}
+use Rattle.format3_picture.specs.Step.{matrixApplied, sliceStarted, sliceStartedFrom, sliceApplied, recordAppliedRefusing, matricesAfter, RecordStep, stepAt, stepAtRefusing}
+use Rattle.format3_picture.specs.Symbols.{continues, sliceSymbol, symbolOf, symbolAt}
+use Rattle.format3_picture.specs.declared.state.PictureState.{PictureState}
+use Rattle.theorems_picture.proofs.FileStartLaws.{NeitherEndNorVector, neither, of-reading}
+use Rattle.theorems_picture.proofs.RefusalLaws.{of-slice, of-macroblock, VerdictOf, of-matrix, FoundOf, of-found}
+
+-- ---- verdicts that no vector causes
+abbrev pub NotByVector : Verdict → Type 0
+NotByVector Passed = T true
+NotByVector (Refused refusal) = NeitherEndNorVector refusal
+
+module _ (s : PictureState) where
+  matrix-reads : (body : List ℕ) → NotByVector (matrixApplied s body .verdict)
+  unfolding matrixApplied
+  matrix-reads body = go (matrixVerdict body (s .loaded)) refl (of-matrix body (s .loaded))
+    where
+      go : (v : Verdict) → matrixVerdict body (s .loaded) ≡ v → VerdictOf v → NotByVector (matrixApplied s body .verdict)
+      go Passed e t = rw e tt
+      go (Refused refusal) e t = rw e (of-reading refusal t)
+
+  slice-reads : (x : Parsed SliceHeader) → OfReading x → NotByVector (sliceStartedFrom s x .verdict)
+  unfolding sliceStarted
+  slice-reads (parsed l rest) t = require-all (λ (a : Applied). NotByVector (a .verdict)) _ _ _ (neither _ tt) λ start. tt
+  slice-reads (refused refusal) (refused-by t) = of-reading refusal t
+
+-- a slice record gives no macroblock
+not-slice : (m : Macroblock) (x : Parsed SliceHeader) → sliceSymbol x ≡ continues m → ⊥
+not-slice m (parsed l rest) e = let z : _≡_ {A = ℕ} 0 1 = cc in omega arith
+not-slice m (refused refusal) e = let z : _≡_ {A = ℕ} 0 1 = cc in omega arith
+
+module _ (file : List ℕ) (at : ℕ) (s : PictureState) (q : Matrices) where
+  -- the step over a record with these symbols, which ends at this offset
+  abbrev pub stepByVectors : Refusal → Macroblock → ℕ → RecordStep
+  stepByVectors refusal m end = record {
+    applied = planAppliedRefusing refusal s (planFor (s .header) (s .next) (s .slice) m) (coefficientsFor q (s .slice) m);
+    matrices = q;
+    end = end;
+  }
+
+  -- reading decides if the symbols are not legal, the record is no macroblock, or it is out of turn
+  pub data Decided : Type 0 where
+    by-reading : (t : RecordStep) → NotByVector (t .applied .verdict)
+        → ((m : Macroblock) → symbolAt file at s ≡ continues m → t .applied .verdict ≡ Refused OutOfTurn)
+        → ((refusal : Refusal) → stepAtRefusing refusal file at s q ≡ t) → Decided
+    by-vectors : (m : Macroblock) (end : ℕ) → MacroblockLegal (contextOf s) m → symbolAt file at s ≡ continues m
+        → ((refusal : Refusal) → stepAtRefusing refusal file at s q ≡ stepByVectors refusal m end) → Decided
+
+  module _ {kind start n : ℕ} (found : recordOf file at ≡ Record.Found kind start n) where
+    abbrev body : List ℕ
+    body = take n (drop start file)
+
+    symbol-found : symbolAt file at s ≡ symbolOf s kind body
+    unfolding symbolAt
+    symbol-found = rw found
+
+    -- the step over the record, by what the record does
+    abbrev stepWith : Applied → RecordStep
+    stepWith a = record { applied = a; matrices = matricesAfter kind body q; end = start + n }
+
+    step-found : (refusal : Refusal) {a : Applied} → recordAppliedRefusing refusal q s kind body ≡ a → stepAtRefusing refusal file at s q ≡ stepWith a
+    unfolding stepAtRefusing
+    step-found refusal e = rw (found, e)
+
+    reading : (a : Applied) → NotByVector (a .verdict) → ((m : Macroblock) → symbolOf s kind body ≡ continues m → a .verdict ≡ Refused OutOfTurn)
+        → ((refusal : Refusal) → recordAppliedRefusing refusal q s kind body ≡ a) → Decided
+    reading a v none e = by-reading (stepWith a) v (λ m c. none m (sym symbol-found ∙ c)) (λ refusal. step-found refusal (e refusal))
+
+    -- ---- what the record does, by its turn and its kind
+    out-of-turn : inTurn (s .turn) kind ≡ false → (refusal : Refusal) → recordAppliedRefusing refusal q s kind body ≡ refusedRecord OutOfTurn s
+    unfolding recordAppliedRefusing require_else_then_
+    out-of-turn e refusal = rw e
+
+    matrix : inTurn (s .turn) kind ≡ true → eqb kind matrixKind ≡ true → (refusal : Refusal) → recordAppliedRefusing refusal q s kind body ≡ matrixApplied s body
+    unfolding recordAppliedRefusing require_else_then_
+    matrix e f refusal = rw (e, f)
+
+    slice : inTurn (s .turn) kind ≡ true → eqb kind matrixKind ≡ false → eqb kind sliceKind ≡ true → (refusal : Refusal) → recordAppliedRefusing refusal q s kind body ≡ sliceApplied s body
+    unfolding recordAppliedRefusing require_else_then_
+    slice e f g refusal = rw (e, f, g)
+
+    module _ (e : inTurn (s .turn) kind ≡ true) (f : eqb kind matrixKind ≡ false) (g : eqb kind sliceKind ≡ false) where
+      macroblock : (refusal : Refusal) → recordAppliedRefusing refusal q s kind body ≡ macroblockAppliedRefusing refusal q s body
+      unfolding recordAppliedRefusing require_else_then_
+      macroblock refusal = rw (e, f, g)
+
+      planned : {m : Macroblock} {rest : List ℕ} → macroblockOf (contextOf s) body ≡ parsed m rest
+          → (refusal : Refusal) → recordAppliedRefusing refusal q s kind body ≡ planAppliedRefusing refusal s (planFor (s .header) (s .next) (s .slice) m) (coefficientsFor q (s .slice) m)
+      unfolding symbolsAppliedRefusing
+      planned p refusal = macroblock refusal ∙ rw p
+
+      by-symbols : (x : Parsed Macroblock) → OfReading x → All (λ m rest. MacroblockLegal (contextOf s) m) x → macroblockOf (contextOf s) body ≡ x → Decided
+      by-symbols (refused refusal) (refused-by t) l p =
+          reading (refusedRecord refusal s) (of-reading refusal t)
+          (λ m c. let d = rw (f, g, p) at c in let z : _≡_ {A = ℕ} 0 1 = cc in absurd (omega arith))
+          (λ other. macroblock other ∙ rw p)
+      by-symbols (parsed m rest) t (here legal) p =
+          by-vectors m (start + n) legal (symbol-found ∙ rw (f, g, p)) (λ other. step-found other (planned p other) ∙ rw f)
+
+    in-file : Decided
+    in-file = go (inTurn (s .turn) kind) (eqb kind matrixKind) (eqb kind sliceKind) refl refl refl
+      where
+        go : (turn is-matrix is-slice : Bool) → inTurn (s .turn) kind ≡ turn → eqb kind matrixKind ≡ is-matrix → eqb kind sliceKind ≡ is-slice → Decided
+        go false is-matrix is-slice e f g = reading (refusedRecord OutOfTurn s) (neither _ tt) (λ m c. refl) (out-of-turn e)
+        go true true is-slice e f g =
+            reading (matrixApplied s body) (matrix-reads s body) (λ m c. let d = rw f at c in let z : _≡_ {A = ℕ} 0 1 = cc in absurd (omega arith)) (matrix e f)
+        go true false true e f g =
+            reading (sliceApplied s body) (slice-reads s (sliceOf body) (of-slice body)) (λ m c. absurd (not-slice m (sliceOf body) (rw (f, g) at c))) (slice e f g)
+        go true false false e f g = by-symbols e f g (macroblockOf (contextOf s) body) (of-macroblock (contextOf s) body) (macroblock-legal (contextOf s) body) refl
+
+  unfound : {refusal : Refusal} → recordOf file at ≡ Record.Refused refusal → (other : Refusal) → stepAtRefusing other file at s q ≡ record { applied = refusedRecord refusal s; matrices = q; end = at }
+  unfolding stepAtRefusing
+  unfound e other = rw e
+
+  no-symbol : {refusal : Refusal} → recordOf file at ≡ Record.Refused refusal → (m : Macroblock) → symbolAt file at s ≡ continues m → ⊥
+  unfolding symbolAt
+  no-symbol e m c = let d = rw e at c in let z : _≡_ {A = ℕ} 0 1 = cc in omega arith
+
+  pub decided : Decided
+  decided = go (recordOf file at) refl (of-found file at)
+    where
+      go : (r : Record) → recordOf file at ≡ r → FoundOf r → Decided
+      go (Record.Refused refusal) e t =
+          by-reading (record { applied = refusedRecord refusal s; matrices = q; end = at }) (of-reading refusal t) (λ m c. absurd (no-symbol e m c)) (unfound e)
+      go (Record.Found kind start n) e t = in-file e
+
+  -- ---- the verdict on the vectors of a macroblock
+  abbrev pub vectorVerdict : Macroblock → Verdict
+  vectorVerdict m = fitVerdict (recordFit (s .header .size) (planFor (s .header) (s .next) (s .slice) m))
+
+  plan-verdict : (m : Macroblock) → planApplied s (planFor (s .header) (s .next) (s .slice) m) (coefficientsFor q (s .slice) m) .verdict ≡ vectorVerdict m
+  unfolding planAppliedRefusing
+  plan-verdict m = go (recordFit (s .header .size) (planFor (s .header) (s .next) (s .slice) m)) refl
+    where
+      go : (f : Fit) → recordFit (s .header .size) (planFor (s .header) (s .next) (s .slice) m) ≡ f
+          → planApplied s (planFor (s .header) (s .next) (s .slice) m) (coefficientsFor q (s .slice) m) .verdict ≡ vectorVerdict m
+      go Fits e = rw e
+      go Forward e = rw e
+      go Backward e = rw e
+
+  -- ---- a refused record: it can't be read, or a vector doesn't fit
+  pub record RefusedByVector (refusal : Refusal) : Type 0 where
+    pub symbols : Macroblock
+    pub legal : MacroblockLegal (contextOf s) symbols
+    pub read : symbolAt file at s ≡ continues symbols
+    pub verdict : vectorVerdict symbols ≡ Refused refusal
+
+  pub why-refused : (refusal : Refusal) → stepAt file at s q .applied .verdict ≡ Refused refusal → NeitherEndNorVector refusal ⊎ RefusedByVector refusal
+  why-refused refusal v = go decided
+    where
+      go : Decided → NeitherEndNorVector refusal ⊎ RefusedByVector refusal
+      go (by-reading t reads none e) = inl (subst NotByVector (sym (ap (λ (u : RecordStep). u .applied .verdict) (e BackwardVectorOutside)) ∙ v) reads)
+      go (by-vectors m end legal symbol e) = inr (record {
+        symbols = m;
+        legal = legal;
+        read = symbol;
+        verdict = sym (plan-verdict m) ∙ sym (ap (λ (u : RecordStep). u .applied .verdict) (e BackwardVectorOutside)) ∙ v;
+      })
+
+  -- a record in turn whose symbols are legal: its vectors decide
+  pub vectors-decide : (m : Macroblock) → symbolAt file at s ≡ continues m → (stepAt file at s q .applied .verdict ≡ Refused OutOfTurn → ⊥) → stepAt file at s q .applied .verdict ≡ vectorVerdict m
+  vectors-decide m c in-turn = go decided
+    where
+      go : Decided → stepAt file at s q .applied .verdict ≡ vectorVerdict m
+      go (by-reading t reads none e) = absurd (in-turn (ap (λ (u : RecordStep). u .applied .verdict) (e BackwardVectorOutside) ∙ none m c))
+      go (by-vectors k end legal symbol e) =
+          let d = sym symbol ∙ c in
+          let same : _≡_ {A = Macroblock} k m = cc in
+          ap (λ (u : RecordStep). u .applied .verdict) (e BackwardVectorOutside) ∙ plan-verdict k ∙ ap vectorVerdict same
+
+-- ---- the refusals of a misfit
+abbrev pub OfVector : Refusal → Type 0
+OfVector refusal = (refusal ≡ ForwardVectorOutside) ⊎ (refusal ≡ BackwardVectorOutside)
+
+misfit-of-vector : (f : Fit) (refusal : Refusal) → fitVerdict f ≡ Refused refusal → OfVector refusal
+misfit-of-vector Fits refusal e = let z : _≡_ {A = ℕ} 0 1 = cc in absurd (omega arith)
+misfit-of-vector Forward refusal e = inl cc
+misfit-of-vector Backward refusal e = inr cc
+
+pub refused-of : {file : List ℕ} {at : ℕ} {s : PictureState} {q : Matrices} {refusal : Refusal} → RefusedByVector file at s q refusal → OfVector refusal
+refused-of {file} {at} {s} {q} {refusal} r = misfit-of-vector (recordFit (s .header .size) (planFor (s .header) (s .next) (s .slice) (r .symbols))) refusal (r .verdict)
