@@ -53,7 +53,8 @@ extern "C" {
 #endif
 
 /* The version of this interface, also of the shared library's name (libformat3.so.1). It increases when a function or a struct
- * changes or goes. A new function or a new answer does not change it, so expect answers that are not listed below.
+ * changes or goes. A new function, a new answer or another name for an answer does not change it, so expect answers that are not
+ * listed below.
  * format3_api_version returns the version that the library was built with: compare the two before the first call. */
 #define FORMAT3_API_VERSION 1
 

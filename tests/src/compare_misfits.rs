@@ -3,9 +3,13 @@
 use std::collections::BTreeMap;
 
 use crate::compare::{same_picture, Counts};
-use crate::decoder::file::{first_header, record, slice, Header, PictureType, MACROBLOCK, SLICE};
-use crate::decoder::macroblock::{macroblock, Macroblock, SliceState};
+use crate::decoder::file::{
+    first_header, matrix, record, slice, Header, PictureType, Record, MACROBLOCK, MATRIX, SLICE,
+};
+use crate::decoder::macroblock::{macroblock, Last, SliceState};
 use crate::decoder::picture::skip_vectors;
+use crate::decoder::refusals::{require, Refusal};
+use crate::decoder::size::Size;
 use crate::decoder::vectors::{fits, Vectors};
 use crate::decoder::Entries;
 use crate::generator::{all_arrangements, misfit_cases, Arrangement, Fit};
@@ -48,78 +52,108 @@ pub fn require_every_arrangement(counts: &ArrangementCounts) -> Result<(), Strin
     }
 }
 
-/// The arrangements of a file's macroblock records, up to the first record that is refused.
+/// The arrangements of a file's macroblock records, up to the first record that is refused. If that is because a vector doesn't
+/// fit, its arrangement is the last.
 pub fn arrangements(file: &[u8]) -> Vec<Arrangement> {
     let mut found = Vec::new();
     let Ok((header, mut offset)) = first_header(file) else {
         return found;
     };
-    let mut next = 0;
-    let mut state = None;
+    let mut progress = Progress {
+        header,
+        matrices_given: [false; 2],
+        next: 0,
+        slice: None,
+    };
     while let Ok(record) = record(file, offset) {
-        offset = record.end;
-        match (record.kind, state.take()) {
-            (SLICE, _) => state = slice(record.body, next).ok().map(SliceState::start),
-            (MACROBLOCK, Some(before)) => {
-                let Ok(read) = macroblock(record.body, &header, next, &before) else {
-                    break;
-                };
-                let has_vector = record.body[0] & 6 != 0;
-                let arrangement = arrangement(&header, next, &before, &read, has_vector);
-                let refused = arrangement.misfits();
-                found.push(arrangement);
-                if refused {
-                    break;
-                }
-                next += read.skipped + 1;
-                state = Some(read.after);
-            }
-            _ => (),
+        let Ok(arrangement) = progress.read(record) else {
+            break;
+        };
+        found.extend(arrangement);
+        if found.last().is_some_and(Arrangement::has_misfit) {
+            break;
         }
+        offset = record.end;
     }
     found
 }
 
-/// The arrangement of a macroblock record that starts at the address `next`.
-fn arrangement(
-    header: &Header,
+/// How far a file is read after its header.
+struct Progress {
+    header: Header,
+    matrices_given: [bool; 2],
+    /// The next address.
     next: usize,
-    before: &SliceState,
-    read: &Macroblock,
-    has_vector: bool,
-) -> Arrangement {
-    let Header {
-        size,
-        picture_type,
-        directions,
-    } = *header;
-    let repeated = match picture_type {
-        PictureType::B => skip_vectors(picture_type, before.last),
-        _ => [None; 2],
-    };
-    let own = if has_vector { read.vectors } else { [None; 2] };
-    let own_address = next + read.skipped;
-    let fit = |address: usize, vectors: Vectors| {
-        vectors.map(|vector| match vector {
-            None => Fit::Unused,
-            Some(vector) if fits(size, address, vector) => Fit::Fits,
-            Some(_) => Fit::Misfits,
-        })
-    };
-    let past_misfits = |address: usize, vectors: Vectors| {
-        (0..2).any(|way| {
-            let past = directions[way].used(before.vector_pasts[way]);
-            vectors[way].is_none() && !fits(size, address, past)
-        })
-    };
-    let skipped = next..own_address;
-    Arrangement {
-        picture_type,
-        full_pel: directions.map(|direction| direction.full_pel),
-        skipped: skipped.clone().map(|at| fit(at, repeated)).collect(),
-        own: fit(own_address, own),
-        intra: read.intra,
-        past_misfits: skipped.clone().any(|at| past_misfits(at, repeated))
-            || past_misfits(own_address, own),
+    slice: Option<SliceState>,
+}
+
+impl Progress {
+    /// Reads a record, and gives the arrangement of a macroblock record. Vectors that don't fit are not refused here.
+    fn read(&mut self, record: Record) -> Result<Option<Arrangement>, Refusal> {
+        match (record.kind, self.slice.take()) {
+            (MATRIX, None) => {
+                let (which, _) = matrix(record.body, self.matrices_given)?;
+                self.matrices_given[which] = true;
+                Ok(None)
+            }
+            (SLICE, before) => {
+                let in_turn = before.is_none_or(|before| before.last != Last::None);
+                require(in_turn, Refusal::OutOfTurn)?;
+                let scale = slice(record.body, self.next)?;
+                self.slice = Some(SliceState::start(scale));
+                Ok(None)
+            }
+            (MACROBLOCK, Some(before)) => self.read_macroblock(record.body, &before).map(Some),
+            _ => Err(Refusal::OutOfTurn),
+        }
     }
+
+    fn read_macroblock(
+        &mut self,
+        body: &[u8],
+        before: &SliceState,
+    ) -> Result<Arrangement, Refusal> {
+        let Header {
+            size, picture_type, ..
+        } = self.header;
+        let read = macroblock(body, &self.header, self.next, before)?;
+        let repeated = match picture_type {
+            PictureType::B => skip_vectors(picture_type, before.last),
+            _ => [None; 2],
+        };
+        let has_vector = body[0] & 6 != 0;
+        let own = if has_vector { read.vectors } else { [None; 2] };
+        let own_address = self.next + read.skipped;
+        let skipped = self.next..own_address;
+        let outside = |address, vectors| past_outside(&self.header, before, address, vectors);
+        let arrangement = Arrangement {
+            picture_type,
+            full_pel: self.header.directions.map(|direction| direction.full_pel),
+            skipped: skipped.clone().map(|at| fit(size, at, repeated)).collect(),
+            own: fit(size, own_address, own),
+            intra: read.intra,
+            past_outside: skipped.clone().any(|at| outside(at, repeated))
+                || outside(own_address, own),
+        };
+        self.next = own_address + 1;
+        self.slice = Some(read.after);
+        Ok(arrangement)
+    }
+}
+
+/// What a macroblock with these vectors has in each direction.
+fn fit(size: Size, address: usize, vectors: Vectors) -> [Fit; 2] {
+    vectors.map(|vector| match vector {
+        None => Fit::Unused,
+        Some(vector) if fits(size, address, vector) => Fit::Fits,
+        Some(_) => Fit::Outside,
+    })
+}
+
+/// Whether, in a direction that a macroblock with these vectors doesn't use, the past before the record doesn't fit.
+fn past_outside(header: &Header, before: &SliceState, address: usize, vectors: Vectors) -> bool {
+    (0..2).any(|way| {
+        let past = header.directions[way].used(before.vector_pasts[way]);
+        vectors[way].is_none() && !fits(header.size, address, past)
+    })
 }

@@ -3,7 +3,7 @@
 use format3_tests::compare::{
     changed_fields, coefficients, headers, pictures, transforms, vectors,
 };
-use format3_tests::compare_misfits::{arrangements, misfits};
+use format3_tests::compare_misfits::misfits;
 use format3_tests::compare_room_slices::room_slices;
 use format3_tests::compare_slices::{
     changed_slices, ended_slices, long_slices, slices, stream_slices,
@@ -11,7 +11,7 @@ use format3_tests::compare_slices::{
 use format3_tests::decoder::{
     Answer, Entries, FileStart, Given, ReadHeader, ReadSlice, Reconstruct, SliceAnswer, ENTRIES,
 };
-use format3_tests::generator::{record_ends, Arrangement, Fit, ROOM};
+use format3_tests::generator::{record_ends, ROOM};
 
 const SEED: u64 = 2;
 
@@ -80,105 +80,6 @@ fn wrong_panels_are_found() {
             ..ENTRIES
         };
         require_found(name, wrong);
-    }
-}
-
-/// The answer to a picture, with another number if its last record has a vector that doesn't fit.
-fn answer_by(
-    file: &[u8],
-    references: [&[u8]; 2],
-    output: &mut [u8],
-    number: fn(&Arrangement) -> u32,
-) -> Answer {
-    let [forward, backward] = references;
-    let answer = (ENTRIES.reconstruct)(file, forward, backward, output);
-    match (answer.number, arrangements(file).last()) {
-        (18 | 23, Some(arrangement)) => Answer {
-            number: number(arrangement),
-            ..answer
-        },
-        _ => answer,
-    }
-}
-
-/// The first of these numbers whose vector doesn't fit.
-fn first_misfit(numbered: impl IntoIterator<Item = (Fit, u32)>) -> u32 {
-    let mut numbered = numbered.into_iter();
-    let first = numbered.find(|(fit, _)| *fit == Fit::Misfits);
-    first.map_or(0, |(_, number)| number)
-}
-
-/// Each macroblock's forward and backward vector with its number.
-fn numbered(macroblocks: Vec<[Fit; 2]>) -> impl Iterator<Item = (Fit, u32)> {
-    let numbered = |[forward, backward]: [Fit; 2]| [(forward, 18), (backward, 23)];
-    macroblocks.into_iter().flat_map(numbered)
-}
-
-/// Panels that test the vectors of a record in a wrong order, or too many of them.
-#[test]
-fn wrong_orders_of_misfits_are_found() {
-    let one_number: Reconstruct =
-        |file, forward, backward, output| answer_by(file, [forward, backward], output, |_| 18);
-    let backward_first: Reconstruct = |file, forward, backward, output| {
-        answer_by(file, [forward, backward], output, |arrangement| {
-            let macroblocks = arrangement.macroblocks();
-            first_misfit(
-                macroblocks.flat_map(|[forward, backward]| [(backward, 23), (forward, 18)]),
-            )
-        })
-    };
-    let forward_of_all_first: Reconstruct = |file, forward, backward, output| {
-        answer_by(file, [forward, backward], output, |arrangement| {
-            let forward = arrangement.macroblocks().map(|[forward, _]| (forward, 18));
-            let backward = arrangement
-                .macroblocks()
-                .map(|[_, backward]| (backward, 23));
-            first_misfit(forward.chain(backward))
-        })
-    };
-    let own_first: Reconstruct = |file, forward, backward, output| {
-        answer_by(file, [forward, backward], output, |arrangement| {
-            first_misfit(numbered(
-                [&[arrangement.own], &arrangement.skipped[..]].concat(),
-            ))
-        })
-    };
-    let skipped_backwards: Reconstruct = |file, forward, backward, output| {
-        answer_by(file, [forward, backward], output, |arrangement| {
-            let mut macroblocks = arrangement.skipped.clone();
-            macroblocks.reverse();
-            first_misfit(numbered([&macroblocks[..], &[arrangement.own]].concat()))
-        })
-    };
-    let tests_unused_pasts: Reconstruct = |file, forward, backward, output| {
-        let answer = (ENTRIES.reconstruct)(file, forward, backward, output);
-        let past_misfits = |arrangement: &Arrangement| arrangement.past_misfits;
-        match arrangements(file).iter().any(past_misfits) {
-            true => Answer {
-                number: 23,
-                ..answer
-            },
-            false => answer,
-        }
-    };
-    let panels = [
-        ("one number for both directions", one_number),
-        ("backward before forward", backward_first),
-        ("all forward vectors first", forward_of_all_first),
-        ("its own vectors before skipped ones", own_first),
-        ("skipped macroblocks from the last", skipped_backwards),
-        ("pasts of unused directions tested", tests_unused_pasts),
-    ];
-    for (name, reconstruct) in panels {
-        let wrong = Entries {
-            reconstruct,
-            ..ENTRIES
-        };
-        let found = misfits(&wrong, SEED).err().unwrap_or_default();
-        assert!(
-            found.contains("by the one tested"),
-            "{name} was not found: {found}"
-        );
     }
 }
 

@@ -3,14 +3,11 @@
 use format3_tests::compare::{
     header_answers, headers, picture_answers, require_every_answer, Counts,
 };
-use format3_tests::compare_misfits::{arrangements, misfits, require_every_arrangement};
 use format3_tests::compare_room_slices::{require_every_room_trial, room_slices};
 use format3_tests::compare_slices::{slices, SLICE_ANSWERS};
 use format3_tests::decoder::panel::{play, PANEL_LIMITS};
 use format3_tests::decoder::{reconstruct, ENTRIES};
-use format3_tests::generator::{
-    case, misfit_cases, reel, slice_case, small_cases, small_slice_cases, Arrangement, Fit, ROOM,
-};
+use format3_tests::generator::{case, reel, slice_case, small_cases, small_slice_cases, ROOM};
 
 const SEED: u64 = 1;
 
@@ -74,46 +71,6 @@ fn changed_fields_bring_about_every_refusal_of_a_field() {
     // No field empties the file or changes the references that are lent.
     let by_field = picture_answers().filter(|answer| ![1, 20, 21].contains(answer));
     assert_eq!(require_every_answer(&counts, by_field), Ok(()));
-}
-
-/// Request No. 1: skipped macroblocks by address, then the record's own; each forward (18), then backward (23).
-fn first_misfit(arrangement: &Arrangement) -> u32 {
-    let mut numbered = arrangement
-        .macroblocks()
-        .flat_map(|[f, b]| [(f, 18), (b, 23)]);
-    let first = numbered.find(|(fit, _)| *fit == Fit::Misfits);
-    first.map_or(0, |(_, number)| number)
-}
-
-#[test]
-fn misfits_are_answered_by_the_first() {
-    for (number, mut case) in misfit_cases(SEED).into_iter().enumerate() {
-        let answer = reconstruct(&case.file, &case.forward, &case.backward, &mut case.output);
-        let first = arrangements(&case.file).last().map(first_misfit);
-        assert_eq!(Some(answer.number), first, "misfit {number}");
-        assert_eq!(answer.number == 0, case.legal, "misfit {number}");
-    }
-}
-
-/// A missing arrangement is reported.
-///
-/// In B, with k skipped macroblocks, a direction has 2^k arrangements of these if they use it, and 1 if they don't; its own
-/// macroblock has 3. Both directions unused by skipped ones is none. So there are 9, 9 * (3 * 3 - 1) and 9 * (5 * 5 - 1). All but
-/// 4 * 4^k, where nothing is unused, are there twice, by the pasts; and each four times, by the full-pel flags.
-///
-/// In P, its own macroblock has 4: intra, without a vector, with one that fits or doesn't. All but the last two without skipped ones
-/// are there twice, by the pasts; and each twice, by the full-pel flag.
-#[test]
-fn missing_arrangements_are_reported() {
-    let made = misfits(&ENTRIES, SEED).expect("the decoder is itself");
-    let required = made.arrangements.keys().filter(|arrangement| {
-        let mut counts = made.arrangements.clone();
-        counts.remove(arrangement);
-        require_every_arrangement(&counts).is_err()
-    });
-    let b = 2 * (9 + 9 * 8 + 9 * 24) - 4 * (1 + 4 + 16);
-    let p = 2 * (4 + 4 + 4) - 2;
-    assert_eq!(required.count(), 4 * b + 2 * p);
 }
 
 /// All answers occur and, as `slices` itself checks, every word of Annex B.

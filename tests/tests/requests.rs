@@ -4,6 +4,7 @@ use std::fs;
 use std::path::{Path, PathBuf};
 
 use format3_tests::decoder::{Answer, Entries, Reconstruct, ENTRIES};
+use format3_tests::requests::notation::Unread;
 use format3_tests::requests::{
     found_in, request_of, run, CaseResult, Difference, Found, Landed, Report, RequestFile, Tested,
     LANDED,
@@ -60,24 +61,24 @@ fn case_with(field: usize, text: &str) -> String {
 /// The report on a file of No. 1 with a case that is met, and a line.
 fn report_with(line: &str) -> Report {
     let lines = [HEADER.into(), CASE.join("\t"), line.into()];
-    run_on_decoder(&[no01(&lines)], &LANDED)
+    run_on_decoder(&[no01(&lines)], LANDED)
 }
 
-fn assert_report(report: &Report, passed: bool, lines: &[&str]) {
+fn assert_report(report: &Report, exit_status: u8, lines: &[&str]) {
     let text = report.to_string();
     assert_eq!(text.lines().collect::<Vec<_>>(), lines);
-    assert_eq!(report.passed(), passed, "{text}");
+    assert_eq!(report.exit_status(), exit_status, "{text}");
 }
 
 #[test]
 fn the_decoder_gives_the_answers_of_the_cases() {
     let found = found_in(&copies()).expect("the copies can be read");
-    let report = run_on_decoder(&found, &LANDED);
+    let report = run_on_decoder(&found, LANDED);
     let lines = [
         "no01.txt: 306 cases, 0 differ",
         "requests: 306 cases, 0 differ",
     ];
-    assert_report(&report, true, &lines);
+    assert_report(&report, 0, &lines);
 }
 
 #[test]
@@ -90,7 +91,7 @@ fn every_file_of_a_landed_request_is_copied() {
 #[test]
 fn a_case_that_is_met_passes() {
     let lines = ["no01.txt: 2 cases, 0 differ", "requests: 2 cases, 0 differ"];
-    assert_report(&report_with(&CASE.join("\t")), true, &lines);
+    assert_report(&report_with(&CASE.join("\t")), 0, &lines);
 }
 
 #[test]
@@ -111,7 +112,7 @@ fn each_wrong_answer_differs() {
             "no01.txt: 2 cases, 1 differ",
             "requests: 2 cases, 1 differ",
         ];
-        assert_report(&report_with(&case_with(field, text)), false, &lines);
+        assert_report(&report_with(&case_with(field, text)), 1, &lines);
     }
 }
 
@@ -135,7 +136,8 @@ fn the_inputs_of_a_case_reach_the_entry() {
     };
     let line = "name\t00ff\t1:3\t2:4\t1:384\t7\t8\t9\tea2c49134a3df333";
     let found = [no01(&[HEADER.into(), line.into()])];
-    assert!(run(&found, &LANDED, tested_with(&entries)).passed());
+    let report = run(&found, LANDED, tested_with(&entries));
+    assert_eq!(report.exit_status(), 0, "{report}");
 }
 
 #[test]
@@ -158,9 +160,10 @@ fn a_line_that_is_not_a_case_fails() {
         let lines = [
             &format!("no01.txt, line 3: {reason}"),
             "no01.txt: 1 cases, 0 differ",
+            "1 files or lines could not be run",
             "requests: 1 cases, 0 differ",
         ];
-        assert_report(&report_with(&line), false, &lines);
+        assert_report(&report_with(&line), 1, &lines);
     }
 }
 
@@ -171,33 +174,33 @@ fn a_wide_case_is_left_out_only_if_the_type_has_no_such_number() {
         "no01.txt: 1 cases, 0 differ, 1 left out",
         "requests: 1 cases, 0 differ",
     ];
-    assert_report(&report_with(&wide(5, "4294967296")), true, &lines);
+    assert_report(&report_with(&wide(5, "4294967296")), 0, &lines);
     let differing = report_with(&wide(5, "4294967295")).to_string();
     assert!(differing.ends_with("requests: 2 cases, 1 differ\n"));
-    assert!(!report_with(&wide(5, "x")).passed());
+    assert_eq!(report_with(&wide(5, "x")).exit_status(), 1);
 }
 
 #[test]
 fn a_file_without_a_first_line_or_a_case_fails() {
     let first = "no01.txt: line 1 does not start with \"# \"";
-    let none = "no case was run";
-    let total = "requests: 0 cases, 0 differ";
-    let report = |lines: &[String]| run_on_decoder(&[no01(lines)], &LANDED);
-    assert_report(&report(&[CASE.join("\t")]), false, &[first, none, total]);
-    assert_report(&report(&[]), false, &[first, none, total]);
-    let lines = [
-        "no01.txt: no case was run",
-        "no01.txt: 0 cases, 0 differ",
-        none,
-        total,
+    let end = [
+        "no case was run",
+        "1 files or lines could not be run",
+        "requests: 0 cases, 0 differ",
     ];
-    assert_report(&report(&[HEADER.into()]), false, &lines);
+    let report = |lines: &[String]| run_on_decoder(&[no01(lines)], LANDED);
+    let lines = [&[first], &end[..]].concat();
+    assert_report(&report(&[CASE.join("\t")]), 1, &lines);
+    assert_report(&report(&[]), 1, &lines);
+    let none = ["no01.txt: no case was run", "no01.txt: 0 cases, 0 differ"];
+    let lines = [&none[..], &end].concat();
+    assert_report(&report(&[HEADER.into()]), 1, &lines);
 }
 
 #[test]
 fn no_case_fails() {
     let lines = ["no case was run", "requests: 0 cases, 0 differ"];
-    assert_report(&run_on_decoder(&[], &LANDED), false, &lines);
+    assert_report(&run_on_decoder(&[], LANDED), 1, &lines);
     let skipped = [found("no98-other.txt", ""), found("no99.txt", "")];
     let lines = [
         "no98-other.txt: skipped, since request No. 98 has not landed",
@@ -205,7 +208,7 @@ fn no_case_fails() {
         "no case was run",
         "requests: 0 cases, 0 differ",
     ];
-    assert_report(&run_on_decoder(&skipped, &LANDED), false, &lines);
+    assert_report(&run_on_decoder(&skipped, LANDED), 1, &lines);
 }
 
 /// The file that fails does not keep the next from being run.
@@ -235,10 +238,31 @@ fn each_file_that_cannot_be_run_fails() {
         let lines = [
             line,
             "no98.txt: 2 cases, 0 differ",
+            "1 files or lines could not be run",
             "requests: 2 cases, 0 differ",
         ];
-        assert_report(&run_on_decoder(&found, &MADE_UP), false, &lines);
+        assert_report(&run_on_decoder(&found, MADE_UP), 1, &lines);
     }
+}
+
+#[test]
+fn files_and_lines_that_cannot_be_run_are_counted() {
+    let found = [
+        found("no96.txt", "# name\nmet\n"),
+        found("no97.txt", "# name\nmet\nmalformed\nmalformed\n"),
+        found("no98.txt", "# name\nmet\n"),
+    ];
+    let folder = tested_with(&ENTRIES).programs.display();
+    let lines = [
+        &*format!("no96.txt: no program missing in {folder}"),
+        "no97.txt, line 3: malformed",
+        "no97.txt, line 4: malformed",
+        "no97.txt: 1 cases, 0 differ",
+        "no98.txt: 1 cases, 0 differ",
+        "3 files or lines could not be run",
+        "requests: 2 cases, 0 differ",
+    ];
+    assert_report(&run_on_decoder(&found, MADE_UP), 1, &lines);
 }
 
 #[test]
@@ -249,7 +273,7 @@ fn a_file_that_is_skipped_does_not_fail() {
         "no99.txt: skipped, since request No. 99 has not landed",
         "requests: 1 cases, 0 differ",
     ];
-    assert_report(&run_on_decoder(&found, &MADE_UP), true, &lines);
+    assert_report(&run_on_decoder(&found, MADE_UP), 0, &lines);
 }
 
 /// The counts of files add up.
@@ -265,11 +289,11 @@ fn a_difference_in_one_file_fails() {
         "no98.txt: 1 cases, 0 differ",
         "requests: 3 cases, 1 differ",
     ];
-    assert_report(&run_on_decoder(&found, &MADE_UP), false, &lines);
+    assert_report(&run_on_decoder(&found, MADE_UP), 1, &lines);
 }
 
 /// Requests whose files have cases that are met by their name alone, and run programs.
-const MADE_UP: [Landed; 3] = [
+const MADE_UP: &[Landed] = &[
     Landed {
         request: 96,
         files: &[met_by_name("no96.txt", &["reads_all", "missing"])],
@@ -293,7 +317,10 @@ const fn met_by_name(name: &'static str, programs: &'static [&'static str]) -> R
 }
 
 fn is_met(line: &str, _: Tested) -> CaseResult {
-    Ok(Difference::between("met", line))
+    match line {
+        "malformed" => Err(Unread::Malformed(line.into())),
+        _ => Ok(Difference::between("met", line)),
+    }
 }
 
 #[test]

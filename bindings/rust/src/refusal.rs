@@ -75,7 +75,7 @@ pub enum Refusal {
     DcCoefficient,
     /// 18: a forward vector points outside the forward reference.
     ///
-    /// Caused by the encoder. A motion code, a residual or the full-pel flag of the forward direction is wrong; the macroblock's backward vector was not tested.
+    /// Caused by the encoder. A motion code, a residual or the full-pel flag of the forward direction is wrong; the macroblock's backward vector, if it has one, was not tested.
     ForwardVectorOutside,
     /// 19: the output's length is not 384 bytes per macroblock.
     ///

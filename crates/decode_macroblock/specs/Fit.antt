@@ -1,4 +1,4 @@
--- Whether a macroblock's vectors fit (document 01, "Vectors and prediction" and the order of refusal 18).
+-- Whether a macroblock's vectors fit (document 01, "Vectors and prediction" and the order of refusals 18 and 23).
 use mathlib.Core.Bool.{Bool, true, cond}
 use Prim.Native.Nat.{ℕ, zero, suc, _+_}
 use Rattle.symbols.specs.declared.size.PictureSize.{PictureSize}

@@ -58,7 +58,7 @@ pub fn fit_of(size: PictureSize, address: usize, motion: Motion) -> Fit
 }
 
 // `fit` if it is a misfit, otherwise `next`.
-pub fn or_else(fit: Fit, next: Fit) -> Fit
+fn or_else(fit: Fit, next: Fit) -> Fit
     ensures { λ r. ⌜ r ≡ orElse fit next ⌝ }
 {
     match fit {

@@ -68,7 +68,7 @@ stateAfter s p = record {
   slice = p .slice;
 }
 
--- ---- with any refusal for a backward misfit, so that a theorem can say what depends on it (`Refusing`); then the reader's
+-- ---- `Refusing`: with any refusal for a backward misfit, so that a theorem can say what depends on it. The reader's own follow, with 23
 module _ (backwardRefusal : Refusal) where
   -- request No. 1: "18 speaks of the forward vector alone"
   abbrev pub fitVerdictRefusing : Fit → Verdict

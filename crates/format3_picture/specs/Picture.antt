@@ -71,7 +71,7 @@ pub record Picture : Type 0 where
 abbrev pub withOutput : Answer → List ℕ → Picture
 withOutput a output = record { number = a .number; place = a .place; made = a .made; output = output }
 
--- ---- with any refusal for a backward misfit; then the reader's
+-- ---- `Refusing`: with any refusal for a backward misfit. The reader's own follow, with 23
 module _ (backwardRefusal : Refusal) where
   -- the records from an offset on, in sequence; n is at least their number. The first refusal decides
   unfoldable pub recordsFromRefusing : List ℕ → ℕ → ℕ → PictureState → Matrices → Answered

@@ -78,7 +78,7 @@ pub record RecordStep : Type 0 where
   pub matrices : Matrices
   pub end : ℕ
 
--- ---- with any refusal for a backward misfit; then the reader's
+-- ---- `Refusing`: with any refusal for a backward misfit. The reader's own follow, with 23
 module _ (backwardRefusal : Refusal) where
   -- a record: its turn (5), then what its kind does
   unfoldable pub recordAppliedRefusing : Matrices → PictureState → ℕ → List ℕ → Applied

@@ -85,9 +85,11 @@ fn record_fit(size: PictureSize, plan: Plan) -> Fit
 {
     let skip_motion = plan.skip_motion;
     let motion = plan.motion;
-    let skipped = fit::first_misfit(size, plan.first, plan.skipped, skip_motion);
-    let own = fit::fit_of(size, plan.address, motion);
-    fit::or_else(skipped, own)
+    match fit::first_misfit(size, plan.first, plan.skipped, skip_motion) {
+        Fit::Fits => fit::fit_of(size, plan.address, motion),
+        Fit::Forward => Fit::Forward,
+        Fit::Backward => Fit::Backward,
+    }
 }
 
 fn fit_verdict(fit: Fit) -> Verdict

@@ -1,20 +1,35 @@
 -- Demand 2: each theorem cites its law. Assumes nothing.
+use mathlib.Core.List.{List}
+use mathlib.Core.Logic.{_⊎_, inl, inr}
+use mathlib.Core.Path.{_≡_}
+use Prim.Native.Nat.{ℕ, _≤_}
+use native.Mathlib.Omega.{arith}
+use Rattle.refusals.specs.Refusal.{numberOf}
+use Rattle.refusals.specs.declared.Refusal.{Refusal}
+use Rattle.refusals.specs.declared.Refusal.the-variants.{BackwardVectorOutside}
+use Rattle.decode_macroblock.specs.Macroblock.{MadeMacroblock}
 use Rattle.format3_picture.proofs.Alone.{picture-alone}
 use Rattle.theorems_picture.proofs.Demand1.{symbols-own, before-of-symbols}
 use Rattle.theorems_picture.proofs.Demand2 as Laws
 use Rattle.theorems_picture.proofs.Worked.{two-slices-header-read, two-slices-symbols}
+use Rattle.theorems_picture.specs.Applies.{Applies}
 use Rattle.theorems_picture.specs.Worked.{zeros}
-use Rattle.theorems.specs.Demand2.{ExactlyWhenNoneApplies, AcceptedIsReconstruction, SameAnswer, SameBytes, OutputOfSymbols, RefusedMakesSymbols, WorkedSymbols}
+use Rattle.theorems.specs.Demand2.{NoneApplies, ExactlyWhenNoneApplies, AcceptedIsReconstruction, SameAnswer, SameBytes, OutputOfSymbols, RefusedMakesSymbols, WorkedSymbols}
 
 pub accepted-exactly : ExactlyWhenNoneApplies
 accepted-exactly transform file forward backward output = (
   (λ number. record {
-    of-document-01 = λ refusal place before other. Laws.none-applies transform file forward backward output number refusal place before;
-    added = λ refusal place before by-request. Laws.none-applies transform file forward backward output number refusal place before;
+    of-document-01 = λ refusal place before own. Laws.none-applies transform file forward backward output number refusal place before;
+    added = λ refusal place before later. Laws.none-applies transform file forward backward output number refusal place before;
   }),
   (λ none. Laws.accepted-by-none transform file forward backward output (λ refusal place before a.
-      none .of-document-01 refusal place before (λ by-request. none .added refusal place before by-request a) a)),
+      by-list none a (Laws.applies-listed transform file forward backward output a))),
 )
+  where
+    by-list : NoneApplies file forward backward output → {refusal : Refusal} {place : ℕ} {before : List MadeMacroblock}
+        → Applies file forward backward output refusal place before → (numberOf refusal ≤ 21) ⊎ (refusal ≡ BackwardVectorOutside) → ⊥
+    by-list none {refusal} {place} {before} a (inl few) = none .of-document-01 refusal place before (omega (arith, few)) a
+    by-list none {refusal} {place} {before} a (inr later) = none .added refusal place before later a
 
 pub accepted-is-reconstruction : AcceptedIsReconstruction
 accepted-is-reconstruction transform file forward backward output number =

@@ -28,4 +28,4 @@ only-the-number backwardRefusal transform file forward backward output =
     }
 
 pub worked-misfits : WorkedMisfits
-worked-misfits = record { told = worked-files .1; before = worked-files .2 }
+worked-misfits = record { given = worked-files .1; as-18 = worked-files .2 }

@@ -10,10 +10,10 @@
 use mathlib.Core.List.{List, []}
 use mathlib.Core.Logic.{_↔_}
 use mathlib.Core.Path.{_≡_}
-use Prim.Native.Nat.{ℕ, _<_}
+use Prim.Native.Nat.{ℕ, _≤_, _<_}
 use lib.IntN.{ℤ}
 use lib.ListN.{length, getD, replicate}
-use Rattle.refusals.specs.Refusal.{accepted}
+use Rattle.refusals.specs.Refusal.{accepted, numberOf}
 use Rattle.refusals.specs.declared.Refusal.{Refusal}
 use Rattle.refusals.specs.declared.Refusal.the-variants.{BackwardVectorOutside}
 use Rattle.symbols.specs.Size.{macroblockCount}
@@ -28,13 +28,17 @@ use Rattle.format3_picture.specs.Reconstruction.{macroblocksOf, reconstruction}
 use Rattle.theorems_picture.specs.Applies.{Reached, Passing, fileStart, Applies}
 use Rattle.theorems_picture.specs.Worked.{twoSlices, twoWide, twoSlicesSymbols}
 
+-- document 01's refusals are 1 to 22
+abbrev pub OfDocument01 : Refusal → Type 0
+OfDocument01 refusal = numberOf refusal ≤ 22
+
 -- the refusals that requests have added to the reading of a picture: 23, by No. 1
 abbrev pub AddedByRequest : Refusal → Type 0
 AddedByRequest refusal = refusal ≡ BackwardVectorOutside
 
 -- "no refusal of document 01 applies, nor one that a later request adds to its reading", at any place and after any macroblocks
 pub record NoneApplies (file forward backward output : List ℕ) : Type 0 where
-  pub of-document-01 : (refusal : Refusal) (place : ℕ) (before : List MadeMacroblock) → ¬ AddedByRequest refusal → ¬ Applies file forward backward output refusal place before
+  pub of-document-01 : (refusal : Refusal) (place : ℕ) (before : List MadeMacroblock) → OfDocument01 refusal → ¬ Applies file forward backward output refusal place before
   pub added : (refusal : Refusal) (place : ℕ) (before : List MadeMacroblock) → AddedByRequest refusal → ¬ Applies file forward backward output refusal place before
 
 -- "it is accepted exactly when no refusal of document 01 applies, nor one that a later request adds to its reading"

@@ -5,7 +5,7 @@ pub mod Demand1
 pub mod Demand2
 -- the inverse transform lies within 9/16 of the exact cosine sum, and the ends hold the cosines
 pub mod Demand3
--- which direction left the picture: when 18 and 23 are given, and that all else is as it was
+-- which direction left the picture: when 18 and 23 are given, and that only the number depends on the refusal of a backward misfit
 pub mod Request1
 -- raw slices: when one is accepted, what is written, and what the strict reader reads from it
 pub mod Request2

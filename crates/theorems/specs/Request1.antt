@@ -19,7 +19,7 @@ use Rattle.format3_header.specs.declared.file_start.FileStart.the-variants.{Hea
 use Rattle.format3_picture.specs.Picture.{pictureOf, pictureRefusing}
 use Rattle.theorems_picture.specs.Applies.{fileStart}
 use Rattle.theorems_picture.specs.Misfit.{VectorRefused}
-use Rattle.theorems_picture.specs.Worked.{misfits, answersWith, answers, expectations, expectationsBefore}
+use Rattle.theorems_picture.specs.Worked.{vectorCases, answersRefusing, answers, expectations, expectationsAs18}
 
 -- 18 is given exactly when the first vector that doesn't fit is a forward one
 abbrev pub ForwardIs18 : Type 0
@@ -62,7 +62,7 @@ OnlyTheNumber =
     (backwardRefusal : Refusal) (transform : List ℤ → ℕ → ℤ) (file forward backward output : List ℕ)
     → SameButNumber backwardRefusal transform file forward backward output
 
--- Six files of a B picture: 18, 23, and a vector that goes just up to the edge; and their answers with 18 for a backward misfit
+-- Six files of a B picture, with 18, 23, and a vector that goes just up to the edge; and their answers if a backward misfit is 18 too
 pub record WorkedMisfits : Type 0 where
-  pub told : answers misfits ≡ expectations misfits
-  pub before : answersWith ForwardVectorOutside misfits ≡ expectationsBefore misfits
+  pub given : answers vectorCases ≡ expectations vectorCases
+  pub as-18 : answersRefusing ForwardVectorOutside vectorCases ≡ expectationsAs18 vectorCases

@@ -2,7 +2,7 @@
 use mathlib.Core.Bool.{Bool, true, false, cond}
 use mathlib.Core.List.{List}
 use mathlib.Core.Path.{_≡_, refl}
-use Prim.Native.Nat.{ℕ, zero, suc}
+use Prim.Native.Nat.{ℕ, zero, suc, _+_}
 use native.Mathlib.Omega.{arith}
 use lib.Dec.{T, leb}
 use lib.IntN.{ℤ}
@@ -12,7 +12,6 @@ use Rattle.refusals.specs.declared.Refusal.{Refusal}
 use Rattle.refusals.specs.declared.Refusal.the-variants.{FileEnds, ForwardVectorOutside, BackwardVectorOutside}
 use Rattle.refusals.proofs.Laws.{never-accepted}
 use Rattle.symbols.specs.declared.header.Header.{Header}
-use Rattle.symbols.specs.Macroblock.{Macroblock}
 use Rattle.decode_coefficients.specs.Matrices.{defaultMatrices}
 use Rattle.decode_coefficients.specs.declared.matrices.Matrices.{Matrices}
 use Rattle.decode_macroblock.specs.Compensation.{references}
@@ -30,7 +29,7 @@ use Rattle.format3_picture.specs.Step.{RecordStep, stepAt, stepAtRefusing}
 use Rattle.format3_picture.specs.Symbols.{Symbol, symbolAt, Gathered, noneGathered, putInFront}
 use Rattle.format3_picture.specs.declared.state.PictureState.{PictureState}
 use Rattle.theorems_picture.specs.Applies.{fileStart}
-use Rattle.theorems_picture.proofs.DecidingLaws.{NotByVector, Decided, by-reading, by-vectors, decided, stepByVectors}
+use Rattle.theorems_picture.proofs.DecidingLaws.{NotByVector, MacroblockRead, stepByVectors, Decided, by-reading, by-vectors, decided}
 use Rattle.theorems_picture.proofs.FileStartLaws.{StartListed, start-listed}
 
 -- ---- a verdict that no vector causes is not 23
@@ -50,22 +49,22 @@ module _ (other : Refusal) where
         → StepAlike s (record { applied = refusedRecord BackwardVectorOutside s; matrices = q; end = end }) (record { applied = refusedRecord other s; matrices = q; end = end })
 
   module _ (file : List ℕ) (at : ℕ) (s : PictureState) (q : Matrices) where
-    vectors-alike : (m : Macroblock) (end : ℕ) → StepAlike s (stepByVectors file at s q BackwardVectorOutside m end) (stepByVectors file at s q other m end)
+    vectors-alike : (x : MacroblockRead file at s q) → StepAlike s (stepByVectors file at s q BackwardVectorOutside x) (stepByVectors file at s q other x)
     unfolding planAppliedRefusing
-    vectors-alike m end = go (recordFit (s .header .size) (planFor (s .header) (s .next) (s .slice) m)) refl
+    vectors-alike x = go (recordFit (s .header .size) (planFor (s .header) (s .next) (s .slice) (x .symbols))) refl
       where
-        go : (f : Fit) → recordFit (s .header .size) (planFor (s .header) (s .next) (s .slice) m) ≡ f
-            → StepAlike s (stepByVectors file at s q BackwardVectorOutside m end) (stepByVectors file at s q other m end)
+        go : (f : Fit) → recordFit (s .header .size) (planFor (s .header) (s .next) (s .slice) (x .symbols)) ≡ f
+            → StepAlike s (stepByVectors file at s q BackwardVectorOutside x) (stepByVectors file at s q other x)
         go Fits e = rw e (same _ tt)
-        go Forward e = rw e (same (record { applied = refusedRecord ForwardVectorOutside s; matrices = q; end = end }) (λ n. omega arith))
-        go Backward e = rw e (differ q end)
+        go Forward e = rw e (same (record { applied = refusedRecord ForwardVectorOutside s; matrices = q; end = x .start + x .count }) (λ n. omega arith))
+        go Backward e = rw e (differ q (x .start + x .count))
 
     step-alike : StepAlike s (stepAt file at s q) (stepAtRefusing other file at s q)
     step-alike = go (decided file at s q)
       where
         go : Decided file at s q → StepAlike s (stepAt file at s q) (stepAtRefusing other file at s q)
-        go (by-reading t reads none e) = rw (e BackwardVectorOutside, e other) (same t (not-backward (t .applied .verdict) reads))
-        go (by-vectors m end legal symbol e) = rw (e BackwardVectorOutside, e other) (vectors-alike m end)
+        go (by-reading t reads e) = rw (e BackwardVectorOutside, e other) (same t (not-backward (t .applied .verdict) reads))
+        go (by-vectors x e) = rw (e BackwardVectorOutside, e other) (vectors-alike x)
 
   -- ---- the records from an offset on
   data AnsweredAlike : Answered → Answered → Type 0 where

@@ -1,38 +1,43 @@
 -- What decides on a record, whatever the refusal of a backward misfit: reading it or, if its symbols are legal, its vectors. Assumes nothing.
 use mathlib.Core.Bool.{Bool, true, false}
-use mathlib.Core.List.{List}
+use mathlib.Core.List.{List, [], _∷_}
 use mathlib.Core.Logic.{_⊎_, inl, inr}
 use mathlib.Core.Path.{_≡_, refl, sym, ap, _∙_, subst}
 use Prim.Native.Nat.{ℕ, _+_}
 use native.Mathlib.Omega.{arith}
-use lib.Dec.{T, eqb}
+use lib.Dec.{T, eqb, eqb→eq}
 use lib.ListN.{take, drop}
 use Rattle.refusals.specs.declared.Refusal.{Refusal}
 use Rattle.refusals.specs.declared.Refusal.the-variants.{OutOfTurn, ForwardVectorOutside, BackwardVectorOutside}
 use Rattle.symbols.specs.Guard.{require_else_then_}
 use Rattle.symbols.specs.Parsed.{Parsed, parsed, refused}
 use Rattle.symbols.specs.declared.slice.SliceHeader.{SliceHeader}
+use Rattle.symbols.specs.Block.{Block}
 use Rattle.symbols.specs.Macroblock.{Macroblock}
+use Rattle.symbols.specs.MacroblockType.{isIntra}
 use Rattle.symbols.proofs.Guard.{require-all}
-use Rattle.symbols.proofs.Parsed.{All, here}
+use Rattle.symbols.proofs.Parsed.{All, here, none, all-then, all-any}
 use Rattle.symbols.proofs.Refusals.{OfReading, refused-by}
+use Rattle.decode_coefficients.specs.Dc.{startingDcPasts}
 use Rattle.decode_coefficients.specs.declared.matrices.Matrices.{Matrices}
 use Rattle.decode_macroblock.specs.declared.fit.Fit.{Fit}
 use Rattle.decode_macroblock.specs.declared.fit.Fit.the-variants.{Fits, Forward, Backward}
-use Rattle.format3_records.specs.Record.{matrixKind, sliceKind, recordOf}
+use Rattle.format3_records.specs.Record.{matrixKind, sliceKind, macroblockKind, recordOf}
 use Rattle.format3_records.specs.Turn.{inTurn}
 use Rattle.format3_records.specs.declared.record.Record.{Record}
 use Rattle.format3_records.specs.declared.record.Record.the-variants as Record
+use Rattle.format3_records.specs.declared.turn.Turn.{Turn}
+use Rattle.format3_records.specs.declared.turn.Turn.the-variants as Turn
 use Rattle.format3_records.specs.declared.verdict.Verdict.{Verdict}
 use Rattle.format3_records.specs.declared.verdict.Verdict.the-variants.{Passed, Refused}
 use Rattle.format3_matrices.specs.Matrix.{matrixVerdict}
+use Rattle.format3_macroblock.specs.Blocks.{sixBlocksOf}
 use Rattle.format3_macroblock.specs.Slice.{sliceOf}
-use Rattle.format3_macroblock.specs.Macroblock.{macroblockOf}
-use Rattle.format3_macroblock.proofs.Laws.Macroblock.{MacroblockLegal, macroblock-legal}
+use Rattle.format3_macroblock.specs.Macroblock.{macroblockSymbolsOf, atEnd, blocksToEndOf, macroblockOf}
+use Rattle.format3_macroblock.specs.declared.macroblock.MacroblockContext.{MacroblockContext}
 use Rattle.format3_picture.specs.MacroblockRecord.{Applied, contextOf, refusedRecord, recordFit, fitVerdict, planApplied, planAppliedRefusing, symbolsAppliedRefusing, macroblockAppliedRefusing}
 use Rattle.format3_picture.specs.Reconstruction.{planFor, coefficientsFor}
 use Rattle.format3_picture.specs.Step.{matrixApplied, sliceStarted, sliceStartedFrom, sliceApplied, recordAppliedRefusing, matricesAfter, RecordStep, stepAt, stepAtRefusing}
-use Rattle.format3_picture.specs.Symbols.{continues, sliceSymbol, symbolOf, symbolAt}
 use Rattle.format3_picture.specs.declared.state.PictureState.{PictureState}
 use Rattle.theorems_picture.proofs.FileStartLaws.{NeitherEndNorVector, neither, of-reading}
 use Rattle.theorems_picture.proofs.RefusalLaws.{of-slice, of-macroblock, VerdictOf, of-matrix, FoundOf, of-found}
@@ -56,35 +61,46 @@ module _ (s : PictureState) where
   slice-reads (parsed l rest) t = require-all (λ (a : Applied). NotByVector (a .verdict)) _ _ _ (neither _ tt) λ start. tt
   slice-reads (refused refusal) (refused-by t) = of-reading refusal t
 
--- a slice record gives no macroblock
-not-slice : (m : Macroblock) (x : Parsed SliceHeader) → sliceSymbol x ≡ continues m → ⊥
-not-slice m (parsed l rest) e = let z : _≡_ {A = ℕ} 0 1 = cc in omega arith
-not-slice m (refused refusal) e = let z : _≡_ {A = ℕ} 0 1 = cc in omega arith
+-- a macroblock is read to the end of its body
+read-to-end : (c : MacroblockContext) (body : List ℕ) → All (λ m rest. rest ≡ []) (macroblockOf c body)
+unfolding macroblockOf blocksToEndOf
+read-to-end c body =
+    all-then (all-any (macroblockSymbolsOf c body)) λ m rest t.
+    all-then (all-then (all-any (sixBlocksOf (isIntra (m .«macroblock_type»)) (m .pattern) (startingDcPasts (c .dc) (m .increment)) rest)) λ blocks left u. last blocks left) λ blocks left e.
+    here e
+  where
+    last : (blocks : List Block) (left : List ℕ) → All {Reason = Refusal} (λ (a : List Block) rest. rest ≡ []) (atEnd blocks left)
+    last blocks [] = here refl
+    last blocks (b ∷ left) = none
 
 module _ (file : List ℕ) (at : ℕ) (s : PictureState) (q : Matrices) where
-  -- the step over a record with these symbols, which ends at this offset
-  abbrev pub stepByVectors : Refusal → Macroblock → ℕ → RecordStep
-  stepByVectors refusal m end = record {
-    applied = planAppliedRefusing refusal s (planFor (s .header) (s .next) (s .slice) m) (coefficientsFor q (s .slice) m);
+  -- a record in turn that is neither a matrix nor a slice, and its symbols, which are legal
+  pub record MacroblockRead : Type 0 where
+    pub kind : ℕ
+    pub start : ℕ
+    pub count : ℕ
+    pub found : recordOf file at ≡ Record.Found kind start count
+    pub in-turn : inTurn (s .turn) kind ≡ true
+    pub no-matrix : eqb kind matrixKind ≡ false
+    pub no-slice : eqb kind sliceKind ≡ false
+    pub symbols : Macroblock
+    pub legal : macroblockOf (contextOf s) (take count (drop start file)) ≡ parsed symbols []
+
+  -- the step over it
+  abbrev pub stepByVectors : Refusal → MacroblockRead → RecordStep
+  stepByVectors refusal x = record {
+    applied = planAppliedRefusing refusal s (planFor (s .header) (s .next) (s .slice) (x .symbols)) (coefficientsFor q (s .slice) (x .symbols));
     matrices = q;
-    end = end;
+    end = x .start + x .count;
   }
 
-  -- reading decides if the symbols are not legal, the record is no macroblock, or it is out of turn
   pub data Decided : Type 0 where
-    by-reading : (t : RecordStep) → NotByVector (t .applied .verdict)
-        → ((m : Macroblock) → symbolAt file at s ≡ continues m → t .applied .verdict ≡ Refused OutOfTurn)
-        → ((refusal : Refusal) → stepAtRefusing refusal file at s q ≡ t) → Decided
-    by-vectors : (m : Macroblock) (end : ℕ) → MacroblockLegal (contextOf s) m → symbolAt file at s ≡ continues m
-        → ((refusal : Refusal) → stepAtRefusing refusal file at s q ≡ stepByVectors refusal m end) → Decided
+    by-reading : (t : RecordStep) → NotByVector (t .applied .verdict) → ((refusal : Refusal) → stepAtRefusing refusal file at s q ≡ t) → Decided
+    by-vectors : (x : MacroblockRead) → ((refusal : Refusal) → stepAtRefusing refusal file at s q ≡ stepByVectors refusal x) → Decided
 
   module _ {kind start n : ℕ} (found : recordOf file at ≡ Record.Found kind start n) where
     abbrev body : List ℕ
     body = take n (drop start file)
-
-    symbol-found : symbolAt file at s ≡ symbolOf s kind body
-    unfolding symbolAt
-    symbol-found = rw found
 
     -- the step over the record, by what the record does
     abbrev stepWith : Applied → RecordStep
@@ -94,9 +110,8 @@ module _ (file : List ℕ) (at : ℕ) (s : PictureState) (q : Matrices) where
     unfolding stepAtRefusing
     step-found refusal e = rw (found, e)
 
-    reading : (a : Applied) → NotByVector (a .verdict) → ((m : Macroblock) → symbolOf s kind body ≡ continues m → a .verdict ≡ Refused OutOfTurn)
-        → ((refusal : Refusal) → recordAppliedRefusing refusal q s kind body ≡ a) → Decided
-    reading a v none e = by-reading (stepWith a) v (λ m c. none m (sym symbol-found ∙ c)) (λ refusal. step-found refusal (e refusal))
+    reading : (a : Applied) → NotByVector (a .verdict) → ((refusal : Refusal) → recordAppliedRefusing refusal q s kind body ≡ a) → Decided
+    reading a v e = by-reading (stepWith a) v (λ refusal. step-found refusal (e refusal))
 
     -- ---- what the record does, by its turn and its kind
     out-of-turn : inTurn (s .turn) kind ≡ false → (refusal : Refusal) → recordAppliedRefusing refusal q s kind body ≡ refusedRecord OutOfTurn s
@@ -121,39 +136,31 @@ module _ (file : List ℕ) (at : ℕ) (s : PictureState) (q : Matrices) where
       unfolding symbolsAppliedRefusing
       planned p refusal = macroblock refusal ∙ rw p
 
-      by-symbols : (x : Parsed Macroblock) → OfReading x → All (λ m rest. MacroblockLegal (contextOf s) m) x → macroblockOf (contextOf s) body ≡ x → Decided
-      by-symbols (refused refusal) (refused-by t) l p =
-          reading (refusedRecord refusal s) (of-reading refusal t)
-          (λ m c. let d = rw (f, g, p) at c in let z : _≡_ {A = ℕ} 0 1 = cc in absurd (omega arith))
-          (λ other. macroblock other ∙ rw p)
-      by-symbols (parsed m rest) t (here legal) p =
-          by-vectors m (start + n) legal (symbol-found ∙ rw (f, g, p)) (λ other. step-found other (planned p other) ∙ rw f)
+      by-symbols : (x : Parsed Macroblock) → OfReading x → All (λ m rest. rest ≡ []) x → macroblockOf (contextOf s) body ≡ x → Decided
+      by-symbols (refused refusal) (refused-by t) ends p = reading (refusedRecord refusal s) (of-reading refusal t) (λ other. macroblock other ∙ rw p)
+      by-symbols (parsed m rest) t (here nothing) p =
+          let x : MacroblockRead = record { kind = kind; start = start; count = n; found = found; in-turn = e; no-matrix = f; no-slice = g; symbols = m; legal = p ∙ ap (parsed m) nothing } in
+          by-vectors x (λ other. step-found other (planned (x .legal) other) ∙ rw f)
 
     in-file : Decided
     in-file = go (inTurn (s .turn) kind) (eqb kind matrixKind) (eqb kind sliceKind) refl refl refl
       where
         go : (turn is-matrix is-slice : Bool) → inTurn (s .turn) kind ≡ turn → eqb kind matrixKind ≡ is-matrix → eqb kind sliceKind ≡ is-slice → Decided
-        go false is-matrix is-slice e f g = reading (refusedRecord OutOfTurn s) (neither _ tt) (λ m c. refl) (out-of-turn e)
-        go true true is-slice e f g =
-            reading (matrixApplied s body) (matrix-reads s body) (λ m c. let d = rw f at c in let z : _≡_ {A = ℕ} 0 1 = cc in absurd (omega arith)) (matrix e f)
-        go true false true e f g =
-            reading (sliceApplied s body) (slice-reads s (sliceOf body) (of-slice body)) (λ m c. absurd (not-slice m (sliceOf body) (rw (f, g) at c))) (slice e f g)
-        go true false false e f g = by-symbols e f g (macroblockOf (contextOf s) body) (of-macroblock (contextOf s) body) (macroblock-legal (contextOf s) body) refl
+        go false is-matrix is-slice e f g = reading (refusedRecord OutOfTurn s) (neither _ tt) (out-of-turn e)
+        go true true is-slice e f g = reading (matrixApplied s body) (matrix-reads s body) (matrix e f)
+        go true false true e f g = reading (sliceApplied s body) (slice-reads s (sliceOf body) (of-slice body)) (slice e f g)
+        go true false false e f g = by-symbols e f g (macroblockOf (contextOf s) body) (of-macroblock (contextOf s) body) (read-to-end (contextOf s) body) refl
 
   unfound : {refusal : Refusal} → recordOf file at ≡ Record.Refused refusal → (other : Refusal) → stepAtRefusing other file at s q ≡ record { applied = refusedRecord refusal s; matrices = q; end = at }
   unfolding stepAtRefusing
   unfound e other = rw e
-
-  no-symbol : {refusal : Refusal} → recordOf file at ≡ Record.Refused refusal → (m : Macroblock) → symbolAt file at s ≡ continues m → ⊥
-  unfolding symbolAt
-  no-symbol e m c = let d = rw e at c in let z : _≡_ {A = ℕ} 0 1 = cc in omega arith
 
   pub decided : Decided
   decided = go (recordOf file at) refl (of-found file at)
     where
       go : (r : Record) → recordOf file at ≡ r → FoundOf r → Decided
       go (Record.Refused refusal) e t =
-          by-reading (record { applied = refusedRecord refusal s; matrices = q; end = at }) (of-reading refusal t) (λ m c. absurd (no-symbol e m c)) (unfound e)
+          by-reading (record { applied = refusedRecord refusal s; matrices = q; end = at }) (of-reading refusal t) (unfound e)
       go (Record.Found kind start n) e t = in-file e
 
   -- ---- the verdict on the vectors of a macroblock
@@ -172,33 +179,35 @@ module _ (file : List ℕ) (at : ℕ) (s : PictureState) (q : Matrices) where
 
   -- ---- a refused record: it can't be read, or a vector doesn't fit
   pub record RefusedByVector (refusal : Refusal) : Type 0 where
-    pub symbols : Macroblock
-    pub legal : MacroblockLegal (contextOf s) symbols
-    pub read : symbolAt file at s ≡ continues symbols
-    pub verdict : vectorVerdict symbols ≡ Refused refusal
+    pub read : MacroblockRead
+    pub verdict : vectorVerdict (read .symbols) ≡ Refused refusal
 
   pub why-refused : (refusal : Refusal) → stepAt file at s q .applied .verdict ≡ Refused refusal → NeitherEndNorVector refusal ⊎ RefusedByVector refusal
   why-refused refusal v = go decided
     where
       go : Decided → NeitherEndNorVector refusal ⊎ RefusedByVector refusal
-      go (by-reading t reads none e) = inl (subst NotByVector (sym (ap (λ (u : RecordStep). u .applied .verdict) (e BackwardVectorOutside)) ∙ v) reads)
-      go (by-vectors m end legal symbol e) = inr (record {
-        symbols = m;
-        legal = legal;
-        read = symbol;
-        verdict = sym (plan-verdict m) ∙ sym (ap (λ (u : RecordStep). u .applied .verdict) (e BackwardVectorOutside)) ∙ v;
+      go (by-reading t reads e) = inl (subst NotByVector (sym (ap (λ (u : RecordStep). u .applied .verdict) (e BackwardVectorOutside)) ∙ v) reads)
+      go (by-vectors x e) = inr (record {
+        read = x;
+        verdict = sym (plan-verdict (x .symbols)) ∙ sym (ap (λ (u : RecordStep). u .applied .verdict) (e BackwardVectorOutside)) ∙ v;
       })
 
-  -- a record in turn whose symbols are legal: its vectors decide
-  pub vectors-decide : (m : Macroblock) → symbolAt file at s ≡ continues m → (stepAt file at s q .applied .verdict ≡ Refused OutOfTurn → ⊥) → stepAt file at s q .applied .verdict ≡ vectorVerdict m
-  vectors-decide m c in-turn = go decided
+  -- a macroblock record in turn whose symbols are legal: its vectors decide
+  pub vectors-decide : {start n : ℕ} {m : Macroblock} → recordOf file at ≡ Record.Found macroblockKind start n → inTurn (s .turn) macroblockKind ≡ true
+      → macroblockOf (contextOf s) (take n (drop start file)) ≡ parsed m [] → stepAt file at s q .applied .verdict ≡ vectorVerdict m
+  vectors-decide {start} {n} {m} found turn legal =
+      ap (λ (u : RecordStep). u .applied .verdict) (step-found found BackwardVectorOutside (planned found turn refl refl legal BackwardVectorOutside)) ∙ plan-verdict m
+
+  -- after the header, a record in turn that is neither a matrix nor a slice is a macroblock record
+  pub is-macroblock : (x : MacroblockRead) → (s .turn ≡ Turn.Start → ⊥) → x .kind ≡ macroblockKind
+  is-macroblock x begun = go (s .turn) refl (x .in-turn)
     where
-      go : Decided → stepAt file at s q .applied .verdict ≡ vectorVerdict m
-      go (by-reading t reads none e) = absurd (in-turn (ap (λ (u : RecordStep). u .applied .verdict) (e BackwardVectorOutside) ∙ none m c))
-      go (by-vectors k end legal symbol e) =
-          let d = sym symbol ∙ c in
-          let same : _≡_ {A = Macroblock} k m = cc in
-          ap (λ (u : RecordStep). u .applied .verdict) (e BackwardVectorOutside) ∙ plan-verdict k ∙ ap vectorVerdict same
+      go : (turn : Turn) → s .turn ≡ turn → inTurn turn (x .kind) ≡ true → x .kind ≡ macroblockKind
+      go Turn.Start e t = absurd (begun e)
+      go Turn.Header e t = let z : _≡_ {A = Bool} false true = rw (x .no-matrix, x .no-slice) at t in absurd (subst T (sym z) tt)
+      go Turn.Slice e t = eqb→eq (x .kind) macroblockKind (subst T (sym t) tt)
+      go Turn.Macroblock e t = let u = rw (x .no-slice) at t in eqb→eq (x .kind) macroblockKind (subst T (sym u) tt)
+      go Turn.Complete e t = absurd (subst T (sym t) tt)
 
 -- ---- the refusals of a misfit
 abbrev pub OfVector : Refusal → Type 0
@@ -210,4 +219,4 @@ misfit-of-vector Forward refusal e = inl cc
 misfit-of-vector Backward refusal e = inr cc
 
 pub refused-of : {file : List ℕ} {at : ℕ} {s : PictureState} {q : Matrices} {refusal : Refusal} → RefusedByVector file at s q refusal → OfVector refusal
-refused-of {file} {at} {s} {q} {refusal} r = misfit-of-vector (recordFit (s .header .size) (planFor (s .header) (s .next) (s .slice) (r .symbols))) refusal (r .verdict)
+refused-of {file} {at} {s} {q} {refusal} r = misfit-of-vector (recordFit (s .header .size) (planFor (s .header) (s .next) (s .slice) (r .read .symbols))) refusal (r .verdict)

@@ -11,8 +11,8 @@ use lib.IntN.{ℤ}
 use lib.ListN.{length}
 use Rattle.refusals.specs.Refusal.{accepted, numberOf}
 use Rattle.refusals.specs.declared.Refusal.{Refusal}
-use Rattle.refusals.specs.declared.Refusal.the-variants.{FileEnds}
-use Rattle.refusals.proofs.Laws.{never-accepted}
+use Rattle.refusals.specs.declared.Refusal.the-variants.{FileEnds, BackwardVectorOutside}
+use Rattle.refusals.proofs.Laws.{numbers-differ, never-accepted}
 use Rattle.symbols.specs.Size.{macroblockCount}
 use Rattle.symbols.specs.declared.header.Header.{Header}
 use Rattle.decode_macroblock.specs.Compensation.{references}
@@ -26,7 +26,7 @@ use Rattle.format3_picture.specs.Reconstruction.{macroblocksOf, reconstruction}
 use Rattle.format3_picture.specs.declared.reader.Answer.{Answer}
 use Rattle.format3_picture.proofs.PictureLaws.{no-header, header-read-is}
 use Rattle.theorems_picture.specs.Applies.{Reached, Passing, fileStart, Applies, to-start, to-record, to-end, AppliesTo}
-use Rattle.theorems_picture.proofs.Demand1.{record-not-end, start, stands-at, made-few, made-count, in-order, stopped-is}
+use Rattle.theorems_picture.proofs.Demand1.{Listed, record-not-end, number-listed, start, stands-at, made-few, made-count, in-order, stopped-is}
 use Rattle.theorems_picture.proofs.FileStartLaws.{StartListed, start-listed}
 use Rattle.theorems_picture.proofs.PassingLaws.{Stands, Stop, at-record, at-end, stops, stopped}
 
@@ -67,6 +67,17 @@ module _ (transform : List ℤ → ℕ → ℤ) (file forward backward output : 
 
   pub none-applies : picture .number ≡ accepted → (refusal : Refusal) (place : ℕ) (before : List MadeMacroblock) → Applies file forward backward output refusal place before → ⊥
   none-applies number refusal place before a = never-accepted refusal (sym (ap (λ (x : Answer). x .number) (refusal-given refusal place before a)) ∙ number)
+
+  pub applies-listed : {refusal : Refusal} {place : ℕ} {before : List MadeMacroblock} → Applies file forward backward output refusal place before
+      → (numberOf refusal ≤ 21) ⊎ (refusal ≡ BackwardVectorOutside)
+  applies-listed {refusal} {place} {before} a = go (number-listed transform file forward backward output)
+    where
+      given : picture .number ≡ numberOf refusal
+      given = ap (λ (x : Answer). x .number) (refusal-given refusal place before a)
+
+      go : Listed (picture .number) → (numberOf refusal ≤ 21) ⊎ (refusal ≡ BackwardVectorOutside)
+      go (inl few) = inl (subst (λ (n : ℕ). n ≤ 21) given few)
+      go (inr e) = inr (numbers-differ refusal BackwardVectorOutside (sym given ∙ e))
 
   -- ---- a refusal applies, or every record passes and no macroblock is missing
   data Decided : Type 0 where

@@ -1,23 +1,30 @@
 -- Laws of records that pass: what holds after them, and that a picture ends where one is refused or none is left. Assumes nothing.
+use mathlib.Core.Bool.{Bool, true, false, cond}
 use mathlib.Core.List.{List, _++_, append-assoc, append-nil}
 use mathlib.Core.Path.{_≡_, refl, ap, _∙_}
-use Prim.Native.Nat.{ℕ, zero, suc, _-_, _≤_, _<_}
+use Prim.Native.Nat.{ℕ, zero, suc, _+_, _-_, _≤_, _<_}
 use native.Mathlib.Decide.{decLt}
 use native.Mathlib.Omega.{arith}
+use lib.Dec.{eqb}
 use lib.ListN.{length}
 use Rattle.math.specs.Joined.{joined}
 use Rattle.refusals.specs.declared.Refusal.{Refusal}
 use Rattle.symbols.specs.Requires.{HeaderWithin}
+use Rattle.symbols.specs.Size.{macroblockCount}
 use Rattle.symbols.specs.declared.header.Header.{Header}
 use Rattle.decode_coefficients.specs.Requires.{BlocksInRange}
 use Rattle.decode_macroblock.specs.Macroblock.{InOrder, Each}
 use Rattle.decode_macroblock.proofs.OrderLaws.{order-both, each-both}
+use Rattle.format3_records.specs.declared.turn.Turn.the-variants as Turn
 use Rattle.format3_records.specs.declared.verdict.Verdict.{Verdict}
 use Rattle.format3_records.specs.declared.verdict.Verdict.the-variants.{Passed, Refused}
-use Rattle.format3_picture.specs.Reconstruction.{macroblocksMadeFrom, macroblocksOf}
+use Rattle.format3_picture.specs.Reconstruction.{planFor, macroblocksMadeFrom, macroblocksOf}
 use Rattle.format3_picture.specs.Picture.{Answered, refusedAt, endAnswer, answeredBy, recordsFrom, recordsAfter, symbolsOf}
 use Rattle.format3_picture.specs.Requires.{StateWithin}
+use Rattle.format3_picture.specs.Step.{RecordStep}
+use Rattle.format3_picture.specs.Symbols.{Symbol}
 use Rattle.format3_picture.specs.declared.reader.Answer.{Answer}
+use Rattle.format3_picture.proofs.RecordLaws.{StepCases, refuses, matrix-passes, slice-starts, macroblocks-made, step-cases}
 use Rattle.format3_picture.proofs.ReaderLaws.{none-left, first-refused, first-passes}
 use Rattle.format3_picture.proofs.InvariantLaws.{step-keeps, step-ends, start-within}
 use Rattle.format3_picture.proofs.SymbolLaws.{madeOf, made-of-symbols}
@@ -44,6 +51,22 @@ module _ (file : List ℕ) (h : Header) (end : ℕ) where
         order = order-both 0 (r .state .next) _ (r .macroblocks) _ (before .order) (kept .order);
         in-range = each-both (λ m. BlocksInRange (m .coefficients)) (r .macroblocks) _ (before .in-range) (kept .in-range);
       }
+
+  -- no record takes the reader back to the file's start
+  pub begun : {r : Reached} → Passing file h end r → r .state .turn ≡ Turn.Start → ⊥
+  begun none e = let z : _≡_ {A = ℕ} 0 1 = cc in omega arith
+  begun (one-more {r} passing v) e = go (step-cases file (r .offset) (r .state) (r .matrices)) v e
+    where
+      after : (complete : Bool) → cond complete Turn.Complete Turn.Macroblock ≡ Turn.Start → ⊥
+      after true e = let z : _≡_ {A = ℕ} 0 1 = cc in omega arith
+      after false e = let z : _≡_ {A = ℕ} 0 1 = cc in omega arith
+
+      go : {symbol : Symbol} {t : RecordStep} → StepCases (r .matrices) (r .state) symbol t → t .applied .verdict ≡ Passed → t .applied .state .turn ≡ Turn.Start → ⊥
+      go (refuses refusal) v e = let z : _≡_ {A = ℕ} 0 1 = cc in omega arith
+      go (matrix-passes turn body) v e = let z : _≡_ {A = ℕ} 0 1 = cc in omega arith
+      go (slice-starts turn header legal start) v e = let z : _≡_ {A = ℕ} 0 1 = cc in omega arith
+      go (macroblocks-made sliced m legal) v e =
+          after (eqb (planFor (r .state .header) (r .state .next) (r .state .slice) m .address + 1) (macroblockCount (r .state .header .size))) e
 
   -- ---- they and the records after them are the whole
   record Behind (r : Reached) : Type 0 where

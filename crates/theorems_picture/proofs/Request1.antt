@@ -1,4 +1,5 @@
 -- Request No. 1 of a picture: when 18 and 23 are given, and that 23 is given only for a B picture. Assumes nothing.
+use mathlib.Core.Bool.{true}
 use mathlib.Core.List.{List}
 use mathlib.Core.Logic.{_⊎_, inl, inr}
 use mathlib.Core.Path.{_≡_, refl, sym, ap, _∙_, subst}
@@ -9,26 +10,34 @@ use lib.IntN.{ℤ}
 use lib.ListN.{length}
 use Rattle.refusals.specs.Refusal.{accepted, numberOf}
 use Rattle.refusals.specs.declared.Refusal.{Refusal}
-use Rattle.refusals.specs.declared.Refusal.the-variants.{FileEnds, OutOfTurn, ForwardVectorOutside, BackwardVectorOutside}
+use Rattle.refusals.specs.declared.Refusal.the-variants.{FileEnds, ForwardVectorOutside, BackwardVectorOutside}
 use Rattle.refusals.proofs.Laws.{numbers-differ, never-accepted}
 use Rattle.symbols.specs.Header.{typeB}
 use Rattle.symbols.specs.declared.header.Header.{Header}
+use Rattle.symbols.proofs.Parsed.{all-at}
 use Rattle.decode_macroblock.specs.Macroblock.{MadeMacroblock}
-use Rattle.format3_records.specs.declared.verdict.Verdict.{Verdict}
+use Rattle.format3_records.specs.Record.{macroblockKind}
+use Rattle.format3_records.specs.Turn.{inTurn}
+use Rattle.format3_records.specs.declared.record.Record.the-variants as Record
 use Rattle.format3_records.specs.declared.verdict.Verdict.the-variants.{Refused}
+use Rattle.format3_records.proofs.Laws.Record.{Inside, inside}
 use Rattle.format3_header.specs.declared.file_start.FileStart.{FileStart}
 use Rattle.format3_header.specs.declared.file_start.FileStart.the-variants as FileStart
+use Rattle.format3_macroblock.proofs.Laws.Macroblock.{macroblock-legal}
+use Rattle.format3_picture.specs.MacroblockRecord.{contextOf}
 use Rattle.format3_picture.specs.Picture.{Picture, pictureOf}
+use Rattle.format3_picture.proofs.RecordLaws.{found-after}
 use Rattle.format3_picture.specs.declared.reader.Answer.{Answer}
 use Rattle.theorems_picture.specs.Applies.{Reached, verdictAt, Passing, fileStart, Applies, to-start, to-record, to-end, AppliesTo}
 use Rattle.theorems_picture.specs.Misfit.{FirstMisfit, macroblocksOfRecord, VectorRefused}
 use Rattle.theorems_picture.proofs.Demand1.{stands-at}
 use Rattle.theorems_picture.proofs.Demand2.{refusal-given, accepted-or-refused}
-use Rattle.theorems_picture.proofs.DecidingLaws.{RefusedByVector, why-refused, vectors-decide, OfVector}
+use Rattle.theorems_picture.proofs.DecidingLaws.{RefusedByVector, why-refused, vectors-decide, is-macroblock, OfVector}
 use Rattle.theorems_picture.proofs.FileStartLaws.{NeitherEndNorVector, StartListed, ListedAt, start-listed}
 use Rattle.theorems_picture.proofs.MisfitLaws.{plan-misfit, plan-refused, backward-in-B}
+use Rattle.theorems_picture.proofs.PassingLaws.{begun}
 
--- 18 and 23 are not the refusals of reading, of the file's end, or of a record out of turn
+-- 18 and 23 are not the refusals of reading or of the file's end
 no-other : {refusal : Refusal} → OfVector refusal → numberOf refusal ≤ 21 → (numberOf refusal ≡ numberOf ForwardVectorOutside → ⊥) → ⊥
 no-other (inl e) few not = not (ap numberOf e)
 no-other (inr e) few not = omega (arith, few, ap numberOf e)
@@ -36,16 +45,6 @@ no-other (inr e) few not = omega (arith, few, ap numberOf e)
 not-end : {refusal : Refusal} → OfVector refusal → FileEnds ≡ refusal → ⊥
 not-end (inl e) same = omega (arith, ap numberOf same, ap numberOf e)
 not-end (inr e) same = omega (arith, ap numberOf same, ap numberOf e)
-
-not-out-of-turn : {refusal : Refusal} → OfVector refusal → {v : Verdict} → v ≡ Refused refusal → v ≡ Refused OutOfTurn → ⊥
-not-out-of-turn {refusal} of {v} e f = go of
-  where
-    same : refusal ≡ OutOfTurn
-    same = cc
-
-    go : OfVector refusal → ⊥
-    go (inl g) = omega (arith, ap numberOf same, ap numberOf g)
-    go (inr g) = omega (arith, ap numberOf same, ap numberOf g)
 
 module _ (transform : List ℤ → ℕ → ℤ) (file forward backward output : List ℕ) where
   abbrev picture : Picture
@@ -87,18 +86,22 @@ module _ (transform : List ℤ → ℕ → ℤ) (file forward backward output : 
   pub vector-refused : {refusal : Refusal} → OfVector refusal → picture .number ≡ numberOf refusal → VectorRefused file forward backward output refusal
   vector-refused {refusal} of number =
       let a = by-number of number in
+      let x = a .vector .read in
       let there = stands-at transform file forward backward output (a .header-read) (a .passing) in
+      let kind = is-macroblock file (a .reached .offset) (a .reached .state) (a .reached .matrices) x (begun file (a .header) (a .end) (a .passing)) in
       record {
         header = a .header;
         end = a .end;
         header-read = a .header-read;
         reached = a .reached;
         passing = a .passing;
-        in-file = a .in-file;
-        in-turn = not-out-of-turn of (a .verdict);
-        symbols = a .vector .symbols;
-        legal = a .vector .read;
-        misfit = subst (λ (h : Header). FirstMisfit (h .size) refusal (macroblocksOfRecord (a .reached) (a .vector .symbols))) (there .header) (plan-misfit _ _ _ refusal (a .vector .verdict));
+        start = x .start;
+        count = x .count;
+        found = x .found ∙ ap (λ (k : ℕ). Record.Found k (x .start) (x .count)) kind;
+        in-turn = subst (λ (k : ℕ). inTurn (a .reached .state .turn) k ≡ true) kind (x .in-turn);
+        symbols = x .symbols;
+        legal = x .legal;
+        misfit = subst (λ (h : Header). FirstMisfit (h .size) refusal (macroblocksOfRecord (a .reached) (x .symbols))) (there .header) (plan-misfit _ _ _ refusal (a .vector .verdict));
       }
 
   pub refused-vector : {refusal : Refusal} → VectorRefused file forward backward output refusal → picture .number ≡ numberOf refusal
@@ -106,8 +109,13 @@ module _ (transform : List ℤ → ℕ → ℤ) (file forward backward output : 
       let r = x .reached in
       let there = stands-at transform file forward backward output (x .header-read) (x .passing) in
       let misfit = subst (λ (h : Header). FirstMisfit (h .size) refusal (macroblocksOfRecord r (x .symbols))) (sym (there .header)) (x .misfit) in
-      let v = vectors-decide file (r .offset) (r .state) (r .matrices) (x .symbols) (x .legal) (x .in-turn) ∙ plan-refused _ _ _ refusal misfit in
-      ap (λ (a : Answer). a .number) (refusal-given transform file forward backward output refusal _ _ (to-record (x .header) (x .end) (x .header-read) r (x .passing) (x .in-file) refusal v))
+      let v = vectors-decide file (r .offset) (r .state) (r .matrices) (x .found) (x .in-turn) (x .legal) ∙ plan-refused _ _ _ refusal misfit in
+      ap (λ (a : Answer). a .number) (refusal-given transform file forward backward output refusal _ _ (to-record (x .header) (x .end) (x .header-read) r (x .passing) in-file refusal v))
+    where
+      in-file : x .reached .offset < length file
+      in-file =
+          let fits = subst (Inside file) (x .found) (inside file (x .reached .offset)) .fits in
+          omega (arith, fits, found-after file (x .reached .offset) macroblockKind (x .start) (x .count) (x .found))
 
   -- ---- 23 only for a B picture
   pub backward-only-in-B : picture .number ≡ numberOf BackwardVectorOutside → (h : Header) (end : ℕ) → fileStart file forward backward output ≡ FileStart.HeaderRead h end → h .«coding_type» ≡ typeB
@@ -115,7 +123,9 @@ module _ (transform : List ℤ → ℕ → ℤ) (file forward backward output : 
       let a = by-number (inr refl) number in
       let r = a .reached in
       let there = stands-at transform file forward backward output (a .header-read) (a .passing) in
-      let used = backward-in-B (r .state) (there .within) (a .vector .symbols) (a .vector .legal) (a .vector .verdict) in
+      let x = a .vector .read in
+      let legal = all-at (macroblock-legal (contextOf (r .state)) _) (x .legal) in
+      let used = backward-in-B (r .state) (there .within) (x .symbols) legal (a .vector .verdict) in
       let least = leb-true typeB (r .state .header .«coding_type») used in
       let same : _≡_ {A = Header} (a .header) h = cc in
       subst (λ (g : Header). g .«coding_type» ≡ typeB) (there .header ∙ same) (omega (arith, least, there .within .header .last-type))

@@ -35,10 +35,10 @@ use Rattle.format3_picture.specs.Picture.{recordsFromRefusing, symbolsOf, pictu
 use Rattle.format3_picture.specs.Step.{matrixApplied, sliceStarted, recordAppliedRefusing, stepAtRefusing}
 use Rattle.format3_picture.specs.Symbols.{symbolAt}
 use Rattle.theorems_picture.specs.Applies.{fileStart}
-use Rattle.theorems_picture.specs.Worked.{misfits, cases, answersWith, answers, expectations, expectationsBefore, twoSlices, twoWide, twoSlicesSymbols}
+use Rattle.theorems_picture.specs.Worked.{vectorCases, cases, answersRefusing, answers, expectations, expectationsAs18, twoSlices, twoWide, twoSlicesSymbols}
 
--- all of them, those of a B picture alone, and the latter with 18 for a backward misfit
-pub worked-files : (answers cases ≡ expectations cases) × (answers misfits ≡ expectations misfits) × (answersWith ForwardVectorOutside misfits ≡ expectationsBefore misfits)
+-- all of them; those of a B picture alone; and these with 18 for a backward misfit
+pub worked-files : (answers cases ≡ expectations cases) × (answers vectorCases ≡ expectations vectorCases) × (answersRefusing ForwardVectorOutside vectorCases ≡ expectationsAs18 vectorCases)
 unfolding symbolAt allBelow require_else_then_ vectorFits macroblockFits vectorDifference wrapped vectorOf codeInRange residualInRange twosComplement byte twoBytes signedByte signedTwoBytes recordLengthAt kindAt recordOf legalSize legalCodings legalHeader headerWith headerOf lentLengths firstHeader fileStartOf positive matrixVerdict scaleOf sliceFieldsOf sliceOf legalType legalIncrement headOf vectorCodeOf vectorCodesOf pairsOf legalDifference legalDc differenceOf legalCount countOf levelsOf blockOf dcPastOf withDcPast isCoded blocksOf patternOf macroblockSymbols startingDcPasts blocksToEndOf macroblockOf vectorsOf directionFits fitOf firstMisfit planOf vectorPastsBefore forwardAfter backwardAfter skipMotion vectorPastsAfter predictsForward predictsBackward ownMotion nextVectorPasts recordFit planAppliedRefusing symbolsAppliedRefusing recordsFromRefusing pictureRefusing matrixApplied sliceStarted recordAppliedRefusing stepAtRefusing
 worked-files = (refl, refl, refl)
 

@@ -5,8 +5,9 @@ use Prim.Native.Nat.{ℕ, suc}
 use lib.Dec.{eqb}
 use lib.IntN.{ℤ, pos}
 use lib.ListN.{length, replicate}
+use Rattle.refusals.specs.Refusal.{numberOf}
 use Rattle.refusals.specs.declared.Refusal.{Refusal}
-use Rattle.refusals.specs.declared.Refusal.the-variants.{BackwardVectorOutside}
+use Rattle.refusals.specs.declared.Refusal.the-variants.{ForwardVectorOutside, BackwardVectorOutside}
 use Rattle.symbols.specs.Header.{typeI}
 use Rattle.symbols.specs.declared.header.Header.{Header}
 use Rattle.symbols.specs.MacroblockType.{intraPart as intraType}
@@ -70,28 +71,28 @@ example file forward backward output number place made = record {
 }
 
 -- ---- a B picture, 2 by 2 macroblocks
--- its version, header and slice; vectors count whole pels if the backward flag is 1
+-- its version, header and slice; backward vectors count whole pels if the flag is 1
 abbrev fourB : ℕ → List ℕ
 fourB flag = 3 ∷ recordWith 1 (2 ∷ 2 ∷ 3 ∷ 0 ∷ 2 ∷ flag ∷ 2 ∷ []) ++ slice
 
-abbrev misfit : List ℕ → ℕ → ℕ → ℕ → Case
-misfit file = example file (replicate 1536 9) (replicate 1536 9) (replicate 1536 7)
+abbrev vectorCase : List ℕ → ℕ → ℕ → ℕ → Case
+vectorCase file = example file (replicate 1536 9) (replicate 1536 9) (replicate 1536 7)
 
 -- vectors that leave the picture, and one that goes just up to its edge
-abbrev pub misfits : List Case
-misfits =
+abbrev pub vectorCases : List Case
+vectorCases =
     -- backward, left of the picture
-    misfit (fourB 0 ++ recordWith 4 (4 ∷ 0 ∷ 1 ∷ 255 ∷ 0 ∷ 0 ∷ 0 ∷ [])) 23 17 0
+    vectorCase (fourB 0 ++ recordWith 4 (4 ∷ 0 ∷ 1 ∷ 255 ∷ 0 ∷ 0 ∷ 0 ∷ [])) 23 17 0
     -- forward, above the picture
-    ∷ misfit (fourB 0 ++ recordWith 4 (2 ∷ 0 ∷ 1 ∷ 0 ∷ 0 ∷ 255 ∷ 0 ∷ [])) 18 17 0
+    ∷ vectorCase (fourB 0 ++ recordWith 4 (2 ∷ 0 ∷ 1 ∷ 0 ∷ 0 ∷ 255 ∷ 0 ∷ [])) 18 17 0
     -- both
-    ∷ misfit (fourB 0 ++ recordWith 4 (6 ∷ 0 ∷ 1 ∷ 255 ∷ 0 ∷ 0 ∷ 0 ∷ 255 ∷ 0 ∷ 0 ∷ 0 ∷ [])) 18 17 0
+    ∷ vectorCase (fourB 0 ++ recordWith 4 (6 ∷ 0 ∷ 1 ∷ 255 ∷ 0 ∷ 0 ∷ 0 ∷ 255 ∷ 0 ∷ 0 ∷ 0 ∷ [])) 18 17 0
     -- of both, the backward one alone
-    ∷ misfit (fourB 0 ++ recordWith 4 (6 ∷ 0 ∷ 1 ∷ 0 ∷ 0 ∷ 0 ∷ 0 ∷ 255 ∷ 0 ∷ 0 ∷ 0 ∷ [])) 23 17 0
-    -- the skipped macroblock's backward vector, right of the picture; then its own forward one
-    ∷ misfit (fourB 0 ++ recordWith 4 (4 ∷ 0 ∷ 1 ∷ 16 ∷ 0 ∷ 0 ∷ 0 ∷ []) ++ recordWith 4 (2 ∷ 0 ∷ 2 ∷ 255 ∷ 0 ∷ 0 ∷ 0 ∷ [])) 23 27 1
+    ∷ vectorCase (fourB 0 ++ recordWith 4 (6 ∷ 0 ∷ 1 ∷ 0 ∷ 0 ∷ 0 ∷ 0 ∷ 255 ∷ 0 ∷ 0 ∷ 0 ∷ [])) 23 17 0
+    -- a skipped macroblock's backward vector, right of the picture; the record's own forward vector leaves the picture too
+    ∷ vectorCase (fourB 0 ++ recordWith 4 (4 ∷ 0 ∷ 1 ∷ 16 ∷ 0 ∷ 0 ∷ 0 ∷ []) ++ recordWith 4 (2 ∷ 0 ∷ 2 ∷ 255 ∷ 0 ∷ 0 ∷ 0 ∷ [])) 23 27 1
     -- 16 whole pels to the right, up to the edge: three macroblocks are missing
-    ∷ misfit (fourB 1 ++ recordWith 4 (4 ∷ 0 ∷ 1 ∷ 8 ∷ 1 ∷ 0 ∷ 0 ∷ [])) 7 27 1
+    ∷ vectorCase (fourB 1 ++ recordWith 4 (4 ∷ 0 ∷ 1 ∷ 8 ∷ 1 ∷ 0 ∷ 0 ∷ [])) 7 27 1
     ∷ []
 
 abbrev pub cases : List Case
@@ -156,31 +157,31 @@ cases =
     ∷ example (intra ++ slice ++ grey ++ grey) [] [] output 5 41 1
     -- a macroblock copied from the reference: accepted
     ∷ example (predicted ++ slice ++ recordWith 4 (2 ∷ 0 ∷ 1 ∷ 0 ∷ 0 ∷ 0 ∷ 0 ∷ [])) reference [] output 0 27 1
-    ∷ misfits
+    ∷ vectorCases
 
 -- a transform of zeros: no answer depends on it
 abbrev pub zeros : List ℤ → ℕ → ℤ
 zeros c k = pos 0
 
 -- the answers with any refusal for a backward misfit, and the reader's
-abbrev pub answersWith : Refusal → List Case → List Answer
-answersWith backwardRefusal [] = []
-answersWith backwardRefusal (c ∷ cs) = answerOf (pictureRefusing backwardRefusal zeros (c .file) (c .forward) (c .backward) (c .output)) ∷ answersWith backwardRefusal cs
+abbrev pub answersRefusing : Refusal → List Case → List Answer
+answersRefusing backwardRefusal [] = []
+answersRefusing backwardRefusal (c ∷ cs) = answerOf (pictureRefusing backwardRefusal zeros (c .file) (c .forward) (c .backward) (c .output)) ∷ answersRefusing backwardRefusal cs
 
 abbrev pub answers : List Case → List Answer
-answers = answersWith BackwardVectorOutside
+answers = answersRefusing BackwardVectorOutside
 
 abbrev pub expectations : List Case → List Answer
 expectations [] = []
 expectations (c ∷ cs) = c .expected ∷ expectations cs
 
--- with 23 counted as 18, as document 01 has it
+-- with 23 counted as 18
 abbrev countedAs18 : Answer → Answer
-countedAs18 a = record { number = cond (eqb (a .number) 23) 18 (a .number); place = a .place; made = a .made }
+countedAs18 a = record { number = cond (eqb (a .number) (numberOf BackwardVectorOutside)) (numberOf ForwardVectorOutside) (a .number); place = a .place; made = a .made }
 
-abbrev pub expectationsBefore : List Case → List Answer
-expectationsBefore [] = []
-expectationsBefore (c ∷ cs) = countedAs18 (c .expected) ∷ expectationsBefore cs
+abbrev pub expectationsAs18 : List Case → List Answer
+expectationsAs18 [] = []
+expectationsAs18 (c ∷ cs) = countedAs18 (c .expected) ∷ expectationsAs18 cs
 
 -- ---- a file with its symbols: two slices of one macroblock each, and a record that is cut
 abbrev pub twoSlices : List ℕ

@@ -29,7 +29,7 @@ fn report_requests(arguments: &[String]) -> ExitCode {
     match run_requests(arguments) {
         Ok(report) => {
             print!("{report}");
-            ExitCode::from(u8::from(!report.passed()))
+            ExitCode::from(report.exit_status())
         }
         Err(failure) => exit_code("fixtures", Err(failure)),
     }
@@ -48,11 +48,8 @@ fn run_requests(arguments: &[String]) -> Result<Report, String> {
         entries: &ENTRIES,
         programs,
     };
-    Ok(requests::run(
-        &found_in(Path::new(folder))?,
-        &LANDED,
-        tested,
-    ))
+    let found = found_in(Path::new(folder))?;
+    Ok(requests::run(&found, LANDED, tested))
 }
 
 /// A folder that is there.

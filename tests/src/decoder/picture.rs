@@ -215,10 +215,11 @@ pub fn skip_vectors(picture_type: PictureType, last: Last) -> Vectors {
 /// Request No. 1: "18 speaks of the forward vector alone." "23 when the backward vector doesn't fit, tested just after the same
 /// macroblock's forward one."
 fn require_fit(header: &Header, address: usize, vectors: Vectors) -> Result<(), Refusal> {
-    let fits = |vector: Option<Vector>| vector.is_none_or(|used| fits(header.size, address, used));
+    let fits_if_used =
+        |vector: Option<Vector>| vector.is_none_or(|used| fits(header.size, address, used));
     let [forward, backward] = vectors;
-    require(fits(forward), Refusal::ForwardVectorOutside)?;
-    require(fits(backward), Refusal::BackwardVectorOutside)
+    require(fits_if_used(forward), Refusal::ForwardVectorOutside)?;
+    require(fits_if_used(backward), Refusal::BackwardVectorOutside)
 }
 
 /// The offset of a block's first pel from its macroblock's in the plane: the four Y blocks go left to right, top to bottom.

@@ -76,7 +76,7 @@ fn written(random: &mut Random, header: Header, style: Style) -> (File, Case) {
     (file, case)
 }
 
-/// A legal file, with references and output for its header.
+/// A file with the references and output that its header asks for. `legal` is true; the caller may change it.
 pub fn lent(random: &mut Random, header: Header, file: &File) -> Case {
     let bytes = header.size.bytes();
     let [forward, backward] = header
@@ -115,14 +115,6 @@ pub fn small_cases(seed: u64) -> [(File, Case); 3] {
             height: 2,
         };
         let header = random_header(random, picture_type, size);
-        let style = Style {
-            most_pairs: 2,
-            most_level: 20,
-            most_skipped: 1,
-            slice_once_in: 3,
-            intra_once_in: 4,
-            stray_once_in: 0,
-        };
-        written(random, header, style)
+        written(random, header, Style::SMALL)
     })
 }

@@ -14,7 +14,7 @@ pub enum Fit {
     /// No vector is coded or repeated; a P-picture then uses vector 0, which always fits.
     Unused,
     Fits,
-    Misfits,
+    Outside,
 }
 
 /// Which vectors of a macroblock record fit. Each pair is forward, then backward.
@@ -26,21 +26,20 @@ pub struct Arrangement {
     pub skipped: Vec<[Fit; 2]>,
     pub own: [Fit; 2],
     pub intra: bool,
-    /// At some macroblock, a direction that it doesn't use has a past that doesn't fit.
-    pub past_misfits: bool,
+    /// At some macroblock, in a direction that it doesn't use, the past before the record doesn't fit.
+    pub past_outside: bool,
 }
 
 const MOST_SKIPPED: usize = 2;
 
-/// Every arrangement that a record with at most two skipped macroblocks can have. What it can't have:
+/// Every arrangement that a record of a P- or B-picture with at most two skipped macroblocks can have. What it can't have:
 ///
-/// - I-pictures have no vectors and skip nothing.
 /// - P-pictures have no backward vector, and their skipped macroblocks repeat no vector.
 /// - In B-pictures, skipped macroblocks repeat the last one, so they all use the same directions, and at least one: after intra
 ///   and at a slice's start, nothing can be skipped. A macroblock without a vector is intra.
-/// - If every macroblock uses every direction, no past is unused.
+/// - If every macroblock uses every direction of the picture's type, no past is unused.
 ///
-/// All others are possible in a picture of 2 by 3 macroblocks or in one of 3 by 2.
+/// All others are possible at some site; `compare_misfits::misfits` checks that they occur.
 pub fn all_arrangements() -> Vec<Arrangement> {
     let counts = 0..=MOST_SKIPPED;
     let fitting = counts.flat_map(|count| [p_arrangements(count), b_arrangements(count)].concat());
@@ -52,7 +51,7 @@ fn p_arrangements(skipped: usize) -> Vec<Arrangement> {
         (Fit::Unused, true),
         (Fit::Unused, false),
         (Fit::Fits, false),
-        (Fit::Misfits, false),
+        (Fit::Outside, false),
     ];
     let arrangement = |(forward, intra), full_pel| Arrangement {
         picture_type: PictureType::P,
@@ -60,7 +59,7 @@ fn p_arrangements(skipped: usize) -> Vec<Arrangement> {
         skipped: vec![[Fit::Unused; 2]; skipped],
         own: [forward, Fit::Unused],
         intra,
-        past_misfits: false,
+        past_outside: false,
     };
     let each_flag = |own| [false, true].map(|full_pel| arrangement(own, full_pel));
     owns.into_iter().flat_map(each_flag).collect()
@@ -73,14 +72,14 @@ fn b_arrangements(skipped: usize) -> Vec<Arrangement> {
         if skipped.contains(&[Fit::Unused; 2]) {
             continue;
         }
-        for own in pairs(&[Fit::Unused, Fit::Fits, Fit::Misfits]) {
+        for own in pairs(&[Fit::Unused, Fit::Fits, Fit::Outside]) {
             arrangements.extend(pairs(&[false, true]).map(|full_pel| Arrangement {
                 picture_type: PictureType::B,
                 full_pel,
                 skipped: skipped.clone(),
                 own,
                 intra: own == [Fit::Unused; 2],
-                past_misfits: false,
+                past_outside: false,
             }));
         }
     }
@@ -92,7 +91,7 @@ fn repetitions(count: usize) -> Vec<Vec<Fit>> {
     let mut used = vec![Vec::new()];
     for _ in 0..count {
         let longer =
-            |fits: &Vec<Fit>| [Fit::Fits, Fit::Misfits].map(|next| [&fits[..], &[next]].concat());
+            |fits: &Vec<Fit>| [Fit::Fits, Fit::Outside].map(|next| [&fits[..], &[next]].concat());
         used = used.iter().flat_map(longer).collect();
     }
     if count > 0 {
@@ -118,8 +117,8 @@ impl Arrangement {
     }
 
     /// True if a vector doesn't fit, so that the record is refused.
-    pub fn misfits(&self) -> bool {
-        self.macroblocks().flatten().any(|fit| fit == Fit::Misfits)
+    pub fn has_misfit(&self) -> bool {
+        self.macroblocks().flatten().any(|fit| fit == Fit::Outside)
     }
 
     /// This arrangement and, where a direction is not used, also one with a past that doesn't fit.
@@ -129,7 +128,7 @@ impl Arrangement {
         let mut arrangements = vec![self.clone()];
         if self.macroblocks().any(unused) {
             arrangements.push(Arrangement {
-                past_misfits: true,
+                past_outside: true,
                 ..self
             });
         }
@@ -144,20 +143,20 @@ impl Arrangement {
         }
     }
 
-    /// Whether this past doesn't fit at some macroblock that doesn't use the direction; none if skipped macroblocks that repeat it
-    /// would not fit as they should.
-    fn misfits_where_unused(&self, site: Site, way: usize, past: Vector) -> Option<bool> {
-        let mut misfits = false;
+    /// Whether this past doesn't fit at some macroblock that doesn't use the direction. `None` if a skipped macroblock that
+    /// repeats it would fit where the arrangement says it doesn't, or the reverse.
+    fn outside_where_unused(&self, site: Site, way: usize, past: Vector) -> Option<bool> {
+        let mut outside = false;
         for (index, fit) in self.macroblocks().enumerate() {
             let past_fits = fits(site.size, site.last + 1 + index, past);
             let is_own = index == self.skipped.len();
             match fit[way] {
-                Fit::Unused => misfits |= !past_fits,
+                Fit::Unused => outside |= !past_fits,
                 wanted if !is_own && past_fits != (wanted == Fit::Fits) => return None,
                 _ => (),
             }
         }
-        Some(misfits)
+        Some(outside)
     }
 }
 
@@ -187,7 +186,7 @@ struct Motion {
     own: Option<Vector>,
 }
 
-/// A picture with each arrangement, at random sites and with random vectors.
+/// A picture for each arrangement, at random sites and with random vectors.
 pub fn misfit_cases(seed: u64) -> Vec<Case> {
     let numbered = (0..).zip(all_arrangements());
     let case = |(number, arrangement): (u64, Arrangement)| {
@@ -197,10 +196,10 @@ pub fn misfit_cases(seed: u64) -> Vec<Case> {
             let motions = motions(random, &arrangement, site)?;
             Some((site, motions))
         });
-        let (site, motions) = chosen?;
-        Some(written(random, &arrangement, site, motions))
+        let (site, motions) = chosen.expect("each arrangement is possible at some site");
+        written(random, &arrangement, site, motions)
     };
-    numbered.filter_map(case).collect()
+    numbered.map(case).collect()
 }
 
 /// The items, from a random one on.
@@ -211,12 +210,12 @@ fn rotated<T: Copy>(random: &mut Random, items: &[T]) -> Vec<T> {
 
 /// Random vectors that make the arrangement at this site, if there are any.
 fn motions(random: &mut Random, arrangement: &Arrangement, site: Site) -> Option<[Motion; 2]> {
-    let pasts_misfit: &[[bool; 2]] = if arrangement.past_misfits {
+    let pasts_outside: &[[bool; 2]] = if arrangement.past_outside {
         &[[true, false], [false, true], [true, true]]
     } else {
         &[[false, false]]
     };
-    let each = rotated(random, pasts_misfit);
+    let each = rotated(random, pasts_outside);
     each.into_iter().find_map(|[forward, backward]| {
         let forward = motion(random, arrangement, site, 0, forward)?;
         let backward = motion(random, arrangement, site, 1, backward)?;
@@ -224,16 +223,16 @@ fn motions(random: &mut Random, arrangement: &Arrangement, site: Site) -> Option
     })
 }
 
-/// The same for one direction; `past_misfits` is about that direction alone.
+/// The same for one direction; `past_outside` is about that direction alone.
 fn motion(
     random: &mut Random,
     arrangement: &Arrangement,
     site: Site,
     way: usize,
-    past_misfits: bool,
+    past_outside: bool,
 ) -> Option<Motion> {
     if !arrangement.picture_type.uses()[way] {
-        return (!past_misfits).then(Motion::default);
+        return (!past_outside).then(Motion::default);
     }
     let vectors = vectors_at_edges(site.size, arrangement.full_pel[way]);
     let last_uses = arrangement.last_uses(way);
@@ -244,8 +243,8 @@ fn motion(
     };
     let past = pick(random, &vectors, |past| {
         let set = set_at.is_some_and(|address| fits(site.size, address, past));
-        let misfits = arrangement.misfits_where_unused(site, way, past);
-        (set || past == [0, 0]) && misfits == Some(past_misfits)
+        let outside = arrangement.outside_where_unused(site, way, past);
+        (set || past == [0, 0]) && outside == Some(past_outside)
     })?;
     let own_address = site.last + arrangement.skipped.len() + 1;
     let own = match arrangement.own[way] {
@@ -283,14 +282,10 @@ fn pick(
     (!found.is_empty()).then(|| random.pick(&found))
 }
 
-/// How the macroblocks around the record are written.
+/// How the macroblocks around the record are written. None is skipped, so that those before the record's slice end where it starts.
 const STYLE: Style = Style {
-    most_pairs: 2,
-    most_level: 20,
     most_skipped: 0,
-    slice_once_in: 3,
-    intra_once_in: 4,
-    stray_once_in: 0,
+    ..Style::SMALL
 };
 
 /// The picture: random macroblocks, then a slice with those of the motion, then random ones again.
@@ -324,7 +319,7 @@ fn written(
     }
     let file = writer.file;
     Case {
-        legal: !arrangement.misfits(),
+        legal: !arrangement.has_misfit(),
         ..lent(random, header, &file)
     }
 }

@@ -23,6 +23,16 @@ pub struct Style {
 }
 
 impl Style {
+    /// Short blocks, for small pictures.
+    pub const SMALL: Style = Style {
+        most_pairs: 2,
+        most_level: 20,
+        most_skipped: 1,
+        slice_once_in: 3,
+        intra_once_in: 4,
+        stray_once_in: 0,
+    };
+
     pub fn random(random: &mut Random, most_pairs: usize) -> Style {
         let pairs = [0, 1, 2, 5, 20, 64];
         Style {
@@ -69,7 +79,7 @@ pub fn picture(random: &mut Random, header: Header, style: Style) -> File {
             writer.matrix(which);
         }
     }
-    while writer.next < header.size.macroblocks() {
+    while !writer.whole() {
         writer.slice();
     }
     writer.file

@@ -13,7 +13,8 @@ pub struct Report {
     differing: usize,
     /// Counted for one file alone.
     left_out: usize,
-    failed: bool,
+    /// Files and lines that could not be run.
+    not_run: usize,
 }
 
 /// Runs the cases of the files found, each as its request says. Files of requests that have not landed are skipped.
@@ -21,9 +22,6 @@ pub fn run(found: &[Found], landed: &[Landed], tested: Tested) -> Report {
     let mut report = Report::default();
     for found in found {
         report.add(run_file(found, landed, tested));
-    }
-    if report.cases == 0 {
-        report.fail("no case was run".into());
     }
     report
 }
@@ -41,48 +39,54 @@ fn run_file(found: &Found, landed: &[Landed], tested: Tested) -> Report {
         report.fail(format!("{name}: request No. {request} has no such file"));
         return report;
     };
-    match cases(file, found, tested) {
-        Ok(cases) => report.run_cases(file, &cases, tested),
+    match case_lines(file, found, tested) {
+        Ok(lines) => report.run_cases(file, &lines, tested),
         Err(reason) => report.fail(format!("{name}: {reason}")),
     }
     report
 }
 
 /// The lines of a file's cases, or why they can't be run.
-fn cases<'a>(file: &RequestFile, found: &'a Found, tested: Tested) -> Result<Vec<&'a str>, String> {
+fn case_lines<'a>(
+    file: &RequestFile,
+    found: &'a Found,
+    tested: Tested,
+) -> Result<Vec<&'a str>, String> {
     let missing = |program: &&&str| !tested.programs.join(program).is_file();
     if let Some(program) = file.programs.iter().find(missing) {
         let folder = tested.programs.display();
         return Err(format!("no program {program} in {folder}"));
     }
-    let text = found.text.as_ref()?;
-    match text.split_terminator('\n').next() {
-        Some(first) if first.starts_with("# ") => {}
-        _ => return Err("line 1 does not start with \"# \"".into()),
+    let mut lines = found.text.as_ref()?.split_terminator('\n');
+    match lines.next() {
+        Some(first) if first.starts_with("# ") => Ok(lines.collect()),
+        _ => Err("line 1 does not start with \"# \"".into()),
     }
-    Ok(text.split_terminator('\n').skip(1).collect())
 }
 
 impl Report {
-    /// Whether a case was run, each file of a request that has landed could be read and run, and no case differs.
-    pub fn passed(&self) -> bool {
-        !self.failed && self.differing == 0
+    /// The exit status of a program that runs the cases: 0 if a case was run, none differs, and every file of a request that has
+    /// landed, and each of its lines, could be run; else 1.
+    pub fn exit_status(&self) -> u8 {
+        let passed = self.cases > 0 && self.differing == 0 && self.not_run == 0;
+        u8::from(!passed)
     }
 
     fn say(&mut self, line: String) {
         self.lines.push(line);
     }
 
-    fn fail(&mut self, line: String) {
-        self.say(line);
-        self.failed = true;
+    /// Says why a file or a line could not be run.
+    fn fail(&mut self, reason: String) {
+        self.say(reason);
+        self.not_run += 1;
     }
 
     fn add(&mut self, other: Report) {
         self.lines.extend(other.lines);
         self.cases += other.cases;
         self.differing += other.differing;
-        self.failed |= other.failed;
+        self.not_run += other.not_run;
     }
 
     fn run_cases(&mut self, file: &RequestFile, lines: &[&str], tested: Tested) {
@@ -125,6 +129,13 @@ impl fmt::Display for Report {
     fn fmt(&self, formatter: &mut fmt::Formatter) -> fmt::Result {
         for line in &self.lines {
             writeln!(formatter, "{line}")?;
+        }
+        if self.cases == 0 {
+            writeln!(formatter, "no case was run")?;
+        }
+        if self.not_run > 0 {
+            let not_run = self.not_run;
+            writeln!(formatter, "{not_run} files or lines could not be run")?;
         }
         writeln!(formatter, "requests: {}", self.counts())
     }
