@@ -100,11 +100,11 @@ instruction == "ret" { extra = 0 }
 # Where the code after the prologue has taken nothing more, another path may lead that has touched nothing.
 !prologue && extra == 0 { untouched = untouched_by_prologue }
 
-# A jump table holds offsets from its own start.
+# A jump table holds offsets from its own start. An address that is based on %r13 or %rbp always has a displacement, here 0.
 instruction ~ /^j/ && operand ~ /^\*/ {
     place = substr(operand, 2)
     start = last; sub(/^add /, "", start); sub(/,.*/, "", start)
-    if (last != "add " start "," place || before_last !~ ("^movslq \\(" start ",%[a-z0-9]+,4\\)," place "$"))
+    if (last != "add " start "," place || before_last !~ ("^movslq (0x0)?\\(" start ",%[a-z0-9]+,4\\)," place "$"))
         fail("an indirect jump that is no jump table")
 }
 instruction == "call" && operand ~ /^\*/ { fail("an indirect call") }

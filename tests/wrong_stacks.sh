@@ -77,13 +77,19 @@ format3_intra_coefficient:
 format3_non_intra_coefficient:
     ret
 format3_read_header:
-    ret
+    lea others(%rip),%r13
+    movslq (%r13,%rdi,4),%rdx
+    add %r13,%rdx
+    jmp *%rdx
+3:  ret
 format3_show_record:
     ret
 
     .section .rodata
 places:
     .long 2b - places
+others:
+    .long 3b - others
 ASSEMBLY
 
 cat > "$right/measured" <<'LINES'
@@ -150,6 +156,7 @@ edits=(
     '^frames: format3_transform: an indirect jump' library.s '/^ *add %rax,%rcx$/d'
     '^frames: format3_transform: an indirect jump' library.s 's/jmp \*%rcx/jmp *%rdx/'
     '^frames: format3_transform: an indirect jump' library.s 's/movslq \(%rax/movslq (%rdx/'
+    '^frames: format3_read_header: an indirect jump' library.s 's/movslq \(%r13/movslq 4(%r13/'
     '^frames: format3_vector: an indirect jump' library.s 's/je shallow/notrack jmp *%rcx/'
     'format3_vector .*on any path  TOO MUCH$' library.s 's/je shallow/je deep/'
     'format3_vector .*on any path  TOO MUCH$' library.s 's/je shallow/jmp deep/'
