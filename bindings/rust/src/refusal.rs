@@ -75,7 +75,7 @@ pub enum Refusal {
     DcCoefficient,
     /// 18: a forward vector points outside the forward reference.
     ///
-    /// Caused by the encoder. A motion code, a residual or the full-pel flag of the forward direction is wrong; the macroblock's backward vector, if it has one, was not tested.
+    /// Caused by the encoder. Check the forward motion codes, residuals and full-pel flag; a backward vector was not tested.
     ForwardVectorOutside,
     /// 19: the output's length is not 384 bytes per macroblock.
     ///
@@ -95,7 +95,7 @@ pub enum Refusal {
     NumberOutOfRange,
     /// 23: a backward vector points outside the backward reference.
     ///
-    /// Caused by the encoder. A motion code, a residual or the full-pel flag of the backward direction is wrong; the macroblock's forward vector, if it has one, fits.
+    /// Caused by the encoder. Check the backward motion codes, residuals and full-pel flag; a forward vector of the same macroblock fits.
     BackwardVectorOutside,
     /// 24: a raw slice has bits that begin no code, a row outside the picture, or a code that goes too far.
     ///

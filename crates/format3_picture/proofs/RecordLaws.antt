@@ -1,5 +1,5 @@
 -- The outcomes of a record: a refusal, a matrix or a slice that passes, or macroblocks that fit. Assumes nothing.
-use mathlib.Core.Bool.{Bool, true, false, cond}
+use mathlib.Core.Bool.{Bool, true, false}
 use mathlib.Core.List.{List, []}
 use mathlib.Core.Path.{_≡_, refl, sym, subst}
 use Prim.Native.Nat.{ℕ, _+_}
@@ -7,7 +7,8 @@ use native.Mathlib.Omega.{arith}
 use lib.Dec.{T, eqb, eqb→eq}
 use lib.ListN.{length, take, drop}
 use Rattle.refusals.specs.declared.Refusal.{Refusal}
-use Rattle.refusals.specs.declared.Refusal.the-variants.{BackwardVectorOutside}
+use Rattle.refusals.specs.declared.Refusal.the-variants.{OutOfTurn, BackwardVectorOutside}
+use Rattle.symbols.specs.Guard.{require_else_then_}
 use Rattle.symbols.specs.Parsed.{Parsed, parsed, refused}
 use Rattle.symbols.specs.declared.slice.SliceHeader.{SliceHeader}
 use Rattle.symbols.specs.Macroblock.{Macroblock}
@@ -33,9 +34,29 @@ use Rattle.format3_macroblock.proofs.Laws.Slice.{slice-legal}
 use Rattle.format3_macroblock.proofs.Laws.Macroblock.{MacroblockLegal, macroblock-legal}
 use Rattle.format3_picture.specs.declared.state.PictureState.{PictureState}
 use Rattle.format3_picture.specs.Reconstruction.{planFor, coefficientsFor}
-use Rattle.format3_picture.specs.MacroblockRecord.{Applied, contextOf, refusedRecord, recordFit, stateAfter, planApplied, planAppliedRefusing, symbolsAppliedRefusing, parsedApplied, macroblockApplied}
+use Rattle.format3_picture.specs.MacroblockRecord.{Applied, contextOf, refusedRecord, recordFit, stateAfter, planApplied, planAppliedRefusing, symbolsAppliedRefusing, parsedApplied, macroblockApplied, macroblockAppliedRefusing}
 use Rattle.format3_picture.specs.Step.{passedRecord, withMatrix, matrixApplied, withSlice, sliceStarted, sliceStartedFrom, sliceApplied, recordApplied, recordAppliedRefusing, matricesAfter, RecordStep, stepOverRefusing, stepAt, stepAtRefusing}
 use Rattle.format3_picture.specs.Symbols.{Symbol, starts, continues, none, sliceSymbol, macroblockSymbol, symbolOf, symbolAt}
+
+-- ---- a record's turn and kind, and so what it does, whatever the refusal of a backward misfit
+module _ (q : Matrices) (s : PictureState) (kind : ℕ) (body : List ℕ) where
+  pub data ByKind : Type 0 where
+    out-of-turn : ((refusal : Refusal) → recordAppliedRefusing refusal q s kind body ≡ refusedRecord OutOfTurn s) → ByKind
+    is-matrix : inTurn (s .turn) kind ≡ true → eqb kind matrixKind ≡ true → ((refusal : Refusal) → recordAppliedRefusing refusal q s kind body ≡ matrixApplied s body) → ByKind
+    is-slice : inTurn (s .turn) kind ≡ true → eqb kind matrixKind ≡ false → eqb kind sliceKind ≡ true
+        → ((refusal : Refusal) → recordAppliedRefusing refusal q s kind body ≡ sliceApplied s body) → ByKind
+    is-neither : inTurn (s .turn) kind ≡ true → eqb kind matrixKind ≡ false → eqb kind sliceKind ≡ false
+        → ((refusal : Refusal) → recordAppliedRefusing refusal q s kind body ≡ macroblockAppliedRefusing refusal q s body) → ByKind
+
+  pub by-kind : ByKind
+  unfolding recordAppliedRefusing require_else_then_
+  by-kind = go (inTurn (s .turn) kind) (eqb kind matrixKind) (eqb kind sliceKind) refl refl refl
+    where
+      go : (turn matrix slice : Bool) → inTurn (s .turn) kind ≡ turn → eqb kind matrixKind ≡ matrix → eqb kind sliceKind ≡ slice → ByKind
+      go false matrix slice e f g = out-of-turn (λ refusal. rw e)
+      go true true slice e f g = is-matrix e f (λ refusal. rw (e, f))
+      go true false true e f g = is-slice e f g (λ refusal. rw (e, f, g))
+      go true false false e f g = is-neither e f g (λ refusal. rw (e, f, g))
 
 -- a record whose macroblocks fit
 abbrev pub madeRecord : Matrices → PictureState → Macroblock → Applied
@@ -102,16 +123,14 @@ module _ (q : Matrices) (s : PictureState) (end : ℕ) where
   not-first turn kind e f g h = let z : _≡_ {A = Bool} false true = rw (f, g) at (rw h at e) in subst T (sym z) tt
 
   applied-cases : (kind : ℕ) (body : List ℕ) → StepCases q s (symbolOf s kind body) (takes (recordApplied q s kind body) (matricesAfter kind body q))
-  unfolding recordAppliedRefusing
-  applied-cases kind body =
-      require-all (λ (a : Applied). StepCases q s (symbolOf s kind body) (takes a (matricesAfter kind body q))) _ _ _ (refuses _) λ turn.
-      by-kind turn (eqb kind matrixKind) (eqb kind sliceKind) refl refl
+  applied-cases kind body = go (by-kind q s kind body)
     where
-      by-kind : inTurn (s .turn) kind ≡ true → (is-matrix is-slice : Bool) → eqb kind matrixKind ≡ is-matrix → eqb kind sliceKind ≡ is-slice
-          → StepCases q s (symbolOf s kind body) (takes (cond (eqb kind matrixKind) (matrixApplied s body) (cond (eqb kind sliceKind) (sliceApplied s body) (macroblockApplied q s body))) (matricesAfter kind body q))
-      by-kind turn true is-slice e f = rw e (matrix-way (subst (λ (k : ℕ). inTurn (s .turn) k ≡ true) (eqb→eq kind matrixKind (subst T (sym e) tt)) turn) body (loadedWith body q))
-      by-kind turn false true e f = rw (e, f) (slice-way (subst (λ (k : ℕ). inTurn (s .turn) k ≡ true) (eqb→eq kind sliceKind (subst T (sym f) tt)) turn) body)
-      by-kind turn false false e f = rw (e, f) (macroblock-way (not-first (s .turn) kind turn e f) body)
+      go : ByKind q s kind body → StepCases q s (symbolOf s kind body) (takes (recordApplied q s kind body) (matricesAfter kind body q))
+      go (out-of-turn does) = rw (does BackwardVectorOutside) (refuses _)
+      go (is-matrix turn e does) =
+          rw (does BackwardVectorOutside, e) (matrix-way (subst (λ (k : ℕ). inTurn (s .turn) k ≡ true) (eqb→eq kind matrixKind (subst T (sym e) tt)) turn) body (loadedWith body q))
+      go (is-slice turn e f does) = rw (does BackwardVectorOutside, e, f) (slice-way (subst (λ (k : ℕ). inTurn (s .turn) k ≡ true) (eqb→eq kind sliceKind (subst T (sym f) tt)) turn) body)
+      go (is-neither turn e f does) = rw (does BackwardVectorOutside, e, f) (macroblock-way (not-first (s .turn) kind turn e f) body)
 
 pub step-cases : (file : List ℕ) (at : ℕ) (s : PictureState) (q : Matrices) → StepCases q s (symbolAt file at s) (stepAt file at s q)
 unfolding stepAtRefusing symbolAt
@@ -148,14 +167,21 @@ refused-makes-none q s file at refusal = go (step-cases file at s q)
     go (macroblocks-made begun m legal) e = let z : _≡_ {A = ℕ} 0 1 = cc in absurd (omega arith)
 
 -- ---- a record at an offset, by what is found there
+module _ (refusal : Refusal) (file : List ℕ) (at : ℕ) (s : PictureState) (q : Matrices) where
+  pub step-over : {kind start n : ℕ} → recordOf file at ≡ Record.Found kind start n → stepAtRefusing refusal file at s q ≡ stepOverRefusing refusal s q kind (take n (drop start file)) (start + n)
+  unfolding stepAtRefusing
+  step-over e = rw e
+
+  pub no-step : {found : Refusal} → recordOf file at ≡ Record.Refused found → stepAtRefusing refusal file at s q ≡ record { applied = refusedRecord found s; matrices = q; end = at }
+  unfolding stepAtRefusing
+  no-step e = rw e
+
 module _ (file : List ℕ) (at : ℕ) (s : PictureState) (q : Matrices) where
   pub step-found : {kind start n : ℕ} → recordOf file at ≡ Record.Found kind start n → stepAt file at s q ≡ stepOverRefusing BackwardVectorOutside s q kind (take n (drop start file)) (start + n)
-  unfolding stepAtRefusing
-  step-found e = rw e
+  step-found e = step-over BackwardVectorOutside file at s q e
 
   pub step-unfound : {refusal : Refusal} → recordOf file at ≡ Record.Refused refusal → stepAt file at s q ≡ record { applied = refusedRecord refusal s; matrices = q; end = at }
-  unfolding stepAtRefusing
-  step-unfound e = rw e
+  step-unfound e = no-step BackwardVectorOutside file at s q e
 
 -- ---- a matrix record that passes has the right length
 pub matrix-long : (q : Matrices) (s : PictureState) (body : List ℕ) → recordApplied q s matrixKind body .verdict ≡ Passed → length body ≡ 65

@@ -1,4 +1,4 @@
--- Which refusals a parser gives: only those that a record can cause. Assumes nothing.
+-- Which refusals a parser gives: only those that reading a record can cause. Assumes nothing.
 use mathlib.Core.Bool.{Bool, true, false}
 use mathlib.Core.List.{List}
 use Prim.Native.Nat.{ℕ}
@@ -8,7 +8,7 @@ use Rattle.refusals.proofs.Laws.{ofReading}
 use Rattle.symbols.specs.Guard.{require_else_then_}
 use Rattle.symbols.specs.Parsed.{Parsed, parsed, refused, Parser, bind, refuse, optional_default_read_}
 
--- a value, or a refusal that a record can cause
+-- a value, or a refusal that reading a record can cause
 pub data OfReading {A : Type 0} : Parsed A → Type 0 where
   legal : {a : A} {rest : List ℕ} → OfReading (parsed a rest)
   refused-by : {refusal : Refusal} → T (ofReading refusal) → OfReading (refused refusal)

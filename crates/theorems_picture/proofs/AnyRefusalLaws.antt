@@ -29,7 +29,7 @@ use Rattle.format3_picture.specs.Step.{RecordStep, stepAt, stepAtRefusing}
 use Rattle.format3_picture.specs.Symbols.{Symbol, symbolAt, Gathered, noneGathered, putInFront}
 use Rattle.format3_picture.specs.declared.state.PictureState.{PictureState}
 use Rattle.theorems_picture.specs.Applies.{fileStart}
-use Rattle.theorems_picture.proofs.DecidingLaws.{NotByVector, MacroblockRead, stepByVectors, Decided, by-reading, by-vectors, decided}
+use Rattle.theorems_picture.proofs.DecidingLaws.{NotByVector, MacroblockRead, stepByVectors, DecidedBy, reading, vectors, decided-by}
 use Rattle.theorems_picture.proofs.FileStartLaws.{StartListed, start-listed}
 
 -- ---- a verdict that no vector causes is not 23
@@ -60,11 +60,11 @@ module _ (other : Refusal) where
         go Backward e = rw e (differ q (x .start + x .count))
 
     step-alike : StepAlike s (stepAt file at s q) (stepAtRefusing other file at s q)
-    step-alike = go (decided file at s q)
+    step-alike = go (decided-by file at s q)
       where
-        go : Decided file at s q → StepAlike s (stepAt file at s q) (stepAtRefusing other file at s q)
-        go (by-reading t reads e) = rw (e BackwardVectorOutside, e other) (same t (not-backward (t .applied .verdict) reads))
-        go (by-vectors x e) = rw (e BackwardVectorOutside, e other) (vectors-alike x)
+        go : DecidedBy file at s q → StepAlike s (stepAt file at s q) (stepAtRefusing other file at s q)
+        go (reading t reads e) = rw (e BackwardVectorOutside, e other) (same t (not-backward (t .applied .verdict) reads))
+        go (vectors x e) = rw (e BackwardVectorOutside, e other) (vectors-alike x)
 
   -- ---- the records from an offset on
   data AnsweredAlike : Answered → Answered → Type 0 where

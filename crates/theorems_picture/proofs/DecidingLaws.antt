@@ -39,6 +39,7 @@ use Rattle.format3_picture.specs.MacroblockRecord.{Applied, contextOf, refusedR
 use Rattle.format3_picture.specs.Reconstruction.{planFor, coefficientsFor}
 use Rattle.format3_picture.specs.Step.{matrixApplied, sliceStarted, sliceStartedFrom, sliceApplied, recordAppliedRefusing, matricesAfter, RecordStep, stepAt, stepAtRefusing}
 use Rattle.format3_picture.specs.declared.state.PictureState.{PictureState}
+use Rattle.format3_picture.proofs.RecordLaws.{ByKind, out-of-turn, is-matrix, is-slice, is-neither, by-kind, step-over, no-step}
 use Rattle.theorems_picture.proofs.FileStartLaws.{NeitherEndNorVector, neither, of-reading}
 use Rattle.theorems_picture.proofs.RefusalLaws.{of-slice, of-macroblock, VerdictOf, of-matrix, FoundOf, of-found}
 
@@ -94,9 +95,9 @@ module _ (file : List ℕ) (at : ℕ) (s : PictureState) (q : Matrices) where
     end = x .start + x .count;
   }
 
-  pub data Decided : Type 0 where
-    by-reading : (t : RecordStep) → NotByVector (t .applied .verdict) → ((refusal : Refusal) → stepAtRefusing refusal file at s q ≡ t) → Decided
-    by-vectors : (x : MacroblockRead) → ((refusal : Refusal) → stepAtRefusing refusal file at s q ≡ stepByVectors refusal x) → Decided
+  pub data DecidedBy : Type 0 where
+    reading : (t : RecordStep) → NotByVector (t .applied .verdict) → ((refusal : Refusal) → stepAtRefusing refusal file at s q ≡ t) → DecidedBy
+    vectors : (x : MacroblockRead) → ((refusal : Refusal) → stepAtRefusing refusal file at s q ≡ stepByVectors refusal x) → DecidedBy
 
   module _ {kind start n : ℕ} (found : recordOf file at ≡ Record.Found kind start n) where
     abbrev body : List ℕ
@@ -106,61 +107,41 @@ module _ (file : List ℕ) (at : ℕ) (s : PictureState) (q : Matrices) where
     abbrev stepWith : Applied → RecordStep
     stepWith a = record { applied = a; matrices = matricesAfter kind body q; end = start + n }
 
-    step-found : (refusal : Refusal) {a : Applied} → recordAppliedRefusing refusal q s kind body ≡ a → stepAtRefusing refusal file at s q ≡ stepWith a
-    unfolding stepAtRefusing
-    step-found refusal e = rw (found, e)
+    step-with : (refusal : Refusal) {a : Applied} → recordAppliedRefusing refusal q s kind body ≡ a → stepAtRefusing refusal file at s q ≡ stepWith a
+    step-with refusal e = step-over refusal file at s q found ∙ ap (λ (a : Applied). stepWith a) e
 
-    reading : (a : Applied) → NotByVector (a .verdict) → ((refusal : Refusal) → recordAppliedRefusing refusal q s kind body ≡ a) → Decided
-    reading a v e = by-reading (stepWith a) v (λ refusal. step-found refusal (e refusal))
+    by-reading : (a : Applied) → NotByVector (a .verdict) → ((refusal : Refusal) → recordAppliedRefusing refusal q s kind body ≡ a) → DecidedBy
+    by-reading a v e = reading (stepWith a) v (λ refusal. step-with refusal (e refusal))
 
-    -- ---- what the record does, by its turn and its kind
-    out-of-turn : inTurn (s .turn) kind ≡ false → (refusal : Refusal) → recordAppliedRefusing refusal q s kind body ≡ refusedRecord OutOfTurn s
-    unfolding recordAppliedRefusing require_else_then_
-    out-of-turn e refusal = rw e
-
-    matrix : inTurn (s .turn) kind ≡ true → eqb kind matrixKind ≡ true → (refusal : Refusal) → recordAppliedRefusing refusal q s kind body ≡ matrixApplied s body
-    unfolding recordAppliedRefusing require_else_then_
-    matrix e f refusal = rw (e, f)
-
-    slice : inTurn (s .turn) kind ≡ true → eqb kind matrixKind ≡ false → eqb kind sliceKind ≡ true → (refusal : Refusal) → recordAppliedRefusing refusal q s kind body ≡ sliceApplied s body
-    unfolding recordAppliedRefusing require_else_then_
-    slice e f g refusal = rw (e, f, g)
-
-    module _ (e : inTurn (s .turn) kind ≡ true) (f : eqb kind matrixKind ≡ false) (g : eqb kind sliceKind ≡ false) where
-      macroblock : (refusal : Refusal) → recordAppliedRefusing refusal q s kind body ≡ macroblockAppliedRefusing refusal q s body
-      unfolding recordAppliedRefusing require_else_then_
-      macroblock refusal = rw (e, f, g)
-
-      planned : {m : Macroblock} {rest : List ℕ} → macroblockOf (contextOf s) body ≡ parsed m rest
+    -- neither a matrix nor a slice: it is read as a macroblock
+    module _ (turn : inTurn (s .turn) kind ≡ true) (f : eqb kind matrixKind ≡ false) (g : eqb kind sliceKind ≡ false)
+        (does : (refusal : Refusal) → recordAppliedRefusing refusal q s kind body ≡ macroblockAppliedRefusing refusal q s body) where
+      planned : {m : Macroblock} → macroblockOf (contextOf s) body ≡ parsed m []
           → (refusal : Refusal) → recordAppliedRefusing refusal q s kind body ≡ planAppliedRefusing refusal s (planFor (s .header) (s .next) (s .slice) m) (coefficientsFor q (s .slice) m)
       unfolding symbolsAppliedRefusing
-      planned p refusal = macroblock refusal ∙ rw p
+      planned p refusal = does refusal ∙ rw p
 
-      by-symbols : (x : Parsed Macroblock) → OfReading x → All (λ m rest. rest ≡ []) x → macroblockOf (contextOf s) body ≡ x → Decided
-      by-symbols (refused refusal) (refused-by t) ends p = reading (refusedRecord refusal s) (of-reading refusal t) (λ other. macroblock other ∙ rw p)
+      by-symbols : (x : Parsed Macroblock) → OfReading x → All (λ m rest. rest ≡ []) x → macroblockOf (contextOf s) body ≡ x → DecidedBy
+      by-symbols (refused refusal) (refused-by t) ends p = by-reading (refusedRecord refusal s) (of-reading refusal t) (λ other. does other ∙ rw p)
       by-symbols (parsed m rest) t (here nothing) p =
-          let x : MacroblockRead = record { kind = kind; start = start; count = n; found = found; in-turn = e; no-matrix = f; no-slice = g; symbols = m; legal = p ∙ ap (parsed m) nothing } in
-          by-vectors x (λ other. step-found other (planned (x .legal) other) ∙ rw f)
+          let x : MacroblockRead = record { kind = kind; start = start; count = n; found = found; in-turn = turn; no-matrix = f; no-slice = g; symbols = m; legal = p ∙ ap (parsed m) nothing } in
+          vectors x (λ other. step-with other (planned (x .legal) other) ∙ rw f)
 
-    in-file : Decided
-    in-file = go (inTurn (s .turn) kind) (eqb kind matrixKind) (eqb kind sliceKind) refl refl refl
+    in-file : DecidedBy
+    in-file = go (by-kind q s kind body)
       where
-        go : (turn is-matrix is-slice : Bool) → inTurn (s .turn) kind ≡ turn → eqb kind matrixKind ≡ is-matrix → eqb kind sliceKind ≡ is-slice → Decided
-        go false is-matrix is-slice e f g = reading (refusedRecord OutOfTurn s) (neither _ tt) (out-of-turn e)
-        go true true is-slice e f g = reading (matrixApplied s body) (matrix-reads s body) (matrix e f)
-        go true false true e f g = reading (sliceApplied s body) (slice-reads s (sliceOf body) (of-slice body)) (slice e f g)
-        go true false false e f g = by-symbols e f g (macroblockOf (contextOf s) body) (of-macroblock (contextOf s) body) (read-to-end (contextOf s) body) refl
+        go : ByKind q s kind body → DecidedBy
+        go (out-of-turn does) = by-reading (refusedRecord OutOfTurn s) (neither _ tt) does
+        go (is-matrix turn f does) = by-reading (matrixApplied s body) (matrix-reads s body) does
+        go (is-slice turn f g does) = by-reading (sliceApplied s body) (slice-reads s (sliceOf body) (of-slice body)) does
+        go (is-neither turn f g does) = by-symbols turn f g does (macroblockOf (contextOf s) body) (of-macroblock (contextOf s) body) (read-to-end (contextOf s) body) refl
 
-  unfound : {refusal : Refusal} → recordOf file at ≡ Record.Refused refusal → (other : Refusal) → stepAtRefusing other file at s q ≡ record { applied = refusedRecord refusal s; matrices = q; end = at }
-  unfolding stepAtRefusing
-  unfound e other = rw e
-
-  pub decided : Decided
-  decided = go (recordOf file at) refl (of-found file at)
+  pub decided-by : DecidedBy
+  decided-by = go (recordOf file at) refl (of-found file at)
     where
-      go : (r : Record) → recordOf file at ≡ r → FoundOf r → Decided
+      go : (r : Record) → recordOf file at ≡ r → FoundOf r → DecidedBy
       go (Record.Refused refusal) e t =
-          by-reading (record { applied = refusedRecord refusal s; matrices = q; end = at }) (of-reading refusal t) (unfound e)
+          reading (record { applied = refusedRecord refusal s; matrices = q; end = at }) (of-reading refusal t) (λ other. no-step other file at s q e)
       go (Record.Found kind start n) e t = in-file e
 
   -- ---- the verdict on the vectors of a macroblock
@@ -183,11 +164,11 @@ module _ (file : List ℕ) (at : ℕ) (s : PictureState) (q : Matrices) where
     pub verdict : vectorVerdict (read .symbols) ≡ Refused refusal
 
   pub why-refused : (refusal : Refusal) → stepAt file at s q .applied .verdict ≡ Refused refusal → NeitherEndNorVector refusal ⊎ RefusedByVector refusal
-  why-refused refusal v = go decided
+  why-refused refusal v = go decided-by
     where
-      go : Decided → NeitherEndNorVector refusal ⊎ RefusedByVector refusal
-      go (by-reading t reads e) = inl (subst NotByVector (sym (ap (λ (u : RecordStep). u .applied .verdict) (e BackwardVectorOutside)) ∙ v) reads)
-      go (by-vectors x e) = inr (record {
+      go : DecidedBy → NeitherEndNorVector refusal ⊎ RefusedByVector refusal
+      go (reading t reads e) = inl (subst NotByVector (sym (ap (λ (u : RecordStep). u .applied .verdict) (e BackwardVectorOutside)) ∙ v) reads)
+      go (vectors x e) = inr (record {
         read = x;
         verdict = sym (plan-verdict (x .symbols)) ∙ sym (ap (λ (u : RecordStep). u .applied .verdict) (e BackwardVectorOutside)) ∙ v;
       })
@@ -195,8 +176,9 @@ module _ (file : List ℕ) (at : ℕ) (s : PictureState) (q : Matrices) where
   -- a macroblock record in turn whose symbols are legal: its vectors decide
   pub vectors-decide : {start n : ℕ} {m : Macroblock} → recordOf file at ≡ Record.Found macroblockKind start n → inTurn (s .turn) macroblockKind ≡ true
       → macroblockOf (contextOf s) (take n (drop start file)) ≡ parsed m [] → stepAt file at s q .applied .verdict ≡ vectorVerdict m
+  unfolding recordAppliedRefusing require_else_then_
   vectors-decide {start} {n} {m} found turn legal =
-      ap (λ (u : RecordStep). u .applied .verdict) (step-found found BackwardVectorOutside (planned found turn refl refl legal BackwardVectorOutside)) ∙ plan-verdict m
+      ap (λ (u : RecordStep). u .applied .verdict) (step-with found BackwardVectorOutside (planned found turn refl refl (λ refusal. rw turn) legal BackwardVectorOutside)) ∙ plan-verdict m
 
   -- after the header, a record in turn that is neither a matrix nor a slice is a macroblock record
   pub is-macroblock : (x : MacroblockRead) → (s .turn ≡ Turn.Start → ⊥) → x .kind ≡ macroblockKind
