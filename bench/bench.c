@@ -1,14 +1,17 @@
-/* Benchmarks the exported library against plain C that follows the same rules.
+/* Benchmarks the exported library against plain C that follows the same rules, and that C against itself with a second pass
+ * over each block.
  *
- *   bench compare REEL..                checks that both give the same answers and the same bytes, refusals included
+ *   bench compare REEL..                checks that all give the same answers and the same bytes, refusals included
  *   bench time REEL..                   pictures and macroblocks a second, repeated until stable
  *   bench reel WHO NUMBER REEL          decodes one picture of a reel once, inside measured(), for an instruction counter
+ *   bench reel WHO all REEL             the same for every picture of a reel
  *   bench made WHO KIND BLOCKS PAIRS    the same for a synthetic picture
  *   bench transform WHO                 the same for the transform of one block
  *   bench reel-census NUMBER REEL       counts what a picture of a reel consists of
  *   bench made-census KIND BLOCKS PAIRS counts what a synthetic picture consists of
  *
- * WHO is library or plain; KIND is intra, whole, half or mixed. bench/run runs all of these. */
+ * WHO is library, plain, second-pass or skipping-pass, and for a transform library or plain; KIND is intra, whole, half or
+ * mixed. bench/run runs all of these. */
 #include <stdbool.h>
 #include <stdint.h>
 #include <stdio.h>
@@ -26,6 +29,23 @@ typedef uint32_t reconstruct_function(
     const uint8_t *backward, size_t backward_length,
     uint8_t *output, size_t output_length,
     struct format3_picture_result *result);
+
+struct decoder {
+    /* WHO on the command line. */
+    const char *word;
+    /* As it is printed. */
+    const char *name;
+    reconstruct_function *reconstruct;
+};
+
+enum { LIBRARY, PLAIN, SECOND_PASS, SKIPPING_PASS, DECODERS };
+
+static const struct decoder DECODER[DECODERS] = {
+    [LIBRARY] = {"library", "library", format3_reconstruct},
+    [PLAIN] = {"plain", "plain C", plain_reconstruct},
+    [SECOND_PASS] = {"second-pass", "plain C, second pass", second_pass_reconstruct},
+    [SKIPPING_PASS] = {"skipping-pass", "the same, skips zeros", skipping_pass_reconstruct},
+};
 
 struct answer {
     uint32_t number;
@@ -45,17 +65,34 @@ static struct answer run(reconstruct_function *reconstruct, const struct job *jo
 
 /* ---- comparing */
 
+/* Runs a decoder whose output starts as the same bytes every time. */
+static struct answer run_afresh(int who, const struct job *job, uint8_t *output)
+{
+    memset(output, 0x5a, job->picture_length);
+    return run(DECODER[who].reconstruct, job, output);
+}
+
+static bool same_answer(struct answer one, struct answer other)
+{
+    return one.number == other.number && one.result.place == other.result.place && one.result.made == other.result.made;
+}
+
+/* Whether all decoders give the library's answer and bytes; if not, tells which does not. */
 static bool same(const struct job *job)
 {
     static uint8_t ours[MAX_PICTURE_BYTES], theirs[MAX_PICTURE_BYTES];
-    memset(ours, 0x5a, job->picture_length);
-    memset(theirs, 0x5a, job->picture_length);
-    struct answer library = run(format3_reconstruct, job, ours), plain = run(plain_reconstruct, job, theirs);
-    return library.number == plain.number && library.result.place == plain.result.place
-        && library.result.made == plain.result.made && memcmp(ours, theirs, job->picture_length) == 0;
+    struct answer answer = run_afresh(LIBRARY, job, ours);
+    for (int who = LIBRARY + 1; who < DECODERS; who++) {
+        struct answer other = run_afresh(who, job, theirs);
+        if (same_answer(answer, other) && memcmp(ours, theirs, job->picture_length) == 0)
+            continue;
+        printf("library and %s differ\n", DECODER[who].word);
+        return false;
+    }
+    return true;
 }
 
-/* Compares both on the file with one byte changed, at offsets spread over it. */
+/* Compares all on the file with one byte changed, at offsets spread over it. */
 static bool same_when_damaged(const struct job *job, size_t times)
 {
     for (size_t k = 0; k < times; k++) {
@@ -115,36 +152,40 @@ static bool improves(double *best, double seconds)
     return better;
 }
 
-/* Times both in turn and keeps the best round of each, until neither improves for a while: other load only makes a round slower. */
-static void best_rounds(struct jobs jobs, double *library, double *plain)
+/* Times all in turn and keeps the best round of each, until none improves for a while: other load only makes a round slower. */
+static void best_rounds(struct jobs jobs, double best[DECODERS])
 {
     int since_better = 0;
-    *library = *plain = 1e9;
+    for (int who = 0; who < DECODERS; who++)
+        best[who] = 1e9;
     for (int k = 0; k < MAX_ROUNDS && since_better < FEWEST_ROUNDS; k++) {
-        bool better = improves(library, round_of(format3_reconstruct, jobs));
-        better = improves(plain, round_of(plain_reconstruct, jobs)) || better;
-        since_better = better ? 0 : since_better + 1;
+        since_better++;
+        for (int who = 0; who < DECODERS; who++)
+            if (improves(&best[who], round_of(DECODER[who].reconstruct, jobs)))
+                since_better = 0;
     }
 }
 
-static void print_speed(const char *who, struct jobs jobs, double seconds)
+static void print_speed(const char *name, struct jobs jobs, double seconds)
 {
     int macroblocks = 0;
     for (int k = 0; k < jobs.count; k++)
         macroblocks += jobs.job[k].macroblocks;
-    printf("  %-8s %8.0f pictures/s %10.0f macroblocks/s\n", who, jobs.count / seconds, macroblocks / seconds);
+    printf("  %-22s %8.0f pictures/s %10.0f macroblocks/s\n", name, jobs.count / seconds, macroblocks / seconds);
 }
 
 static int time_reels(char **reels, int count)
 {
     for (int k = 0; k < count; k++) {
-        double library, plain;
+        double best[DECODERS];
         struct jobs jobs = jobs_of_reel(reels[k]);
-        best_rounds(jobs, &library, &plain);
+        best_rounds(jobs, best);
         printf("%s: %d pictures of %d macroblocks\n", reels[k], jobs.count, jobs.job[0].macroblocks);
-        print_speed("library", jobs, library);
-        print_speed("plain C", jobs, plain);
-        printf("  the library takes %.2f times as long\n", library / plain);
+        for (int who = 0; who < DECODERS; who++)
+            print_speed(DECODER[who].name, jobs, best[who]);
+        printf("  the library takes %.2f times as long as plain C\n", best[LIBRARY] / best[PLAIN]);
+        printf("  with a second pass plain C takes %.2f times as long, with one that skips zeros %.2f times\n",
+            best[SECOND_PASS] / best[PLAIN], best[SKIPPING_PASS] / best[PLAIN]);
     }
     return 0;
 }
@@ -186,9 +227,13 @@ static bool is_library(const char *who)
     return strcmp(who, "library") == 0;
 }
 
-static reconstruct_function *who_is(const char *who)
+static reconstruct_function *who_is(const char *word)
 {
-    return is_library(who) ? format3_reconstruct : plain_reconstruct;
+    for (int who = 0; who < DECODERS; who++)
+        if (strcmp(word, DECODER[who].word) == 0)
+            return DECODER[who].reconstruct;
+    fprintf(stderr, "bench: no decoder %s\n", word);
+    exit(2);
 }
 
 static const struct job *picture_of(const char *number, const char *reel)
@@ -200,6 +245,21 @@ static const struct job *picture_of(const char *number, const char *reel)
         exit(2);
     }
     return &jobs.job[k - 1];
+}
+
+static int whole_reel(reconstruct_function *reconstruct, const char *reel)
+{
+    struct jobs jobs = jobs_of_reel(reel);
+    for (int k = 0; k < jobs.count; k++)
+        if (once(reconstruct, &jobs.job[k]) != 0)
+            return 1;
+    return 0;
+}
+
+static int reel(const char *who, const char *number, const char *path)
+{
+    reconstruct_function *reconstruct = who_is(who);
+    return strcmp(number, "all") == 0 ? whole_reel(reconstruct, path) : once(reconstruct, picture_of(number, path));
 }
 
 static enum made_kind kind_of(const char *kind)
@@ -254,7 +314,7 @@ int main(int count, char **argument)
     if (strcmp(command, "time") == 0)
         return time_reels(argument + 2, count - 2);
     if (strcmp(command, "reel") == 0 && count == 5)
-        return once(who_is(argument[2]), picture_of(argument[3], argument[4]));
+        return reel(argument[2], argument[3], argument[4]);
     if (strcmp(command, "made") == 0 && count == 6)
         return made(argument[2], made_of(argument + 3));
     if (strcmp(command, "transform") == 0 && count == 3)

@@ -14,6 +14,20 @@ struct plain_census plain_census;
 #define COUNT(what) ((void)0)
 #endif
 
+/* Whether levels land bare and a second pass over the block scales them; if not, each is scaled as it lands. */
+#ifdef PLAIN_SECOND_PASS
+enum { SECOND_PASS = true };
+#else
+enum { SECOND_PASS = false };
+#endif
+
+/* Whether the second pass tests each place and leaves a 0 alone; if not, it scales all alike, which keeps 0 as it is. */
+#ifdef PLAIN_SKIPS_ZEROS
+enum { SKIPS_ZEROS = true };
+#else
+enum { SKIPS_ZEROS = false };
+#endif
+
 enum { GIVES_SCALE = 1, GIVES_FORWARD = 2, GIVES_BACKWARD = 4, GIVES_PATTERN = 8, IS_INTRA = 16 };
 enum { FORWARD = 0, BACKWARD = 1 };
 enum { INTRA_WEIGHTS = 0, NON_INTRA_WEIGHTS = 1 };
@@ -206,9 +220,17 @@ static uint32_t read_pairs(struct rest *rest, int count, bool intra, int scale, 
         if (level == 0 || !within(LEVEL_MOST, level))
             return FORMAT3_REFUSED_COEFFICIENT;
         int place = ZIGZAG[position];
-        block[place] = scaled(intra, level, scale, weight[place]);
+        block[place] = SECOND_PASS ? (int16_t)level : scaled(intra, level, scale, weight[place]);
     }
     return 0;
+}
+
+/* The second pass. Place 0 of an intra block has its DC, which is not scaled. */
+static void scale_block(bool intra, int scale, const uint8_t *weight, int16_t *block)
+{
+    for (int place = intra ? 1 : 0; place < 64; place++)
+        if (!SKIPS_ZEROS || block[place] != 0)
+            block[place] = scaled(intra, block[place], scale, weight[place]);
 }
 
 static uint32_t read_dc(struct rest *rest, int *past, int16_t *block)
@@ -242,7 +264,10 @@ static uint32_t read_block(struct rest *rest, const struct picture *picture, str
     if (intra ? count > 63 : count < 1 || count > 64)
         return FORMAT3_REFUSED_COEFFICIENT;
     const uint8_t *weight = picture->weight[intra ? INTRA_WEIGHTS : NON_INTRA_WEIGHTS];
-    return read_pairs(rest, count, intra, symbols->scale, weight, block);
+    uint32_t refusal = read_pairs(rest, count, intra, symbols->scale, weight, block);
+    if (SECOND_PASS && !refusal)
+        scale_block(intra, symbols->scale, weight, block);
+    return refusal;
 }
 
 /* ---- the fields of a macroblock */

@@ -3,6 +3,7 @@ pub mod Answer
 pub mod Dc
 pub mod Matrices
 pub mod Block
+pub mod SoFar
 pub mod Macroblock
 pub mod BlockArray
 pub mod Requires

@@ -1,12 +1,13 @@
 // A block of sixty-four coefficients: its DC, its levels scaled at their raster indices, and the array that holds six blocks.
 ghost use mathlib.Core.Path.{_≡_};
 ghost use lib.IntN.{pos};
-ghost use Prim.Native.Nat.{_<_};
+ghost use Prim.Native.Nat.{_≤_, _<_};
 ghost use Rattle.math.specs.Bound.{Within};
+ghost use Rattle.tables.specs.Tables.{zigzag};
 ghost use Rattle.decode_coefficients.specs.Scaling.{coefficientOf};
 ghost use Rattle.decode_coefficients.specs.Requires.{BlockCodingWithin};
 ghost use Rattle.decode_coefficients.specs.BlockArray.{putBlock};
-ghost use Rattle.decode_coefficients.specs.Block.{dcBlock};
+ghost use Rattle.decode_coefficients.specs.Block.{dcBlock, withLevel};
 use crate::scaling;
 
 // How the levels of a block are scaled.
@@ -16,7 +17,7 @@ pub struct BlockCoding {
 }
 
 // A level scaled with the weight at its raster index.
-pub fn scaled_level(level: i16, coding: BlockCoding, weight: u8) -> i16
+fn scaled_level(level: i16, coding: BlockCoding, weight: u8) -> i16
     requires { ⌜ Within 255 level × BlockCodingWithin coding ⌝ }
     ensures { λ r. ⌜ r ≡ coefficientOf (coding .intra) level (pos (coding .scale)) (pos weight) ⌝ }
 {
@@ -26,6 +27,22 @@ pub fn scaled_level(level: i16, coding: BlockCoding, weight: u8) -> i16
         coding.scale as i32,
         weight as i32,
     )
+}
+
+// Stores a level in its block: scaled, at its raster index. `order` is the zigzag order.
+pub fn store_level(
+    block: &mut [i16; 64],
+    position: usize,
+    level: i16,
+    coding: BlockCoding,
+    order: &[u8; 64],
+    matrix: &[u8; 64],
+)
+    requires { ⌜ (position ≤ 63) × Within 255 level × BlockCodingWithin coding × (now order ≡ zigzag) ⌝ }
+    ensures { λ _. ⌜ now (block .exit) ≡ withLevel coding (now (matrix .entry)) (record { position = position; level = level }) (now (block .entry)) ⌝ }
+{
+    let raster = order[position] as usize;
+    block[raster] = scaled_level(level, coding, matrix[raster]);
 }
 
 // Stores a block's coefficients in the array.

@@ -1,6 +1,6 @@
 pub mod Pairs
-pub mod Landing
 pub mod Blocks
+pub mod Landing
 pub mod BlockArray
 pub mod Slice
 pub mod VectorCodes

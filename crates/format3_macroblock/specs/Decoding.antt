@@ -6,12 +6,11 @@ use lib.IntN.{ℤ}
 use Rattle.refusals.specs.declared.Refusal.{Refusal}
 use Rattle.refusals.specs.declared.Refusal.the-variants.{DcCoefficient}
 use Rattle.symbols.specs.Parsed.{Parser, _then_, give, ReadResult, value, stopped}
-use Rattle.symbols.specs.Pair.{firstPosition}
 use Rattle.symbols.specs.Block.{Block, uncoded, coded}
 use Rattle.symbols.specs.MacroblockType.{isIntra}
 use Rattle.symbols.specs.declared.macroblock.MacroblockSymbols.{MacroblockSymbols}
 use Rattle.decode_coefficients.specs.declared.block.BlockCoding.{BlockCoding}
-use Rattle.decode_coefficients.specs.Block.{positionedLevels, withLevels, coefficientsOf}
+use Rattle.decode_coefficients.specs.Block.{blockCoefficients, coefficientsOf}
 use Rattle.decode_coefficients.specs.declared.dc.DcPasts.{DcPasts}
 use Rattle.decode_coefficients.specs.Dc.{dcOf, dcPastOf, dcPastsAfter, dcPastsThrough}
 use Rattle.decode_coefficients.specs.Macroblock.{coefficientsFrom, blockCoding}
@@ -44,11 +43,11 @@ abbrev pub dcRefusal : DcAnswer → Refusal
 dcRefusal (Dc.Legal dc cursor) = DcCoefficient
 dcRefusal (Dc.Refused refusal) = refusal
 
--- ---- a block's pairs, stored in it
-abbrev pub levelsInto : BlockCoding → List ℕ → List ℤ → Parser (List ℤ)
-levelsInto c matrix block =
+-- ---- a block's coefficients, from its pairs
+abbrev pub levelsInto : BlockCoding → List ℕ → ℤ → Parser (List ℤ)
+levelsInto c matrix dc =
     levelsOf (c .intra) then λ pairs.
-    give (withLevels c matrix (positionedLevels (firstPosition (c .intra)) pairs) block)
+    give (blockCoefficients c matrix dc pairs)
 
 -- ---- progress through the blocks: the pasts after those read, and the array with them stored
 pub record Progress : Type 0 where

@@ -8,7 +8,7 @@ use Rattle.math.specs.Limit.{inRange, eqZ}
 use Rattle.refusals.specs.declared.Refusal.{Refusal}
 use Rattle.refusals.specs.declared.Refusal.the-variants.{Coefficient}
 use Rattle.symbols.specs.Guard.{require_else_then_}
-use Rattle.symbols.specs.Parsed.{Parser, _then_, give, refuse, ReadResult, value, stopped}
+use Rattle.symbols.specs.Parsed.{Parsed, parsed, refused, Parser, _then_, give, refuse, ReadResult, value, stopped}
 use Rattle.symbols.specs.declared.pair.Pair.{Pair}
 use Rattle.symbols.specs.Pair.{lastPosition, afterPair}
 use Rattle.format3_records.specs.Field.{byte, signedTwoBytes}
@@ -35,6 +35,16 @@ pairsOf (suc n) next =
     pairOf next then λ pair.
     pairsOf n (afterPair next pair) then λ pairs.
     give (pair ∷ pairs)
+
+-- how the pairs go on after this one; there are none after one that is refused
+abbrev pub goingOn : Parsed Pair → (Pair → List ℕ → List Pair) → List Pair
+goingOn (parsed pair rest) more = pair ∷ more pair rest
+goingOn (refused refusal) more = []
+
+-- of n pairs, those before the first one that is refused, or all of them
+unfoldable pub pairsBefore : ℕ → ℕ → List ℕ → List Pair
+pairsBefore zero next bytes = []
+pairsBefore (suc n) next bytes = goingOn (pairOf next bytes) (λ pair rest. pairsBefore n (afterPair next pair) rest)
 
 -- ---- what the reader of a pair answers; no caller asks for the refusal of a legal answer
 abbrev pub pairResult : PairAnswer → ReadResult Pair

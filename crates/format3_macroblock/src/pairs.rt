@@ -3,9 +3,9 @@ ghost use mathlib.Core.Path.{_≡_};
 ghost use Prim.Native.Nat.{_≤_};
 ghost use Rattle.tables.specs.Tables.{zigzag};
 ghost use Rattle.symbols.specs.Parsed.{ParsesAs};
-ghost use Rattle.decode_coefficients.specs.Requires.{BlockCodingWithin};
+ghost use Rattle.decode_coefficients.specs.Requires.{BlockCodingWithin, DcFits};
 ghost use Rattle.format3_macroblock.specs.Pairs.{legalLevel, pairOf, pairResult, pairRefusal};
-ghost use Rattle.format3_macroblock.specs.Landing.{pairsInto, pairsResult, pairsRefusal};
+ghost use Rattle.format3_macroblock.specs.Landing.{pairsInto, blockRead, pairsResult, pairsRefusal};
 use decode_coefficients::block;
 use decode_coefficients::block::BlockCoding;
 use format3_records::field;
@@ -13,6 +13,7 @@ use format3_records::field::ByteField;
 use format3_records::field::Cursor;
 use format3_records::field::SignedField;
 use refusals::Refusal;
+use symbols::pair;
 use symbols::pair::LAST_POSITION;
 use symbols::pair::Pair;
 
@@ -31,7 +32,7 @@ pub enum PairsAnswer {
     Refused(Refusal),
 }
 
-// The block holds all pairs only if the answer is legal.
+// The block holds the pairs before the first one that is refused, which are all of them if the answer is legal.
 pub struct PairsRead {
     pub answer: PairsAnswer,
     pub block: [i16; 64],
@@ -81,22 +82,21 @@ fn pair_refusal(answer: PairAnswer) -> Refusal
     }
 }
 
-// Reads the pairs of a block into it; the first lands at its run counted from position `first`. `order` is the zigzag order.
+// Reads the pairs of a block with this DC, and stores each level as it comes. `order` is the zigzag order.
 pub(crate) fn read_pairs(
     rest: &[u8],
     count: u8,
-    first: usize,
     coding: BlockCoding,
+    dc: i16,
     order: &[u8; 64],
     matrix: &[u8; 64],
-    block: [i16; 64],
 ) -> PairsRead
-    requires { ⌜ (first ≤ 64) × BlockCodingWithin coding × (now order ≡ zigzag) ⌝ }
-    ensures { λ r. ⌜ ParsesAs (pairsInto coding (now (matrix .entry)) count first block) (now (rest .entry)) (pairsResult (r .answer) (r .block)) ⌝ }
+    requires { ⌜ BlockCodingWithin coding × DcFits coding dc × (now order ≡ zigzag) ⌝ }
+    ensures { λ r. ⌜ ParsesAs (pairsInto coding (now (matrix .entry)) dc count) (now (rest .entry)) (pairsResult (r .answer) (r .block)) × (r .block ≡ blockRead coding (now (matrix .entry)) dc count (now (rest .entry))) ⌝ }
 {
-    let mut block = block;
+    let mut block = block::dc_block(dc);
     let mut left = count;
-    let mut next = first;
+    let mut next = pair::first_position(coding.intra);
     let mut at: usize = 0;
     while 0 < left {
         let answer = read_pair(&rest[at..], next);
@@ -107,8 +107,7 @@ pub(crate) fn read_pairs(
             };
         };
         let position = next + pair.run as usize;
-        let raster = order[position] as usize;
-        block[raster] = block::scaled_level(pair.level, coding, matrix[raster]);
+        block::store_level(&mut block, position, pair.level, coding, order, matrix);
         next = position + 1;
         at = at + cursor.at;
         left = left - 1;

@@ -1,5 +1,5 @@
 -- Bounds on absolute values: of each operation's result, of a table, and that a bounded integer fits its type. Assumes nothing.
-use mathlib.Core.Path.{_≡_, sym, subst}
+use mathlib.Core.Path.{_≡_, refl, sym, subst}
 use mathlib.Core.Bool.{Bool, true, false, cond, _&&_}
 use mathlib.Core.List.{List, [], _∷_}
 use Prim.Native.Nat.{ℕ, zero, suc, _+_, _*_, _^_, _≤_, _<_, zero-le, suc-le-suc}
@@ -7,6 +7,7 @@ use native.Mathlib.Omega.{arith}
 use native.Mathlib.Nat.{mul-le-mul, le-of-mul-le-mul-left, le-refl, le-trans, lt-of-le-of-lt}
 use lib.Dec.{T, leb, ltb, ltb→lt, leb→le}
 use lib.IntN.{ℤ, pos, negsuc, negℤ, natAbs, _+ℤ_, _*ℤ_}
+use lib.ListN.{replicate}
 use lib.Signed.{_≤ℤ_, mag}
 use mir.Syntax.{Width}
 use mir.Val.{SFits, hbits}
@@ -14,6 +15,11 @@ use Rattle.math.specs.Tab.{tab}
 use Rattle.math.proofs.Test.{and-left, and-right}
 use Rattle.math.specs.Bound.{Within, at, AllWithin}
 use Rattle.math.proofs.Difference.{up, dn, of-le, parts-add, parts-neg, parts-mul}
+
+pub zeros-at : (n k : ℕ) → at (replicate n (pos 0)) k ≡ pos 0
+zeros-at zero k = refl
+zeros-at (suc n) zero = refl
+zeros-at (suc n) (suc k) = zeros-at n k
 
 pub abs-parts : (z : ℤ) → natAbs z ≡ up z + dn z
 abs-parts (pos n) = omega arith

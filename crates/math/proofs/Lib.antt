@@ -1,5 +1,6 @@
 pub mod Tab
 pub mod Scatter
+pub mod Each
 pub mod Part
 pub mod Test
 pub mod Total

@@ -1,6 +1,7 @@
 pub mod Tab
 pub mod Joined
 pub mod Scatter
+pub mod Each
 pub mod Part
 pub mod Test
 pub mod Total

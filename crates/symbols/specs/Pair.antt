@@ -1,5 +1,6 @@
 -- Where the pairs of a block land (document 01, "Coefficients").
 use mathlib.Core.Bool.{Bool, cond}
+use mathlib.Core.List.{List, [], _∷_}
 use Prim.Native.Nat.{ℕ, _+_}
 use Rattle.symbols.specs.declared.pair.Pair.{Pair}
 
@@ -17,3 +18,8 @@ pairPosition next pair = next + pair .run
 
 abbrev pub afterPair : ℕ → Pair → ℕ
 afterPair next pair = pairPosition next pair + 1
+
+-- the `next` of the pair after all of these
+unfoldable pub afterPairs : ℕ → List Pair → ℕ
+afterPairs next [] = next
+afterPairs next (pair ∷ pairs) = afterPairs (afterPair next pair) pairs

@@ -9,6 +9,8 @@ pub mod Demand3
 pub mod Request1
 -- raw slices: when one is accepted, what is written, and what the strict reader reads from it
 pub mod Request2
+-- one pass over the block: what a block holds after each of its pairs
+pub mod Request3
 -- the writer and the reader of a record undo one another
 pub mod Records
 -- sentences that follow from the rules: coefficients, vectors, fit, means

@@ -11,16 +11,17 @@ use lib.Seq.{drop-drop}
 use Rattle.math.proofs.Tab.{tab-ext, tab-self}
 use Rattle.math.proofs.Scatter.{scatter-length, scatter-at, scatter-other}
 use Rattle.math.specs.Bound.{at}
+use Rattle.math.proofs.Bound.{zeros-at}
 use Rattle.refusals.specs.declared.Refusal.{Refusal}
 use Rattle.symbols.specs.Parsed.{parsed, refused, bind, give, value, stopped, ParsesAs}
-use Rattle.symbols.specs.Pair.{firstPosition}
 use Rattle.symbols.specs.Block.{Block, uncoded, coded}
 use Rattle.symbols.specs.Pattern.{isCoded}
 use Rattle.symbols.proofs.Parsed.{all-at, after, nothing-after, after-after, made-of, stopped-before}
 use Rattle.decode_coefficients.specs.declared.block.BlockCoding.{BlockCoding}
-use Rattle.decode_coefficients.specs.Block.{PositionedLevel, positionedLevels, withLevels, dcBlock, blockCoefficients, coefficientsOf}
+use Rattle.decode_coefficients.specs.Block.{PositionedLevel, blockLevels, withLevels, dcBlock, blockCoefficients, coefficientsOf}
 use Rattle.decode_coefficients.specs.declared.dc.DcPasts.{DcPasts}
-use Rattle.decode_coefficients.specs.Dc.{dcPastOf, dcPastsWith, dcPastsAfter, dcPastsThrough}
+use Rattle.decode_coefficients.specs.Dc.{dcOf, dcPastOf, dcPastsWith, dcPastsAfter, dcPastsThrough}
+use Rattle.decode_coefficients.specs.Requires.{DcFits}
 use Rattle.decode_coefficients.specs.Macroblock.{coefficientsFrom}
 use Rattle.decode_coefficients.specs.BlockArray.{sixBlocks, blockIn, putBlock}
 use Rattle.format3_macroblock.specs.declared.blocks.BlocksCoding.{BlocksCoding}
@@ -30,6 +31,12 @@ use Rattle.format3_macroblock.specs.Decoding.{oneBlockCoding, readDcOf, 
 use Rattle.format3_macroblock.proofs.Laws.Blocks.{pasts-legal}
 
 -- ---- one block
+-- only an intra block has a DC other than 0
+pub dc-fits : (c : BlockCoding) (past : ℤ) (part : List ℕ) {dc : ℤ} {n : ℕ} → ParsesAs (readDcOf (c .intra) past) part (value dc n) → DcFits c dc
+dc-fits c past part found =
+    let d = made-of (givenDifferenceOf (c .intra) past) _ part found in
+    record { zero-otherwise = λ e. sym (d .is) ∙ ap (λ (intra : Bool). dcOf intra past (d .source)) e }
+
 module _ (c : BlocksCoding) (matrix : List ℕ) (block : ℕ) (s : Progress) (part : List ℕ) where
   pub not-coded : isCoded (c .pattern) block ≡ false → ParsesAs (blockInto c matrix block s) part (value s 0)
   not-coded e = (rw e, omega arith)
@@ -40,13 +47,13 @@ module _ (c : BlocksCoding) (matrix : List ℕ) (block : ℕ) (s : Progress) (pa
     dc-stops found = rw (e, stopped-before (givenDifferenceOf (c .intra) (dcPastOf (s .pasts) block)) _ part found)
 
     module _ {dc : ℤ} {n : ℕ} (first : ParsesAs (readDcOf (c .intra) (dcPastOf (s .pasts) block)) part (value dc n)) where
-      pub levels-stop : {refusal : Refusal} → ParsesAs (levelsInto (oneBlockCoding c) matrix (dcBlock dc)) (drop n part) (stopped refusal) → ParsesAs (blockInto c matrix block s) part (stopped refusal)
+      pub levels-stop : {refusal : Refusal} → ParsesAs (levelsInto (oneBlockCoding c) matrix dc) (drop n part) (stopped refusal) → ParsesAs (blockInto c matrix block s) part (stopped refusal)
       unfolding blockOf
       levels-stop found =
           let d = made-of (givenDifferenceOf (c .intra) (dcPastOf (s .pasts) block)) _ part first in
           rw (e, d .found .0, stopped-before (levelsOf (c .intra)) _ (drop n part) found)
 
-      pub block-found : {values : List ℤ} {m : ℕ} → ParsesAs (levelsInto (oneBlockCoding c) matrix (dcBlock dc)) (drop n part) (value values m)
+      pub block-found : {values : List ℤ} {m : ℕ} → ParsesAs (levelsInto (oneBlockCoding c) matrix dc) (drop n part) (value values m)
           → ParsesAs (blockInto c matrix block s) part (value (record { pasts = dcPastsWith (c .intra) (s .pasts) block dc; coefficients = putBlock block values (s .coefficients) }) (n + m))
       unfolding blockOf blockCoefficients
       block-found {values} {m} second =
@@ -107,11 +114,6 @@ module _ (c : BlocksCoding) (matrix : List ℕ) where
       → at (progressAfter c matrix block s b .coefficients) (64 * block + k) ≡ at (coefficientsOf (oneBlockCoding c) matrix (dcPastOf (s .pasts) block) b) k
   unfolding putBlock
   progress-own block s uncoded k low fits zero-there = zero-there ∙ sym (zeros-at 64 k)
-    where
-      zeros-at : (n i : ℕ) → at (replicate n (pos 0)) i ≡ pos 0
-      zeros-at zero i = refl
-      zeros-at (suc n) zero = refl
-      zeros-at (suc n) (suc i) = zeros-at n i
   progress-own block s (coded difference pairs) k low fits zero-there = scatter-at _ _ 64 (s .coefficients) k (pos 0) low (omega arith) (λ j more below same. omega arith)
 
   through-other : (block : ℕ) (s : Progress) (blocks : List Block) (i : ℕ) → i < 64 * block → at (storedThrough block s blocks .coefficients) i ≡ at (s .coefficients) i
@@ -145,7 +147,7 @@ with-levels-long c matrix (p ∷ levels) block = with-levels-long c matrix level
 block-long : (c : BlockCoding) (matrix : List ℕ) (past : ℤ) (b : Block) → length (coefficientsOf c matrix past b) ≡ 64
 unfolding blockCoefficients dcBlock
 block-long c matrix past uncoded = refl
-block-long c matrix past (coded difference pairs) = with-levels-long c matrix (positionedLevels (firstPosition (c .intra)) pairs) _ ∙ simp length-set
+block-long c matrix past (coded difference pairs) = with-levels-long c matrix (blockLevels c pairs) _ ∙ simp length-set
 
 each-long : (c : BlockCoding) (matrix : List ℕ) (pasts : DcPasts) (block : ℕ) (blocks : List Block) (j : ℕ) → j < length blocks → length (getD (coefficientsFrom c matrix pasts block blocks) j []) ≡ 64
 unfolding coefficientsFrom
@@ -166,11 +168,6 @@ six-in-array c matrix pasts blocks six =
     rw here at (through-at c matrix 0 s blocks b k (omega arith) small (rw six (omega arith)) (λ i above. zeros-at 384 i)))
     ∙ tab-self 64 (getD all b []) (pos 0) (each-long (oneBlockCoding c) matrix pasts 0 blocks b (omega arith)))
     ∙ tab-self 6 all [] (coefficients-long c matrix pasts 0 blocks ∙ six)
-  where
-    zeros-at : (n i : ℕ) → at (replicate n (pos 0)) i ≡ pos 0
-    zeros-at zero i = refl
-    zeros-at (suc n) zero = refl
-    zeros-at (suc n) (suc i) = zeros-at n i
 
 -- ---- the loop: the array holds the blocks read so far, and these plus the blocks still to be read are all six
 module _ (c : BlocksCoding) (matrix : List ℕ) (start : Progress) (body : List ℕ) where

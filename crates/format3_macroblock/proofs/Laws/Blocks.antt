@@ -124,7 +124,7 @@ module _ (c : BlockCoding) (matrix : List ℕ) where
   one-in-range past uncoded legal = zeros-between 64
   one-in-range past (coded difference pairs) legal =
       let dc = range-between (pos 0) (pos 2040) (dcOf (c .intra) past difference) legal in
-      block-between c matrix (firstPosition (c .intra)) pairs (record { lower = le-of _ _ (omega (arith, of-le (dc .lower))); upper = le-of _ _ (omega (arith, of-le (dc .upper))) })
+      block-between c matrix pairs (record { lower = le-of _ _ (omega (arith, of-le (dc .lower))); upper = le-of _ _ (omega (arith, of-le (dc .upper))) })
 
   each-in-range : (pasts : DcPasts) (block : ℕ) (blocks : List Block) → LegalBlocks (c .intra) pasts block blocks
       → (k : ℕ) → AllBetween (negsuc 2047) (pos 2047) (getD (coefficientsFrom c matrix pasts block blocks) k [])

@@ -1,14 +1,16 @@
 -- `read_levels` meets its contract: it reads the count, then the pairs. Assumes nothing.
+use mathlib.Core.Path.{_≡_}
 use Prim.Native.Nat.{_+_, _≤_}
 use native.Mathlib.Omega.{arith}
 use borrow.Author.Needs.{needs}
 use lib.ListN.{length, drop, length-drop}
 use lib.Seq.{drop-drop}
+use mir.Syntax.{w16}
+use mir.Val.{toZ, ofZ}
+use mir.ValLaws.{toZ-ofZ}
 use Rattle.symbols.specs.Parsed.{value, ParsesAs}
-use Rattle.symbols.specs.Pair.{firstPosition}
 use Rattle.format3_macroblock.specs.Landing.{pairsInto, pairsResult}
 use Rattle.format3_macroblock.specs.Blocks.{countOf, levelsOf}
-use Rattle.format3_macroblock.proofs.Laws.Blocks.{first-near}
 use Rattle.format3_macroblock.proofs.levels.read_levels.Statement.{statement}
 use Rattle.format3_macroblock.proofs.levels.read_levels.Tie as tie
 
@@ -16,14 +18,17 @@ use Rattle.format3_macroblock.proofs.levels.read_levels.Tie as tie
 counted : (c : tie.After-first) → ParsesAs (countOf (c .before .before .before .before .args .coding .intra)) (c .before .before .before .before .args .rest .now) (value (c .first .given .0 .0) (c .first .given .0 .1 .0 .at))
 counted c = rw (c .first .given .1) at (c .before .before .read-count .ensures)
 
-landing : (c : tie.After-read-pairs) → ParsesAs (pairsInto (c .before .before .before .before .before .before .before .before .args .coding) (c .before .before .before .before .before .before .before .before .args .matrix .now) (c .before .before .before .before .first .given .0 .0) (firstPosition (c .before .before .before .before .before .before .before .before .args .coding .intra)) (c .before .before .before .before .before .before .before .before .args .block)) (drop (c .before .before .before .before .first .given .0 .1 .0 .at) (c .before .before .before .before .before .before .before .before .args .rest .now)) (pairsResult (c .read-pairs .result .answer) (c .read-pairs .result .block))
-landing c = rw (c .before .first-position .ensures, c .before .before .after .ensures) at (c .read-pairs .ensures)
+same-dc : (c : tie.Start) → toZ w16 (ofZ w16 (c .args .dc)) ≡ c .args .dc
+same-dc c = toZ-ofZ w16 (c .args .dc) (c .fits .dc)
 
-got : (c : tie.After-answer) → ParsesAs (pairsInto (c .before .before .before .before .before .before .before .before .before .before .args .coding) (c .before .before .before .before .before .before .before .before .before .before .args .matrix .now) (c .before .before .before .before .before .before .first .given .0 .0) (firstPosition (c .before .before .before .before .before .before .before .before .before .before .args .coding .intra)) (c .before .before .before .before .before .before .before .before .before .before .args .block)) (drop (c .before .before .before .before .before .before .first .given .0 .1 .0 .at) (c .before .before .before .before .before .before .before .before .before .before .args .rest .now)) (value (c .before .before .read-pairs .result .block) (c .answer .given .0 .0 .at))
+landing : (c : tie.After-read-pairs) → ParsesAs (pairsInto (c .before .before .before .before .before .before .before .args .coding) (c .before .before .before .before .before .before .before .args .matrix .now) (c .before .before .before .before .before .before .before .args .dc) (c .before .before .before .first .given .0 .0)) (drop (c .before .before .before .first .given .0 .1 .0 .at) (c .before .before .before .before .before .before .before .args .rest .now)) (pairsResult (c .read-pairs .result .answer) (c .read-pairs .result .block))
+landing c = rw (same-dc (c .before .before .before .before .before .before .before), c .before .after .ensures) at (c .read-pairs .ensures .0)
+
+got : (c : tie.After-answer) → ParsesAs (pairsInto (c .before .before .before .before .before .before .before .before .before .args .coding) (c .before .before .before .before .before .before .before .before .before .args .matrix .now) (c .before .before .before .before .before .before .before .before .before .args .dc) (c .before .before .before .before .before .first .given .0 .0)) (drop (c .before .before .before .before .before .first .given .0 .1 .0 .at) (c .before .before .before .before .before .before .before .before .before .args .rest .now)) (value (c .before .before .read-pairs .result .block) (c .answer .given .0 .0 .at))
 got c = rw (c .answer .given .1) at (landing (c .before .before))
 
-inside : (c : tie.After-answer) → c .before .before .before .before .before .before .first .given .0 .1 .0 .at + c .answer .given .0 .0 .at ≤ length (c .before .before .before .before .before .before .before .before .before .before .args .rest .now)
-inside c = omega (arith, counted (c .before .before .before .before .before .before) .1, got c .1, length-drop (c .before .before .before .before .before .before .first .given .0 .1 .0 .at) (c .before .before .before .before .before .before .before .before .before .before .args .rest .now))
+inside : (c : tie.After-answer) → c .before .before .before .before .before .first .given .0 .1 .0 .at + c .answer .given .0 .0 .at ≤ length (c .before .before .before .before .before .before .before .before .before .args .rest .now)
+inside c = omega (arith, counted (c .before .before .before .before .before) .1, got c .1, length-drop (c .before .before .before .before .before .first .given .0 .1 .0 .at) (c .before .before .before .before .before .before .before .before .before .args .rest .now))
 
 read-count-requires : tie.Need-read-count-requires
 read-count-requires c κs = search needs
@@ -37,18 +42,20 @@ enum-told c = search needs
 tested-refusal-requires : tie.Need-tested-refusal-requires
 tested-refusal-requires c κs = search needs
 
+dc-block-requires : tie.Need-dc-block-requires
+dc-block-requires c κs = search needs
+
 returns : tie.Need-returns
 unfolding levelsOf
-returns c = rw (rw (c .before .enum-told .given .1) at (c .before .before .before .read-count .ensures), c .tested-refusal .ensures, c .before .enum-told .given .1)
+returns c =
+    let e = c .before .before .enum-told .given .1 in
+    rw (rw e at (c .before .before .before .before .read-count .ensures), c .before .tested-refusal .ensures, e)
 
 after-requires : tie.Need-after-requires
 after-requires c κs = search needs
 
-first-position-requires : tie.Need-first-position-requires
-first-position-requires c κs = search needs
-
 read-pairs-requires : tie.Need-read-pairs-requires
-read-pairs-requires c κs = (rw (c .first-position .ensures) (first-near (c .before .before .before .before .before .before .before .args .coding .intra)), c .before .before .before .before .before .before .before .pre .0, c .before .before .before .before .before .before .before .pre .1)
+read-pairs-requires c κs = let s = c .before .before .before .before .before .before in (s .pre .0, rw (same-dc s) (s .pre .1), s .pre .2)
 
 enum-known-answer : tie.Need-enum-known-answer
 enum-known-answer c = search needs
@@ -58,14 +65,14 @@ enum-told-2 c = search needs
 
 returns-2 : tie.Need-returns-2
 unfolding levelsOf
-returns-2 c = rw (c .enum-told2 .given .1, counted (c .before .before .before .before .before .before) .0, rw (c .enum-told2 .given .1) at (landing (c .before .before)))
+returns-2 c = rw (c .enum-told2 .given .1, counted (c .before .before .before .before .before) .0, rw (c .enum-told2 .given .1) at (landing (c .before .before)))
 
 add-at : tie.Need-add-at
-add-at c = omega (arith, inside (c .before .before .before .before), c .before .before .before .before .before .before .before .before .before .before .before .before .before .before .good)
+add-at c = omega (arith, inside (c .before .before .before .before), c .before .before .before .before .before .before .before .before .before .before .before .before .before .good)
 
 returns-3 : tie.Need-returns-3
 unfolding levelsOf
-returns-3 c = (rw (counted (c .before .before .before .before .before .before .before .before .before .before) .0, got (c .before .before .before .before) .0, drop-drop), inside (c .before .before .before .before))
+returns-3 c = (rw (counted (c .before .before .before .before .before .before .before .before .before) .0, got (c .before .before .before .before) .0, drop-drop), inside (c .before .before .before .before))
 
 pub read-levels-spec : {M : Type 1} → statement M
 read-levels-spec =
@@ -75,9 +82,9 @@ read-levels-spec =
     enum-known-first
     enum-told
     tested-refusal-requires
+    dc-block-requires
     returns
     after-requires
-    first-position-requires
     read-pairs-requires
     enum-known-answer
     enum-told-2
