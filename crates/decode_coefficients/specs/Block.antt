@@ -21,11 +21,11 @@ unfoldable pub positionedLevels : ℕ → List Pair → List PositionedLevel
 positionedLevels next [] = []
 positionedLevels next (p ∷ pairs) = record { position = pairPosition next p; level = p .level } ∷ positionedLevels (afterPair next p) pairs
 
--- the levels of a block's pairs
+-- the levels of a block's pairs, at their positions
 abbrev pub blockLevels : BlockCoding → List Pair → List PositionedLevel
 blockLevels c pairs = positionedLevels (firstPosition (c .intra)) pairs
 
--- the level of one pair more, after these
+-- the level of one pair more after these, at its position
 abbrev pub nextLevel : BlockCoding → List Pair → Pair → PositionedLevel
 nextLevel c pairs pair = record { position = pairPosition (afterPairs (firstPosition (c .intra)) pairs) pair; level = pair .level }
 
@@ -41,10 +41,14 @@ scaledLevel c matrix p = coefficientOf (c .intra) (p .level) (pos (c .scale)) (p
 abbrev pub withLevel : BlockCoding → List ℕ → PositionedLevel → List ℤ → List ℤ
 withLevel c matrix p block = set block (rasterIndex (p .position)) (scaledLevel c matrix p)
 
--- and after these, one by one
+-- a block after these levels are stored in it one by one
 unfoldable pub withLevels : BlockCoding → List ℕ → List PositionedLevel → List ℤ → List ℤ
 withLevels c matrix [] block = block
 withLevels c matrix (p ∷ levels) block = withLevels c matrix levels (withLevel c matrix p block)
+
+-- a block after the levels of these pairs are stored in it
+abbrev pub withPairs : BlockCoding → List ℕ → List Pair → List ℤ → List ℤ
+withPairs c matrix pairs block = withLevels c matrix (blockLevels c pairs) block
 
 -- a block before its pairs: its DC, which is 0 if it is not intra, and zeros
 unfoldable pub dcBlock : ℤ → List ℤ
@@ -52,7 +56,7 @@ dcBlock dc = set (replicate 64 (pos 0)) 0 dc
 
 -- the sixty-four coefficients of a block with this DC and these pairs
 unfoldable pub blockCoefficients : BlockCoding → List ℕ → ℤ → List Pair → List ℤ
-blockCoefficients c matrix dc pairs = withLevels c matrix (blockLevels c pairs) (dcBlock dc)
+blockCoefficients c matrix dc pairs = withPairs c matrix pairs (dcBlock dc)
 
 -- the sixty-four coefficients of a block, with the past DC before it; all 0 if it is not coded
 abbrev pub coefficientsOf : BlockCoding → List ℕ → ℤ → Block → List ℤ

@@ -1,7 +1,5 @@
 -- What the code of this crate relies on; no rule of document 01.
-use mathlib.Core.Bool.{false}
 use mathlib.Core.List.{List, []}
-use mathlib.Core.Path.{_≡_}
 use Prim.Native.Nat.{ℕ, _≤_}
 use lib.IntN.{ℤ, pos, negsuc}
 use lib.ListN.{getD}
@@ -11,10 +9,6 @@ use Rattle.decode_coefficients.specs.declared.block.BlockCoding.{BlockCo
 -- a quantizer scale of at most 31
 pub record BlockCodingWithin (c : BlockCoding) : Type 0 where
   pub scale-below : c .scale ≤ 31
-
--- only an intra block has a DC other than 0
-pub record DcFits (c : BlockCoding) (dc : ℤ) : Type 0 where
-  pub zero-otherwise : c .intra ≡ false → dc ≡ pos 0
 
 -- each coefficient of each block is from -2048 to 2047; the rule is `limitedCoefficient` (Scaling)
 pub record BlocksInRange (blocks : List (List ℤ)) : Type 0 where

@@ -4,6 +4,7 @@ ghost use lib.IntN.{pos};
 ghost use Prim.Native.Nat.{_≤_, _<_};
 ghost use Rattle.math.specs.Bound.{Within};
 ghost use Rattle.tables.specs.Tables.{zigzag};
+ghost use Rattle.symbols.specs.Pair.{lastPosition};
 ghost use Rattle.decode_coefficients.specs.Scaling.{coefficientOf};
 ghost use Rattle.decode_coefficients.specs.Requires.{BlockCodingWithin};
 ghost use Rattle.decode_coefficients.specs.BlockArray.{putBlock};
@@ -38,7 +39,7 @@ pub fn store_level(
     order: &[u8; 64],
     matrix: &[u8; 64],
 )
-    requires { ⌜ (position ≤ 63) × Within 255 level × BlockCodingWithin coding × (now order ≡ zigzag) ⌝ }
+    requires { ⌜ (position ≤ lastPosition) × Within 255 level × BlockCodingWithin coding × (now order ≡ zigzag) ⌝ }
     ensures { λ _. ⌜ now (block .exit) ≡ withLevel coding (now (matrix .entry)) (record { position = position; level = level }) (now (block .entry)) ⌝ }
 {
     let raster = order[position] as usize;

@@ -3,9 +3,10 @@ use mathlib.Core.Path.{_≡_, refl, sym, subst}
 use mathlib.Core.List.{List, [], _∷_, _++_}
 use Prim.Native.Nat.{ℕ, zero, suc, _+_, _≤_}
 use native.Mathlib.Omega.{arith}
+use Rattle.math.specs.Each.{Each}
 use Rattle.math.specs.Tab.{tab}
 use Rattle.decode_macroblock.specs.declared.compensation.Motion.{Motion}
-use Rattle.decode_macroblock.specs.Macroblock.{MadeMacroblock, predictedOnly, predictedOnlyFrom, InOrder, Each}
+use Rattle.decode_macroblock.specs.Macroblock.{MadeMacroblock, predictedOnly, predictedOnlyFrom, InOrder}
 
 pub order-below : (first last : ℕ) (macroblocks : List MadeMacroblock) → InOrder first macroblocks last → first ≤ last
 order-below first last [] e = omega arith
@@ -14,10 +15,6 @@ order-below first last (m ∷ macroblocks) e = omega (arith, order-below (first 
 pub order-both : (first middle last : ℕ) (a b : List MadeMacroblock) → InOrder first a middle → InOrder middle b last → InOrder first (a ++ b) last
 order-both first middle last [] b p q = subst (λ (n : ℕ). InOrder n b last) (sym p) q
 order-both first middle last (m ∷ a) b p q = (p .0, order-both (first + 1) middle last a b (p .1) q)
-
-pub each-both : (P : MadeMacroblock → Type 0) (a b : List MadeMacroblock) → Each P a → Each P b → Each P (a ++ b)
-each-both P [] b p q = q
-each-both P (m ∷ a) b p q = (p .0, each-both P a b (p .1) q)
 
 -- ---- a run of uncoded macroblocks
 -- f gives their addresses

@@ -46,8 +46,3 @@ withMacroblocks transform r s (m ∷ macroblocks) picture = withMacroblocks tran
 abbrev pub InOrder : ℕ → List MadeMacroblock → ℕ → Type 0
 InOrder first [] last = first ≡ last
 InOrder first (m ∷ macroblocks) last = (m .address ≡ first) × InOrder (first + 1) macroblocks last
-
--- P holds for each of them
-abbrev pub Each : (MadeMacroblock → Type 0) → List MadeMacroblock → Type 0
-Each P [] = Unit {0}
-Each P (m ∷ macroblocks) = P m × Each P macroblocks

@@ -10,7 +10,7 @@ use Rattle.symbols.specs.Block.{Block, uncoded, coded}
 use Rattle.symbols.specs.MacroblockType.{isIntra}
 use Rattle.symbols.specs.declared.macroblock.MacroblockSymbols.{MacroblockSymbols}
 use Rattle.decode_coefficients.specs.declared.block.BlockCoding.{BlockCoding}
-use Rattle.decode_coefficients.specs.Block.{blockCoefficients, coefficientsOf}
+use Rattle.decode_coefficients.specs.Block.{withPairs, coefficientsOf}
 use Rattle.decode_coefficients.specs.declared.dc.DcPasts.{DcPasts}
 use Rattle.decode_coefficients.specs.Dc.{dcOf, dcPastOf, dcPastsAfter, dcPastsThrough}
 use Rattle.decode_coefficients.specs.Macroblock.{coefficientsFrom, blockCoding}
@@ -43,11 +43,11 @@ abbrev pub dcRefusal : DcAnswer → Refusal
 dcRefusal (Dc.Legal dc cursor) = DcCoefficient
 dcRefusal (Dc.Refused refusal) = refusal
 
--- ---- a block's coefficients, from its pairs
-abbrev pub levelsInto : BlockCoding → List ℕ → ℤ → Parser (List ℤ)
-levelsInto c matrix dc =
+-- ---- a block's pairs, stored in it
+abbrev pub levelsInto : BlockCoding → List ℕ → List ℤ → Parser (List ℤ)
+levelsInto c matrix block =
     levelsOf (c .intra) then λ pairs.
-    give (blockCoefficients c matrix dc pairs)
+    give (withPairs c matrix pairs block)
 
 -- ---- progress through the blocks: the pasts after those read, and the array with them stored
 pub record Progress : Type 0 where

@@ -36,15 +36,15 @@ pairsOf (suc n) next =
     pairsOf n (afterPair next pair) then λ pairs.
     give (pair ∷ pairs)
 
--- how the pairs go on after this one; there are none after one that is refused
-abbrev pub goingOn : Parsed Pair → (Pair → List ℕ → List Pair) → List Pair
-goingOn (parsed pair rest) more = pair ∷ more pair rest
-goingOn (refused refusal) more = []
+-- a pair and those after it, or none if it is refused
+abbrev pub followedBy : Parsed Pair → (Pair → List ℕ → List Pair) → List Pair
+followedBy (parsed pair rest) more = pair ∷ more pair rest
+followedBy (refused refusal) more = []
 
 -- of n pairs, those before the first one that is refused, or all of them
-unfoldable pub pairsBefore : ℕ → ℕ → List ℕ → List Pair
-pairsBefore zero next bytes = []
-pairsBefore (suc n) next bytes = goingOn (pairOf next bytes) (λ pair rest. pairsBefore n (afterPair next pair) rest)
+unfoldable pub pairsBeforeRefusal : ℕ → ℕ → List ℕ → List Pair
+pairsBeforeRefusal zero next bytes = []
+pairsBeforeRefusal (suc n) next bytes = followedBy (pairOf next bytes) (λ pair rest. pairsBeforeRefusal n (afterPair next pair) rest)
 
 -- ---- what the reader of a pair answers; no caller asks for the refusal of a legal answer
 abbrev pub pairResult : PairAnswer → ReadResult Pair

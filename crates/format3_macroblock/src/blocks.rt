@@ -60,7 +60,7 @@ fn read_block(
         scale: coding.scale,
     };
     let left = field::after(rest, after_dc.at);
-    let read = levels::read_levels(left, one, dc, order, matrix);
+    let read = levels::read_levels(left, one, order, matrix, block::dc_block(dc));
     let answer = read.answer;
     let PairsAnswer::Legal(end) = answer else {
         return BlocksAnswer::Refused(pairs::pairs_refusal(answer));

@@ -2,15 +2,15 @@
 ghost use mathlib.Core.Path.{_≡_};
 ghost use Rattle.tables.specs.Tables.{zigzag};
 ghost use Rattle.symbols.specs.Parsed.{ParsesAs};
-ghost use Rattle.decode_coefficients.specs.Requires.{BlockCodingWithin, DcFits};
+ghost use Rattle.decode_coefficients.specs.Requires.{BlockCodingWithin};
 ghost use Rattle.format3_records.specs.Field.{testedResult};
+ghost use Rattle.format3_macroblock.specs.Requires.{BeforePairs};
 ghost use Rattle.format3_macroblock.specs.Landing.{pairsResult};
 ghost use Rattle.format3_macroblock.specs.Blocks.{legalCount, countOf};
 ghost use Rattle.format3_macroblock.specs.Decoding.{levelsInto};
 use crate::pairs;
 use crate::pairs::PairsAnswer;
 use crate::pairs::PairsRead;
-use decode_coefficients::block;
 use decode_coefficients::block::BlockCoding;
 use format3_records::field;
 use format3_records::field::ByteField;
@@ -47,34 +47,34 @@ fn read_count(rest: &[u8], intra: bool) -> TestedByte
     TestedByte::Legal(count, cursor)
 }
 
-// Reads the count of pairs, then the pairs of a block with this DC.
+// Reads the count of pairs, then the pairs into the block.
 pub(crate) fn read_levels(
     rest: &[u8],
     coding: BlockCoding,
-    dc: i16,
     order: &[u8; 64],
     matrix: &[u8; 64],
+    block: [i16; 64],
 ) -> PairsRead
-    requires { ⌜ BlockCodingWithin coding × DcFits coding dc × (now order ≡ zigzag) ⌝ }
-    ensures { λ r. ⌜ ParsesAs (levelsInto coding (now (matrix .entry)) dc) (now (rest .entry)) (pairsResult (r .answer) (r .block)) ⌝ }
+    requires { ⌜ BlockCodingWithin coding × (now order ≡ zigzag) × BeforePairs coding block ⌝ }
+    ensures { λ r. ⌜ ParsesAs (levelsInto coding (now (matrix .entry)) block) (now (rest .entry)) (pairsResult (r .answer) (r .block)) ⌝ }
 {
     let first = read_count(rest, coding.intra);
     let TestedByte::Legal(count, cursor) = first else {
         return PairsRead {
             answer: PairsAnswer::Refused(field::tested_refusal(first)),
-            block: block::dc_block(dc),
+            block,
         };
     };
     let left = field::after(rest, cursor.at);
-    let read = pairs::read_pairs(left, count, coding, dc, order, matrix);
+    let read = pairs::read_pairs(left, count, coding, order, matrix, block);
     let answer = read.answer;
     let PairsAnswer::Legal(end) = answer else {
         return read;
     };
-    let block = read.block;
+    let stored = read.block;
     let at = cursor.at + end.at;
     PairsRead {
         answer: PairsAnswer::Legal(Cursor { at }),
-        block,
+        block: stored,
     }
 }

@@ -3,9 +3,11 @@ ghost use mathlib.Core.Path.{_≡_};
 ghost use Prim.Native.Nat.{_≤_};
 ghost use Rattle.tables.specs.Tables.{zigzag};
 ghost use Rattle.symbols.specs.Parsed.{ParsesAs};
-ghost use Rattle.decode_coefficients.specs.Requires.{BlockCodingWithin, DcFits};
-ghost use Rattle.format3_macroblock.specs.Pairs.{legalLevel, pairOf, pairResult, pairRefusal};
-ghost use Rattle.format3_macroblock.specs.Landing.{pairsInto, blockRead, pairsResult, pairsRefusal};
+ghost use Rattle.symbols.specs.Pair.{firstPosition};
+ghost use Rattle.decode_coefficients.specs.Requires.{BlockCodingWithin};
+ghost use Rattle.format3_macroblock.specs.Requires.{BeforePairs};
+ghost use Rattle.format3_macroblock.specs.Pairs.{legalLevel, pairOf, pairsOf, pairsBeforeRefusal, pairResult, pairRefusal};
+ghost use Rattle.format3_macroblock.specs.Landing.{blockRead, pairsResult, pairsRefusal};
 use decode_coefficients::block;
 use decode_coefficients::block::BlockCoding;
 use format3_records::field;
@@ -32,7 +34,7 @@ pub enum PairsAnswer {
     Refused(Refusal),
 }
 
-// The block holds the pairs before the first one that is refused, which are all of them if the answer is legal.
+// The block has the levels of the pairs before the first one that is refused: of all of them, if the answer is legal.
 pub struct PairsRead {
     pub answer: PairsAnswer,
     pub block: [i16; 64],
@@ -82,19 +84,19 @@ fn pair_refusal(answer: PairAnswer) -> Refusal
     }
 }
 
-// Reads the pairs of a block with this DC, and stores each level as it comes. `order` is the zigzag order.
+// Reads the pairs of a block, and stores each level in it as it comes. `order` is the zigzag order.
 pub(crate) fn read_pairs(
     rest: &[u8],
     count: u8,
     coding: BlockCoding,
-    dc: i16,
     order: &[u8; 64],
     matrix: &[u8; 64],
+    block: [i16; 64],
 ) -> PairsRead
-    requires { ⌜ BlockCodingWithin coding × DcFits coding dc × (now order ≡ zigzag) ⌝ }
-    ensures { λ r. ⌜ ParsesAs (pairsInto coding (now (matrix .entry)) dc count) (now (rest .entry)) (pairsResult (r .answer) (r .block)) × (r .block ≡ blockRead coding (now (matrix .entry)) dc count (now (rest .entry))) ⌝ }
+    requires { ⌜ BlockCodingWithin coding × (now order ≡ zigzag) × BeforePairs coding block ⌝ }
+    ensures { λ r. ⌜ ParsesAs (pairsOf count (firstPosition (coding .intra))) (now (rest .entry)) (pairsResult (r .answer) (pairsBeforeRefusal count (firstPosition (coding .intra)) (now (rest .entry)))) × (r .block ≡ blockRead coding (now (matrix .entry)) count (now (rest .entry)) block) ⌝ }
 {
-    let mut block = block::dc_block(dc);
+    let mut block = block;
     let mut left = count;
     let mut next = pair::first_position(coding.intra);
     let mut at: usize = 0;

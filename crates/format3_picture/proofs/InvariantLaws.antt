@@ -9,6 +9,8 @@ use native.Mathlib.Omega.{arith}
 use borrow.Author.Tests.{ne-eqb}
 use lib.Dec.{T, eqb}
 use lib.ListN.{length}
+use Rattle.math.specs.Each.{Each}
+use Rattle.math.proofs.Each.{each-append}
 use Rattle.math.proofs.Bound.{within-literal}
 use Rattle.symbols.specs.Requires.{HeaderWithin}
 use Rattle.symbols.specs.Size.{macroblockCount}
@@ -24,8 +26,8 @@ use Rattle.decode_coefficients.specs.Macroblock.{symbolsWithDc}
 use Rattle.decode_coefficients.specs.declared.macroblock.SymbolsWithDc.{SymbolsWithDc}
 use Rattle.decode_vectors.proofs.VectorLaws.{factor-least}
 use Rattle.decode_macroblock.specs.Requires.{VectorWithin}
-use Rattle.decode_macroblock.specs.Macroblock.{MadeMacroblock, predictedOnlyFrom, InOrder, Each}
-use Rattle.decode_macroblock.proofs.OrderLaws.{order-both, each-both, uncoded-order, uncoded-each}
+use Rattle.decode_macroblock.specs.Macroblock.{MadeMacroblock, predictedOnlyFrom, InOrder}
+use Rattle.decode_macroblock.proofs.OrderLaws.{order-both, uncoded-order, uncoded-each}
 use Rattle.decode_state.specs.Plan.{skipMotion, planOf, ownMacroblock, macroblocksOfPlan}
 use Rattle.decode_state.specs.Requires.{Plannable, CodesWithin}
 use Rattle.decode_state.specs.Vectors.{ownMotion, nextVectorPasts}
@@ -201,7 +203,7 @@ module _ (q : Matrices) (s : PictureState) (w : StateWithin s) where
     made-in-range : Each (λ n. BlocksInRange (n .coefficients)) (madeRecord q s m .macroblocks)
     unfolding planOf macroblocksOfPlan
     made-in-range =
-        each-both (λ n. BlocksInRange (n .coefficients)) skipped own
+        each-append (λ n. BlocksInRange (n .coefficients)) skipped own
         (uncoded-each (λ n. BlocksInRange (n .coefficients)) _ (λ address. record { all = λ block. zeros-between 0 }) (s .next) _)
         (coefficients-in-range q _ _ m (legal .blocks), tt)
 

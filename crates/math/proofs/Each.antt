@@ -1,27 +1,24 @@
--- Laws of `Each`: a weaker property, two lists joined, and one element more. Assumes nothing.
+-- Laws of `Each`: a property that follows from another or from two, and lists joined and taken apart. Assumes nothing.
 use mathlib.Core.List.{List, [], _∷_, _++_}
-pub use Rattle.math.specs.Each.{Each, no-element, element}
+use Rattle.math.specs.Each.{Each}
 
-module _ {A : Type 0} {P : A → Type 0} where
-  pub each-also : {Q : A → Type 0} {l : List A} → Each P l → ((a : A) → P a → Q a) → Each Q l
-  each-also no-element f = no-element
-  each-also (element p ps) f = element (f _ p) (each-also ps f)
+module _ {A : Type 0} where
+  pub each-map : {P Q : A → Type 0} → ((a : A) → P a → Q a) → (l : List A) → Each P l → Each Q l
+  each-map f [] p = tt
+  each-map f (a ∷ l) p = (f a (p .0), each-map f l (p .1))
 
-  pub each-both : {Q : A → Type 0} {l : List A} → Each P l → Each Q l → Each (λ a. P a × Q a) l
-  each-both no-element no-element = no-element
-  each-both (element p ps) (element q qs) = element (p, q) (each-both ps qs)
+  pub each-with : {P Q R : A → Type 0} → ((a : A) → P a → Q a → R a) → (l : List A) → Each P l → Each Q l → Each R l
+  each-with f [] p q = tt
+  each-with f (a ∷ l) p q = (f a (p .0) (q .0), each-with f l (p .1) (q .1))
 
-  pub each-first : (l m : List A) → Each P (l ++ m) → Each P l
-  each-first [] m ps = no-element
-  each-first (a ∷ l) m (element p ps) = element p (each-first l m ps)
+  pub each-append : (P : A → Type 0) (l m : List A) → Each P l → Each P m → Each P (l ++ m)
+  each-append P [] m p q = q
+  each-append P (a ∷ l) m p q = (p .0, each-append P l m (p .1) q)
 
-  pub each-rest : (l m : List A) → Each P (l ++ m) → Each P m
-  each-rest [] m ps = ps
-  each-rest (a ∷ l) m (element p ps) = each-rest l m ps
+  pub each-first : (P : A → Type 0) (l m : List A) → Each P (l ++ m) → Each P l
+  each-first P [] m p = tt
+  each-first P (a ∷ l) m p = (p .0, each-first P l m (p .1))
 
-  pub each-head : {a : A} {l : List A} → Each P (a ∷ l) → P a
-  each-head (element p ps) = p
-
-  pub each-more : {l : List A} {a : A} → Each P l → P a → Each P (l ++ (a ∷ []))
-  each-more no-element p = element p no-element
-  each-more (element q qs) p = element q (each-more qs p)
+  pub each-rest : (P : A → Type 0) (l m : List A) → Each P (l ++ m) → Each P m
+  each-rest P [] m p = p
+  each-rest P (a ∷ l) m p = each-rest P l m (p .1)

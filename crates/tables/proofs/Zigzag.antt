@@ -18,7 +18,7 @@ pub zigzag-first : getD zigzag 0 0 ≡ 0
 unfolding zigzag scan indexOf tab
 zigzag-first = refl
 
--- the scan leads from the raster index back to the position, by another
+-- the scan leads from the raster index back to the position, by another computed test
 back : (k : ℕ) → k < 64 → getD scan (getD zigzag k 0) 0 ≡ k
 unfolding zigzag scan indexOf tab allBelow
 back k h = eqb→eq (getD scan (getD zigzag k 0) 0) k (at-below 64 (λ k. eqb (getD scan (getD zigzag k 0) 0) k) tt k h)

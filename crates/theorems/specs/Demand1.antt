@@ -16,6 +16,7 @@ use mathlib.Core.Path.{_≡_}
 use Prim.Native.Nat.{ℕ, _≤_, _<_}
 use lib.IntN.{ℤ}
 use lib.ListN.{length, getD}
+use Rattle.math.specs.Each.{Each}
 use Rattle.refusals.specs.Refusal.{accepted, numberOf}
 use Rattle.refusals.specs.declared.Refusal.{Refusal}
 use Rattle.refusals.specs.declared.Refusal.the-variants.{FileEnds, BackwardVectorOutside}
@@ -23,7 +24,7 @@ use Rattle.symbols.specs.Size.{macroblockCount}
 use Rattle.symbols.specs.declared.header.Header.{Header}
 use Rattle.decode_macroblock.specs.Byte.{byteOf}
 use Rattle.decode_macroblock.specs.Compensation.{references}
-use Rattle.decode_macroblock.specs.Macroblock.{MadeMacroblock, InOrder, Each}
+use Rattle.decode_macroblock.specs.Macroblock.{MadeMacroblock, InOrder}
 use Rattle.decode_macroblock.specs.Owner.{ownerOf}
 use Rattle.format3_header.specs.declared.file_start.FileStart.the-variants.{HeaderRead}
 use Rattle.format3_picture.specs.Picture.{refusedAt, pictureOf, answerOf}

@@ -13,6 +13,7 @@ use Prim.Native.Nat.{ℕ, _+_, _/_, _%_, _^_, _≤_, _<_}
 use lib.IntN.{ℤ, pos, negsuc, _+ℤ_, _-ℤ_, _*ℤ_}
 use lib.ListN.{replicate}
 use lib.Signed.{_<ℤ_}
+use Rattle.math.specs.Each.{Each}
 use Rattle.math.specs.Bound.{Within, at}
 use Rattle.refusals.specs.Refusal.{accepted}
 use Rattle.symbols.specs.Pattern.{isCoded}
@@ -21,7 +22,6 @@ use Rattle.decode_idct.specs.Answer.{transformNumber, transformResidues}
 use Rattle.decode_idct.specs.Factors.{cosineAt}
 use Rattle.decode_idct.specs.Transform.{inverseTransform, limitedResidue, dcAlone}
 use Rattle.decode_macroblock.specs.Block.{coefficientsAt}
-use Rattle.decode_macroblock.specs.Macroblock.{Each}
 use Rattle.format3_header.specs.declared.file_start.FileStart.the-variants.{HeaderRead}
 use Rattle.format3_picture.specs.Picture.{symbolsOf}
 use Rattle.format3_picture.specs.Reconstruction.{macroblocksOf}

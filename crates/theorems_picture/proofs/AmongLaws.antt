@@ -6,19 +6,13 @@ use native.Mathlib.Omega.{arith}
 use borrow.Author.Tests.{eq-eqb, ne-eqb}
 use lib.IntN.{ℤ}
 use lib.ListN.{length}
+use Rattle.math.specs.Each.{Each}
+use Rattle.math.proofs.Each.{each-with}
 use Rattle.symbols.specs.declared.size.PictureSize.{PictureSize}
 use Rattle.decode_macroblock.specs.Byte.{byteOf, byteAmong}
 use Rattle.decode_macroblock.specs.Compensation.{References}
-use Rattle.decode_macroblock.specs.Macroblock.{MadeMacroblock, InOrder, Each}
+use Rattle.decode_macroblock.specs.Macroblock.{MadeMacroblock, InOrder}
 use Rattle.decode_macroblock.specs.Owner.{ownerOf}
-
-pub each-map : {P Q : MadeMacroblock → Type 0} → ((m : MadeMacroblock) → P m → Q m) → (l : List MadeMacroblock) → Each P l → Each Q l
-each-map f [] p = tt
-each-map f (m ∷ l) p = (f m (p .0), each-map f l (p .1))
-
-each-with : {P Q R : MadeMacroblock → Type 0} → ((m : MadeMacroblock) → P m → Q m → R m) → (l : List MadeMacroblock) → Each P l → Each Q l → Each R l
-each-with f [] p q = tt
-each-with f (m ∷ l) p q = (f m (p .0) (q .0), each-with f l (p .1) (q .1))
 
 pub order-count : (first last : ℕ) (l : List MadeMacroblock) → InOrder first l last → first + length l ≡ last
 order-count first last [] o = omega (arith, o)

@@ -8,6 +8,8 @@ use native.Mathlib.Omega.{arith}
 use lib.Dec.{lit≤}
 use lib.IntN.{ℤ}
 use lib.ListN.{length, getD}
+use Rattle.math.specs.Each.{Each}
+use Rattle.math.proofs.Each.{each-map}
 use Rattle.refusals.specs.Refusal.{accepted, numberOf}
 use Rattle.refusals.specs.declared.Refusal.{Refusal}
 use Rattle.refusals.specs.declared.Refusal.the-variants.{FileEnds, BackwardVectorOutside}
@@ -17,7 +19,7 @@ use Rattle.symbols.specs.declared.header.Header.{Header}
 use Rattle.decode_macroblock.specs.Block.{coefficientsAt}
 use Rattle.decode_macroblock.specs.Byte.{byteOf}
 use Rattle.decode_macroblock.specs.Compensation.{references}
-use Rattle.decode_macroblock.specs.Macroblock.{MadeMacroblock, withMacroblocks, InOrder, Each}
+use Rattle.decode_macroblock.specs.Macroblock.{MadeMacroblock, withMacroblocks, InOrder}
 use Rattle.decode_macroblock.specs.Owner.{ownerOf}
 use Rattle.format3_records.specs.declared.verdict.Verdict.the-variants.{Refused}
 use Rattle.format3_header.specs.declared.file_start.FileStart.{FileStart}
@@ -28,7 +30,7 @@ use Rattle.format3_picture.proofs.PictureLaws.{no-header, header-read-is, heade
 use Rattle.format3_picture.proofs.StartLaws.{Started, header-read}
 use Rattle.theorems_accuracy.specs.ExactSum.{CoefficientsInRange}
 use Rattle.theorems_picture.specs.Applies.{Reached, verdictAt, Passing, fileStart, Applies, to-start, to-record, to-end}
-use Rattle.theorems_picture.proofs.AmongLaws.{each-map, order-count, among-own, among-others}
+use Rattle.theorems_picture.proofs.AmongLaws.{order-count, among-own, among-others}
 use Rattle.theorems_picture.proofs.DecidingLaws.{RefusedByVector, why-refused, OfVector, refused-of}
 use Rattle.theorems_picture.proofs.FileStartLaws.{NeitherEndNorVector, StartListed, start-listed}
 use Rattle.theorems_picture.proofs.PassingLaws.{Stands, stands, Stop, at-record, at-end, answerAt, stops, stopped}

@@ -6,6 +6,8 @@ use Prim.Native.Nat.{ℕ, zero, suc, _+_}
 use native.Mathlib.Omega.{arith}
 use lib.Dec.{T}
 use lib.IntN.{ℤ}
+use Rattle.math.specs.Each.{Each}
+use Rattle.math.proofs.Each.{each-append}
 use Rattle.math.specs.Tab.{tab}
 use Rattle.refusals.specs.Refusal.{numberOf}
 use Rattle.refusals.specs.declared.Refusal.{Refusal}
@@ -14,11 +16,11 @@ use Rattle.symbols.specs.Header.{usesBackward}
 use Rattle.symbols.specs.declared.size.PictureSize.{PictureSize}
 use Rattle.symbols.specs.Macroblock.{Macroblock}
 use Rattle.decode_macroblock.specs.Fit.{directionFits, fitOf, firstMisfit, orElse}
-use Rattle.decode_macroblock.specs.Macroblock.{MadeMacroblock, predictedOnly, predictedOnlyFrom, Each}
+use Rattle.decode_macroblock.specs.Macroblock.{MadeMacroblock, predictedOnly, predictedOnlyFrom}
 use Rattle.decode_macroblock.specs.declared.compensation.Motion.{Motion}
 use Rattle.decode_macroblock.specs.declared.fit.Fit.{Fit}
 use Rattle.decode_macroblock.specs.declared.fit.Fit.the-variants.{Fits, Forward, Backward}
-use Rattle.decode_macroblock.proofs.OrderLaws.{each-both, uncoded-each}
+use Rattle.decode_macroblock.proofs.OrderLaws.{uncoded-each}
 use Rattle.decode_macroblock.proofs.RunLaws.{or-else-assoc, or-else-fits}
 use Rattle.decode_state.specs.Plan.{planOf, ownMacroblock, macroblocksOfPlan}
 use Rattle.decode_state.specs.Vectors.{ownMotion}
@@ -112,7 +114,7 @@ module _ (s : PictureState) (w : StateWithin s) where
   backward-in-B m legal v =
       let plan = planFor (s .header) (s .next) (s .slice) m in
       backward-used (s .header .size) (plan-misfit (s .header .size) plan [] BackwardVectorOutside v)
-      (each-both UsesBackward (predictedOnlyFrom (plan .first) (plan .skipped) (plan .«skip_motion»)) (ownMacroblock plan [] ∷ [])
+      (each-append UsesBackward (predictedOnlyFrom (plan .first) (plan .skipped) (plan .«skip_motion»)) (ownMacroblock plan [] ∷ [])
       (uncoded-each UsesBackward (plan .«skip_motion») (λ address. skip-backward-used (s .header .«coding_type») (s .slice .motion) (w .backward-used)) (plan .first) (plan .skipped))
       (own-backward-used (s .header .«coding_type») (m .symbols .«macroblock_type») (w .header .first-type) (w .header .last-type) (legal .symbols .type-legal), tt))
     where

@@ -7,14 +7,16 @@ use native.Mathlib.Decide.{decLt}
 use native.Mathlib.Omega.{arith}
 use lib.Dec.{eqb}
 use lib.ListN.{length}
+use Rattle.math.specs.Each.{Each}
+use Rattle.math.proofs.Each.{each-append}
 use Rattle.math.specs.Joined.{joined}
 use Rattle.refusals.specs.declared.Refusal.{Refusal}
 use Rattle.symbols.specs.Requires.{HeaderWithin}
 use Rattle.symbols.specs.Size.{macroblockCount}
 use Rattle.symbols.specs.declared.header.Header.{Header}
 use Rattle.decode_coefficients.specs.Requires.{BlocksInRange}
-use Rattle.decode_macroblock.specs.Macroblock.{InOrder, Each}
-use Rattle.decode_macroblock.proofs.OrderLaws.{order-both, each-both}
+use Rattle.decode_macroblock.specs.Macroblock.{InOrder}
+use Rattle.decode_macroblock.proofs.OrderLaws.{order-both}
 use Rattle.format3_records.specs.declared.turn.Turn.the-variants as Turn
 use Rattle.format3_records.specs.declared.verdict.Verdict.{Verdict}
 use Rattle.format3_records.specs.declared.verdict.Verdict.the-variants.{Passed, Refused}
@@ -49,7 +51,7 @@ module _ (file : List ℕ) (h : Header) (end : ℕ) where
         header = kept .header ∙ before .header;
         in-file = step-ends file (r .offset) (r .state) (r .matrices) v .in-file;
         order = order-both 0 (r .state .next) _ (r .macroblocks) _ (before .order) (kept .order);
-        in-range = each-both (λ m. BlocksInRange (m .coefficients)) (r .macroblocks) _ (before .in-range) (kept .in-range);
+        in-range = each-append (λ m. BlocksInRange (m .coefficients)) (r .macroblocks) _ (before .in-range) (kept .in-range);
       }
 
   -- no record takes the reader back to the file's start

@@ -20,22 +20,22 @@ use Rattle.symbols.proofs.Parsed.{all-at, after, nothing-after, after-after, ma
 use Rattle.decode_coefficients.specs.declared.block.BlockCoding.{BlockCoding}
 use Rattle.decode_coefficients.specs.Block.{PositionedLevel, blockLevels, withLevels, dcBlock, blockCoefficients, coefficientsOf}
 use Rattle.decode_coefficients.specs.declared.dc.DcPasts.{DcPasts}
-use Rattle.decode_coefficients.specs.Dc.{dcOf, dcPastOf, dcPastsWith, dcPastsAfter, dcPastsThrough}
-use Rattle.decode_coefficients.specs.Requires.{DcFits}
+use Rattle.decode_coefficients.specs.Dc.{dcPastOf, dcPastsWith, dcPastsAfter, dcPastsThrough}
+use Rattle.decode_coefficients.proofs.SoFar.{dc-fits}
 use Rattle.decode_coefficients.specs.Macroblock.{coefficientsFrom}
 use Rattle.decode_coefficients.specs.BlockArray.{sixBlocks, blockIn, putBlock}
 use Rattle.format3_macroblock.specs.declared.blocks.BlocksCoding.{BlocksCoding}
 use Rattle.format3_macroblock.specs.Blocks.{levelsOf, givenDifferenceOf, blockOf, givenBlockOf, blocksOf}
-use Rattle.format3_macroblock.specs.Requires.{LegalDcPasts}
+use Rattle.format3_macroblock.specs.Requires.{BeforePairs, LegalDcPasts}
 use Rattle.format3_macroblock.specs.Decoding.{oneBlockCoding, readDcOf, levelsInto, Progress, progressAfter, blockInto, decodedBlocksOf}
 use Rattle.format3_macroblock.proofs.Laws.Blocks.{pasts-legal}
 
 -- ---- one block
--- only an intra block has a DC other than 0
-pub dc-fits : (c : BlockCoding) (past : ℤ) (part : List ℕ) {dc : ℤ} {n : ℕ} → ParsesAs (readDcOf (c .intra) past) part (value dc n) → DcFits c dc
-dc-fits c past part found =
+-- a block with the DC that was read is one before its pairs
+pub begun : (c : BlockCoding) (past : ℤ) (part : List ℕ) {dc : ℤ} {n : ℕ} → ParsesAs (readDcOf (c .intra) past) part (value dc n) → BeforePairs c (dcBlock dc)
+begun c past part {dc} found =
     let d = made-of (givenDifferenceOf (c .intra) past) _ part found in
-    record { zero-otherwise = λ e. sym (d .is) ∙ ap (λ (intra : Bool). dcOf intra past (d .source)) e }
+    record { dc = dc; fits = rw (← d .is) (dc-fits c past (d .source)); is = refl }
 
 module _ (c : BlocksCoding) (matrix : List ℕ) (block : ℕ) (s : Progress) (part : List ℕ) where
   pub not-coded : isCoded (c .pattern) block ≡ false → ParsesAs (blockInto c matrix block s) part (value s 0)
@@ -47,13 +47,13 @@ module _ (c : BlocksCoding) (matrix : List ℕ) (block : ℕ) (s : Progress) (pa
     dc-stops found = rw (e, stopped-before (givenDifferenceOf (c .intra) (dcPastOf (s .pasts) block)) _ part found)
 
     module _ {dc : ℤ} {n : ℕ} (first : ParsesAs (readDcOf (c .intra) (dcPastOf (s .pasts) block)) part (value dc n)) where
-      pub levels-stop : {refusal : Refusal} → ParsesAs (levelsInto (oneBlockCoding c) matrix dc) (drop n part) (stopped refusal) → ParsesAs (blockInto c matrix block s) part (stopped refusal)
+      pub levels-stop : {refusal : Refusal} → ParsesAs (levelsInto (oneBlockCoding c) matrix (dcBlock dc)) (drop n part) (stopped refusal) → ParsesAs (blockInto c matrix block s) part (stopped refusal)
       unfolding blockOf
       levels-stop found =
           let d = made-of (givenDifferenceOf (c .intra) (dcPastOf (s .pasts) block)) _ part first in
           rw (e, d .found .0, stopped-before (levelsOf (c .intra)) _ (drop n part) found)
 
-      pub block-found : {values : List ℤ} {m : ℕ} → ParsesAs (levelsInto (oneBlockCoding c) matrix dc) (drop n part) (value values m)
+      pub block-found : {values : List ℤ} {m : ℕ} → ParsesAs (levelsInto (oneBlockCoding c) matrix (dcBlock dc)) (drop n part) (value values m)
           → ParsesAs (blockInto c matrix block s) part (value (record { pasts = dcPastsWith (c .intra) (s .pasts) block dc; coefficients = putBlock block values (s .coefficients) }) (n + m))
       unfolding blockOf blockCoefficients
       block-found {values} {m} second =

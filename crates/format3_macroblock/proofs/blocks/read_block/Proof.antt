@@ -10,11 +10,12 @@ use mir.Val.{toZ, ofZ}
 use Rattle.math.proofs.Machine.{returned}
 use Rattle.symbols.specs.Parsed.{value, ParsesAs}
 use Rattle.symbols.specs.Pattern.{isCoded}
+use Rattle.decode_coefficients.specs.Block.{dcBlock}
 use Rattle.decode_coefficients.specs.Dc.{dcPastOf}
 use Rattle.format3_macroblock.specs.Landing.{pairsResult}
 use Rattle.format3_macroblock.specs.Decoding.{oneBlockCoding, readDcOf, dcResult, levelsInto}
 use Rattle.format3_macroblock.proofs.Laws.Blocks.{past-legal}
-use Rattle.format3_macroblock.proofs.Laws.BlockArray.{dc-fits, not-coded, dc-stops, levels-stop, block-found}
+use Rattle.format3_macroblock.proofs.Laws.BlockArray.{begun, not-coded, dc-stops, levels-stop, block-found}
 use Rattle.format3_macroblock.proofs.blocks.read_block.Statement.{statement}
 use Rattle.format3_macroblock.proofs.blocks.read_block.Tie as tie
 
@@ -34,10 +35,10 @@ first c = rw (c .start .given .1) at (began (c .before .before))
 same-dc : (c : tie.After-known-told) → toZ w16 (ofZ w16 (c .before .start .given .0 .0)) ≡ c .before .start .given .0 .0
 same-dc c = returned w16 (c .known-told .given .0 .1) refl
 
-landing : (c : tie.After-read-levels) → ParsesAs (levelsInto (oneBlockCoding (c .before .before .before .before .before .before .before .before .before .before .args .coding)) (c .before .before .before .before .before .before .before .before .before .before .args .matrix .now) (c .before .before .before .start .given .0 .0)) (drop (c .before .before .before .start .given .0 .1 .0 .at) (c .before .before .before .before .before .before .before .before .before .before .args .rest .now)) (pairsResult (c .read-levels .result .answer) (c .read-levels .result .block))
-landing c = rw (same-dc (c .before .before), c .before .after .ensures) at (c .read-levels .ensures)
+landing : (c : tie.After-read-levels) → ParsesAs (levelsInto (oneBlockCoding (c .before .before .before .before .before .before .before .before .before .before .before .args .coding)) (c .before .before .before .before .before .before .before .before .before .before .before .args .matrix .now) (dcBlock (c .before .before .before .before .start .given .0 .0))) (drop (c .before .before .before .before .start .given .0 .1 .0 .at) (c .before .before .before .before .before .before .before .before .before .before .before .args .rest .now)) (pairsResult (c .read-levels .result .answer) (c .read-levels .result .block))
+landing c = rw (c .before .dc-block .ensures, same-dc (c .before .before .before), c .before .before .after .ensures) at (c .read-levels .ensures)
 
-second : (c : tie.After-answer) → ParsesAs (levelsInto (oneBlockCoding (c .before .before .before .before .before .before .before .before .before .before .before .before .args .coding)) (c .before .before .before .before .before .before .before .before .before .before .before .before .args .matrix .now) (c .before .before .before .before .before .start .given .0 .0)) (drop (c .before .before .before .before .before .start .given .0 .1 .0 .at) (c .before .before .before .before .before .before .before .before .before .before .before .before .args .rest .now)) (value (c .before .before .read-levels .result .block) (c .answer .given .0 .0 .at))
+second : (c : tie.After-answer) → ParsesAs (levelsInto (oneBlockCoding (c .before .before .before .before .before .before .before .before .before .before .before .before .before .args .coding)) (c .before .before .before .before .before .before .before .before .before .before .before .before .before .args .matrix .now) (dcBlock (c .before .before .before .before .before .before .start .given .0 .0))) (drop (c .before .before .before .before .before .before .start .given .0 .1 .0 .at) (c .before .before .before .before .before .before .before .before .before .before .before .before .before .args .rest .now)) (value (c .before .before .read-levels .result .block) (c .answer .given .0 .0 .at))
 second c = rw (c .answer .given .1) at (landing (c .before .before))
 
 is-coded-requires : tie.Need-is-coded-requires
@@ -69,8 +70,13 @@ returns-2 c =
 after-requires : tie.Need-after-requires
 after-requires c κs = search needs
 
+dc-block-requires : tie.Need-dc-block-requires
+dc-block-requires c κs = search needs
+
 read-levels-requires : tie.Need-read-levels-requires
-read-levels-requires c κs = let s = c .before .before .before .before .before .before .before .before .before in (s .pre .2, rw (same-dc (c .before)) (dc-fits _ _ _ (first (c .before .before))), s .pre .3)
+read-levels-requires c κs =
+    let s = c .before .before .before .before .before .before .before .before .before .before in
+    (s .pre .2, s .pre .3, rw (c .dc-block .ensures, same-dc (c .before .before)) (begun _ _ _ (first (c .before .before .before))))
 
 enum-known-answer : tie.Need-enum-known-answer
 enum-known-answer c = search needs
@@ -84,23 +90,21 @@ pairs-refusal-requires c κs = search needs
 returns-3 : tie.Need-returns-3
 returns-3 c =
     let e = c .before .enum-told2 .given .1 in
-    rw (c .pairs-refusal .ensures, e) (levels-stop _ _ _ _ _ (is-coded (c .before .before .before .before .before .before .before .before .before .before)) (first (c .before .before .before .before .before .before)) (rw e at (landing (c .before .before .before))))
+    rw (c .pairs-refusal .ensures, e) (levels-stop _ _ _ _ _ (is-coded (c .before .before .before .before .before .before .before .before .before .before .before)) (first (c .before .before .before .before .before .before .before)) (rw e at (landing (c .before .before .before))))
 
 store-block-requires : tie.Need-store-block-requires
-store-block-requires c κs = c .before .before .before .before .before .before .before .before .before .before .before .before .before .before .before .pre .0
+store-block-requires c κs = c .before .before .before .before .before .before .before .before .before .before .before .before .before .before .before .before .pre .0
 
 add-at : tie.Need-add-at
-add-at c =
-    let s = c .before .before .before .before .before .before .before .before .before .before .before .before .before .before .before .before .before .before in
-    omega (arith, first (c .before .before .before .before .before .before .before .before .before .before .before) .1, second (c .before .before .before .before .before .before) .1, length-drop (c .before .before .before .before .before .before .before .before .before .before .before .start .given .0 .1 .0 .at) (s .args .rest .now), s .good)
+add-at c = omega (arith, first (c .before .before .before .before .before .before .before .before .before .before .before .before) .1, second (c .before .before .before .before .before .before) .1, length-drop (c .before .before .before .before .before .before .before .before .before .before .before .before .start .given .0 .1 .0 .at) (c .before .before .before .before .before .before .before .before .before .before .before .before .before .before .before .before .before .before .before .args .rest .now), c .before .before .before .before .before .before .before .before .before .before .before .before .before .before .before .before .before .before .before .good)
 
 dc-pasts-with-requires : tie.Need-dc-pasts-with-requires
 dc-pasts-with-requires c κs = search needs
 
 returns-4 : tie.Need-returns-4
 returns-4 c =
-    rw (c .dc-pasts-with .ensures, same-dc (c .before .before .before .before .before .before .before .before .before .before .before), c .before .before .before .store-block .ensures)
-    (block-found _ _ _ _ _ (is-coded (c .before .before .before .before .before .before .before .before .before .before .before .before .before .before .before .before)) (first (c .before .before .before .before .before .before .before .before .before .before .before .before)) (second (c .before .before .before .before .before .before .before)))
+    rw (c .dc-pasts-with .ensures, same-dc (c .before .before .before .before .before .before .before .before .before .before .before .before), c .before .before .before .store-block .ensures)
+    (block-found _ _ _ _ _ (is-coded (c .before .before .before .before .before .before .before .before .before .before .before .before .before .before .before .before .before)) (first (c .before .before .before .before .before .before .before .before .before .before .before .before .before)) (second (c .before .before .before .before .before .before .before)))
 
 pub read-block-spec : {M : Type 1} → statement M
 read-block-spec =
@@ -115,6 +119,7 @@ read-block-spec =
     dc-refusal-requires
     returns-2
     after-requires
+    dc-block-requires
     read-levels-requires
     enum-known-answer
     enum-told-2

@@ -5,11 +5,10 @@ use native.Mathlib.Omega.{arith}
 use borrow.Author.Needs.{needs}
 use lib.ListN.{length, drop, length-drop}
 use lib.Seq.{drop-drop}
-use mir.Syntax.{w16}
-use mir.Val.{toZ, ofZ}
-use mir.ValLaws.{toZ-ofZ}
 use Rattle.symbols.specs.Parsed.{value, ParsesAs}
-use Rattle.format3_macroblock.specs.Landing.{pairsInto, pairsResult}
+use Rattle.symbols.specs.Pair.{firstPosition}
+use Rattle.format3_macroblock.specs.Pairs.{pairsOf, pairsBeforeRefusal}
+use Rattle.format3_macroblock.specs.Landing.{blockRead, pairsResult}
 use Rattle.format3_macroblock.specs.Blocks.{countOf, levelsOf}
 use Rattle.format3_macroblock.proofs.levels.read_levels.Statement.{statement}
 use Rattle.format3_macroblock.proofs.levels.read_levels.Tie as tie
@@ -18,13 +17,13 @@ use Rattle.format3_macroblock.proofs.levels.read_levels.Tie as tie
 counted : (c : tie.After-first) → ParsesAs (countOf (c .before .before .before .before .args .coding .intra)) (c .before .before .before .before .args .rest .now) (value (c .first .given .0 .0) (c .first .given .0 .1 .0 .at))
 counted c = rw (c .first .given .1) at (c .before .before .read-count .ensures)
 
-same-dc : (c : tie.Start) → toZ w16 (ofZ w16 (c .args .dc)) ≡ c .args .dc
-same-dc c = toZ-ofZ w16 (c .args .dc) (c .fits .dc)
+landing : (c : tie.After-read-pairs) → ParsesAs (pairsOf (c .before .before .before .first .given .0 .0) (firstPosition (c .before .before .before .before .before .before .before .args .coding .intra))) (drop (c .before .before .before .first .given .0 .1 .0 .at) (c .before .before .before .before .before .before .before .args .rest .now)) (pairsResult (c .read-pairs .result .answer) (pairsBeforeRefusal (c .before .before .before .first .given .0 .0) (firstPosition (c .before .before .before .before .before .before .before .args .coding .intra)) (drop (c .before .before .before .first .given .0 .1 .0 .at) (c .before .before .before .before .before .before .before .args .rest .now))))
+landing c = rw (c .before .after .ensures) at (c .read-pairs .ensures .0)
 
-landing : (c : tie.After-read-pairs) → ParsesAs (pairsInto (c .before .before .before .before .before .before .before .args .coding) (c .before .before .before .before .before .before .before .args .matrix .now) (c .before .before .before .before .before .before .before .args .dc) (c .before .before .before .first .given .0 .0)) (drop (c .before .before .before .first .given .0 .1 .0 .at) (c .before .before .before .before .before .before .before .args .rest .now)) (pairsResult (c .read-pairs .result .answer) (c .read-pairs .result .block))
-landing c = rw (same-dc (c .before .before .before .before .before .before .before), c .before .after .ensures) at (c .read-pairs .ensures .0)
+stored : (c : tie.After-read-pairs) → c .read-pairs .result .block ≡ blockRead (c .before .before .before .before .before .before .before .args .coding) (c .before .before .before .before .before .before .before .args .matrix .now) (c .before .before .before .first .given .0 .0) (drop (c .before .before .before .first .given .0 .1 .0 .at) (c .before .before .before .before .before .before .before .args .rest .now)) (c .before .before .before .before .before .before .before .args .block)
+stored c = rw (c .before .after .ensures) at (c .read-pairs .ensures .1)
 
-got : (c : tie.After-answer) → ParsesAs (pairsInto (c .before .before .before .before .before .before .before .before .before .args .coding) (c .before .before .before .before .before .before .before .before .before .args .matrix .now) (c .before .before .before .before .before .before .before .before .before .args .dc) (c .before .before .before .before .before .first .given .0 .0)) (drop (c .before .before .before .before .before .first .given .0 .1 .0 .at) (c .before .before .before .before .before .before .before .before .before .args .rest .now)) (value (c .before .before .read-pairs .result .block) (c .answer .given .0 .0 .at))
+got : (c : tie.After-answer) → ParsesAs (pairsOf (c .before .before .before .before .before .first .given .0 .0) (firstPosition (c .before .before .before .before .before .before .before .before .before .args .coding .intra))) (drop (c .before .before .before .before .before .first .given .0 .1 .0 .at) (c .before .before .before .before .before .before .before .before .before .args .rest .now)) (value (pairsBeforeRefusal (c .before .before .before .before .before .first .given .0 .0) (firstPosition (c .before .before .before .before .before .before .before .before .before .args .coding .intra)) (drop (c .before .before .before .before .before .first .given .0 .1 .0 .at) (c .before .before .before .before .before .before .before .before .before .args .rest .now))) (c .answer .given .0 .0 .at))
 got c = rw (c .answer .given .1) at (landing (c .before .before))
 
 inside : (c : tie.After-answer) → c .before .before .before .before .before .first .given .0 .1 .0 .at + c .answer .given .0 .0 .at ≤ length (c .before .before .before .before .before .before .before .before .before .args .rest .now)
@@ -42,20 +41,17 @@ enum-told c = search needs
 tested-refusal-requires : tie.Need-tested-refusal-requires
 tested-refusal-requires c κs = search needs
 
-dc-block-requires : tie.Need-dc-block-requires
-dc-block-requires c κs = search needs
-
 returns : tie.Need-returns
 unfolding levelsOf
 returns c =
-    let e = c .before .before .enum-told .given .1 in
-    rw (rw e at (c .before .before .before .before .read-count .ensures), c .before .tested-refusal .ensures, e)
+    let e = c .before .enum-told .given .1 in
+    rw (rw e at (c .before .before .before .read-count .ensures), c .tested-refusal .ensures, e)
 
 after-requires : tie.Need-after-requires
 after-requires c κs = search needs
 
 read-pairs-requires : tie.Need-read-pairs-requires
-read-pairs-requires c κs = let s = c .before .before .before .before .before .before in (s .pre .0, rw (same-dc s) (s .pre .1), s .pre .2)
+read-pairs-requires c κs = search needs
 
 enum-known-answer : tie.Need-enum-known-answer
 enum-known-answer c = search needs
@@ -72,7 +68,7 @@ add-at c = omega (arith, inside (c .before .before .before .before), c .before .
 
 returns-3 : tie.Need-returns-3
 unfolding levelsOf
-returns-3 c = (rw (counted (c .before .before .before .before .before .before .before .before .before) .0, got (c .before .before .before .before) .0, drop-drop), inside (c .before .before .before .before))
+returns-3 c = (rw (counted (c .before .before .before .before .before .before .before .before .before) .0, got (c .before .before .before .before) .0, drop-drop, stored (c .before .before .before .before .before .before)), inside (c .before .before .before .before))
 
 pub read-levels-spec : {M : Type 1} → statement M
 read-levels-spec =
@@ -82,7 +78,6 @@ read-levels-spec =
     enum-known-first
     enum-told
     tested-refusal-requires
-    dc-block-requires
     returns
     after-requires
     read-pairs-requires

@@ -6,7 +6,6 @@ use borrow.Author.Needs.{needs}
 use lib.ListN.{drop, length-drop}
 use mir.Syntax.{w16}
 use mir.Val.{toZ, ofZ}
-use mir.ValLaws.{toZ-ofZ}
 use Rattle.math.proofs.Bound.{within-eq}
 use Rattle.math.proofs.Machine.{returned}
 use Rattle.symbols.specs.Parsed.{value, ParsesAs}
@@ -19,34 +18,27 @@ use Rattle.format3_macroblock.proofs.pairs.read_pairs.Statement.{statem
 use Rattle.format3_macroblock.proofs.pairs.read_pairs.Tie as tie
 
 abbrev Inv-loop : tie.InvT-loop
-Inv-loop rest count coding dc order matrix block₀ left₀ next₀ at₀ block left next at = BetweenPairs coding matrix (toZ w16 dc) count rest block left next at
+Inv-loop rest count coding order matrix block₀ left₀ next₀ at₀ block left next at = BetweenPairs coding matrix count rest block₀ block left next at
 
 abbrev μ-loop : tie.MeasureT-loop
-μ-loop rest count coding dc order matrix block₀ left₀ next₀ at₀ block left next at = left
-
-same-dc : (c : tie.Start Inv-loop μ-loop) → toZ w16 (ofZ w16 (c .args .dc)) ≡ c .args .dc
-same-dc c = toZ-ofZ w16 (c .args .dc) (c .fits .dc)
+μ-loop rest count coding order matrix block₀ left₀ next₀ at₀ block left next at = left
 
 -- the pair that was read, in the definition's terms
-found : (c : tie.After-read-pair Inv-loop μ-loop) → ParsesAs (pairOf (c .before .before .before .loop .next)) (drop (c .before .before .before .loop .at) (c .before .before .before .before .before .before .before .args .rest .now)) (pairResult (c .read-pair .result))
+found : (c : tie.After-read-pair Inv-loop μ-loop) → ParsesAs (pairOf (c .before .before .before .loop .next)) (drop (c .before .before .before .loop .at) (c .before .before .before .before .before .before .args .rest .now)) (pairResult (c .read-pair .result))
 found c = rw rest-from at (c .read-pair .ensures)
 
-got : (c : tie.After-answer Inv-loop μ-loop) → ParsesAs (pairOf (c .before .before .before .before .before .loop .next)) (drop (c .before .before .before .before .before .loop .at) (c .before .before .before .before .before .before .before .before .before .args .rest .now)) (value (c .answer .given .0 .0) (c .answer .given .0 .1 .0 .at))
+got : (c : tie.After-answer Inv-loop μ-loop) → ParsesAs (pairOf (c .before .before .before .before .before .loop .next)) (drop (c .before .before .before .before .before .loop .at) (c .before .before .before .before .before .before .before .before .args .rest .now)) (value (c .answer .given .0 .0) (c .answer .given .0 .1 .0 .at))
 got c = rw (c .answer .given .1) at (found (c .before .before))
 
 lands : (c : tie.After-answer Inv-loop μ-loop) → Legal (c .before .before .before .before .before .loop .next) (c .answer .given .0 .0)
 lands c = all-at (pair-legal _ _) (got c .0)
-
-dc-block-requires : tie.Need-dc-block-requires Inv-loop μ-loop
-dc-block-requires c κs = search needs
 
 first-position-requires : tie.Need-first-position-requires Inv-loop μ-loop
 first-position-requires c κs = search needs
 
 loop-holds : tie.Need-loop-holds Inv-loop μ-loop
 loop-holds c =
-    let s = c .before .before .before in
-    rw (c .before .dc-block .ensures, c .first-position .ensures) (at-start _ _ _ _ _ (rw (same-dc s) (s .pre .1)))
+    rw (c .first-position .ensures) (at-start _ _ _ _ _ (c .before .before .pre .2))
 
 sub-read-pair : tie.Need-sub-read-pair Inv-loop μ-loop
 sub-read-pair c = search needs
@@ -73,7 +65,7 @@ returns : tie.Need-returns Inv-loop μ-loop
 returns c =
     let head = c .before .before .before .before .before .before in
     let e = c .before .enum-told .given .1 in
-    rw (c .pair-refusal .ensures, e) (rw (same-dc (head .before .before .before .before)) at (stops _ _ _ _ _ (head .loop .inv) (c .before .before .before .before .before .loop-test .taken) (rw e at (found (c .before .before .before)))))
+    rw (c .pair-refusal .ensures, e) (stops _ _ _ _ _ (head .loop .inv) (c .before .before .before .before .before .loop-test .taken) (rw e at (found (c .before .before .before))))
 
 cast-position : tie.Need-cast-position Inv-loop μ-loop
 cast-position c = search needs
@@ -87,8 +79,8 @@ same-level c = returned w16 (c .struct-told .given .1 .0 .1) refl
 store-level-requires : tie.Need-store-level-requires Inv-loop μ-loop
 store-level-requires c κs =
     let pair = lands (c .before .before .before .before) in
-    let s = c .before .before .before .before .before .before .before .before .before .before .before .before .before in
-    (pair .low, within-eq (same-level c) (pair .small), s .pre .0, s .pre .2)
+    let s = c .before .before .before .before .before .before .before .before .before .before .before .before in
+    (pair .low, within-eq (same-level c) (pair .small), s .pre .0, s .pre .1)
 
 add-next : tie.Need-add-next Inv-loop μ-loop
 add-next c = omega (arith, lands (c .before .before .before .before .before) .low)
@@ -96,7 +88,7 @@ add-next c = omega (arith, lands (c .before .before .before .before .before) .lo
 add-at : tie.Need-add-at Inv-loop μ-loop
 add-at c =
     let head = c .before .before .before .before .before .before .before .before .before .before .before in
-    let s = head .before .before .before .before in
+    let s = head .before .before .before in
     omega (arith, head .loop .inv .inside, got (c .before .before .before .before .before .before) .1, length-drop (head .loop .at) (s .args .rest .now), s .good)
 
 sub-left : tie.Need-sub-left Inv-loop μ-loop
@@ -112,7 +104,7 @@ loop-again c =
     rw stored (one-more _ _ _ _ _ (head .loop .inv) (c .before .before .before .before .before .before .before .before .before .before .loop-test .taken) (got (c .before .before .before .before .before .before)))
 
 returns-2 : tie.Need-returns-2 Inv-loop μ-loop
-returns-2 c = rw (same-dc (c .before .before .before .before .before)) at (ends _ _ _ _ _ (c .before .loop .inv) (omega arith))
+returns-2 c = ends _ _ _ _ _ (c .before .loop .inv) (omega arith)
 
 pub read-pairs-spec : {M : Type 1} → statement M
 read-pairs-spec =
@@ -120,7 +112,6 @@ read-pairs-spec =
     (tie.spec
     Inv-loop
     μ-loop
-    dc-block-requires
     first-position-requires
     loop-holds
     sub-read-pair
