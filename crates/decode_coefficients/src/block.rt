@@ -43,7 +43,8 @@ pub fn store_level(
     ensures { λ _. ⌜ now (block .exit) ≡ withLevel coding (now (matrix .entry)) (record { position = position; level = level }) (now (block .entry)) ⌝ }
 {
     let raster = order[position] as usize;
-    block[raster] = scaled_level(level, coding, matrix[raster]);
+    let scaled = scaled_level(level, coding, matrix[raster]);
+    block[raster] = scaled;
 }
 
 // Stores a block's coefficients in the array.

@@ -1,12 +1,15 @@
 -- `store_level` meets its contract: it sets one coefficient. Assumes nothing.
+use mathlib.Core.Path.{ap}
 use borrow.Author.Needs.{needs}
 use Prim.Native.Nat.{_<_, suc-le-suc}
 use native.Mathlib.Omega.{arith}
-use lib.ListN.{getD}
+use lib.IntN.{ℤ}
+use lib.ListN.{getD, set}
 use mir.Syntax.{w16}
 use mir.ValLaws.{toZ-ofZ}
 use Rattle.math.proofs.Machine.{returned}
 use Rattle.tables.proofs.Zigzag.{raster-below}
+use Rattle.decode_coefficients.specs.Block.{rasterIndex}
 use Rattle.decode_coefficients.proofs.block.store_level.Statement.{statement}
 use Rattle.decode_coefficients.proofs.block.store_level.Tie as tie
 
@@ -26,18 +29,18 @@ element-copy-out-scaled-level c = below (c .before)
 scaled-level-requires : tie.Need-scaled-level-requires
 scaled-level-requires c κs = search needs
 
-mul-t14 : tie.Need-mul-t14
-mul-t14 c = omega (arith, below (c .before .before .before))
+mul-scaled : tie.Need-mul-scaled
+mul-scaled c = omega (arith, below (c .before .before .before))
 
-element-set-from-block : tie.Need-element-set-from-block
-element-set-from-block c = below (c .before .before .before)
+element-set-from-scaled : tie.Need-element-set-from-scaled
+element-set-from-scaled c = below (c .before .before .before)
 
 returns : tie.Need-returns
 returns c =
     let s = c .before .before .before in
     let same = toZ-ofZ w16 (s .args .level) (s .fits .level) in
-    let scaled = returned w16 (c .scaled-level .ok) (rw same at (c .scaled-level .ensures)) in
-    rw (scaled, s .pre .3)
+    let scaled = returned w16 (c .scaled-level .ok) (rw (same, s .pre .3) at (c .scaled-level .ensures)) in
+    rw (s .pre .3) (ap (λ (z : ℤ). set (s .args .block .now) (rasterIndex (s .args .position)) z) scaled)
 
 pub store-level-spec : {M : Type 1} → statement M
 store-level-spec =
@@ -47,6 +50,6 @@ store-level-spec =
     cast-raster
     element-copy-out-scaled-level
     scaled-level-requires
-    mul-t14
-    element-set-from-block
+    mul-scaled
+    element-set-from-scaled
     returns)
