@@ -21,7 +21,7 @@ enum { SECOND_PASS = true };
 enum { SECOND_PASS = false };
 #endif
 
-/* Whether the second pass tests each place and leaves a 0 alone; if not, it scales all alike, which keeps 0 as it is. */
+/* Whether the second pass tests each level and leaves a 0 alone; if not, it scales all alike, which keeps 0 as it is. */
 #ifdef PLAIN_SKIPS_ZEROS
 enum { SKIPS_ZEROS = true };
 #else
@@ -219,18 +219,18 @@ static uint32_t read_pairs(struct rest *rest, int count, bool intra, int scale, 
             return FORMAT3_REFUSED_BODY_LENGTH;
         if (level == 0 || !within(LEVEL_MOST, level))
             return FORMAT3_REFUSED_COEFFICIENT;
-        int place = ZIGZAG[position];
-        block[place] = SECOND_PASS ? (int16_t)level : scaled(intra, level, scale, weight[place]);
+        int raster = ZIGZAG[position];
+        block[raster] = SECOND_PASS ? (int16_t)level : scaled(intra, level, scale, weight[raster]);
     }
     return 0;
 }
 
-/* The second pass. Place 0 of an intra block has its DC, which is not scaled. */
+/* The second pass. The first coefficient of an intra block is its DC, which is not scaled. */
 static void scale_block(bool intra, int scale, const uint8_t *weight, int16_t *block)
 {
-    for (int place = intra ? 1 : 0; place < 64; place++)
-        if (!SKIPS_ZEROS || block[place] != 0)
-            block[place] = scaled(intra, block[place], scale, weight[place]);
+    for (int raster = intra ? 1 : 0; raster < 64; raster++)
+        if (!SKIPS_ZEROS || block[raster] != 0)
+            block[raster] = scaled(intra, block[raster], scale, weight[raster]);
 }
 
 static uint32_t read_dc(struct rest *rest, int *past, int16_t *block)

@@ -11,6 +11,7 @@ use lib.ListN.{length, replicate, set, length-set}
 use lib.Seq.{ext-getD, getD-set-same, getD-set-other}
 use Rattle.math.specs.Bound.{at}
 use Rattle.math.proofs.Bound.{zeros-at}
+use Rattle.math.proofs.Test.{clash, refuted}
 use Rattle.math.specs.Each.{Each}
 use Rattle.math.proofs.Each.{each-map, each-with, each-append, each-first, each-rest}
 use Rattle.tables.proofs.Zigzag.{raster-below, zigzag-first, zigzag-apart}
@@ -70,14 +71,6 @@ apart-from-0 c pairs pair low e same =
     let z = zigzag-apart 0 (nextLevel c pairs pair .position) (omega arith) (omega arith) (zigzag-first ∙ same) in
     omega arith
 
-not-intra : (intra : Bool) → ¬ (intra ≡ true) → intra ≡ false
-not-intra true no-intra = absurd (no-intra refl)
-not-intra false no-intra = refl
-
--- not both
-not-both : {intra : Bool} → intra ≡ false → ¬ (intra ≡ true)
-not-both e t = let z : _≡_ {A = ℕ} 0 1 = cc in omega arith
-
 module _ {c : BlockCoding} {matrix : List ℕ} {dc : ℤ} where
   -- ---- before the first pair
   pub none-read : DcFits c dc → HoldsSoFar c matrix dc [] (dcBlock dc)
@@ -87,7 +80,7 @@ module _ {c : BlockCoding} {matrix : List ℕ} {dc : ℤ} where
     at-each-pair = tt;
     dc-at-0 = λ e. refl;
     zero-elsewhere = λ raster not-dc none. elim (ℕ-discrete raster 0) [
-      | yes e ↦ subst (λ (i : ℕ). at (dcBlock dc) i ≡ pos 0) (sym e) (fits .zero-otherwise (not-intra (c .intra) (λ intra. not-dc intra e)))
+      | yes e ↦ subst (λ (i : ℕ). at (dcBlock dc) i ≡ pos 0) (sym e) (fits .zero-otherwise (refuted (λ intra. not-dc intra e)))
       | no ne ↦ getD-set-other (replicate 64 (pos 0)) 0 raster dc (pos 0) ne ∙ zeros-at 64 raster
     ];
   }
@@ -134,7 +127,7 @@ module _ {c : BlockCoding} {matrix : List ℕ} {dc : ℤ} where
       where
         at-0 : (intra : Bool) → c .intra ≡ intra → Each (λ p. ¬ (0 ≡ rasterIndex (p .position))) (blockLevels c pairs) → at a 0 ≡ at b 0
         at-0 true e others = h .dc-at-0 e ∙ sym (g .dc-at-0 e)
-        at-0 false e others = h .zero-elsewhere 0 (λ intra zero. not-both e intra) others ∙ sym (g .zero-elsewhere 0 (λ intra zero. not-both e intra) others)
+        at-0 false e others = h .zero-elsewhere 0 (λ intra. clash intra e) others ∙ sym (g .zero-elsewhere 0 (λ intra. clash intra e) others)
 
     pub one-block : a ≡ b
     one-block = ext-getD (pos 0) a b (h .full ∙ sym (g .full)) (λ raster low. alike raster (blockLevels c pairs) (h .at-each-pair) (g .at-each-pair) (elsewhere raster))

@@ -1,4 +1,4 @@
--- Bounds on absolute values: of each operation's result, of a table, and that a bounded integer fits its type; and the elements of a list of zeros. Assumes nothing.
+-- Bounds on absolute values: of each operation's result, of a table, and that a bounded integer fits its type; zeros at any index. Assumes nothing.
 use mathlib.Core.Path.{_≡_, refl, sym, subst}
 use mathlib.Core.Bool.{Bool, true, false, cond, _&&_}
 use mathlib.Core.List.{List, [], _∷_}

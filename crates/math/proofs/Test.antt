@@ -1,5 +1,5 @@
--- Laws of `allBelow`: from one computed test to each number, and from a loop of tests to all numbers. Assumes nothing.
-use mathlib.Core.Path.{_≡_, refl, ap₂, subst, sym}
+-- Laws of tests: one that passes and fails, or cannot pass; and of `allBelow`, from one computed test to each number and back. Assumes nothing.
+use mathlib.Core.Path.{_≡_, refl, ap₂, subst, sym, _∙_}
 use mathlib.Core.Bool.{Bool, true, false, _&&_}
 use Prim.Native.Nat.{ℕ, zero, suc, _+_, _<_}
 use native.Mathlib.Decide.{ℕ-discrete}
@@ -7,6 +7,13 @@ use native.Mathlib.Numerals.{add-one}
 use native.Mathlib.Omega.{arith}
 use lib.Dec.{T}
 use Rattle.math.specs.Test.{allBelow}
+
+pub clash : {A : Type 0} {b : Bool} → b ≡ true → b ≡ false → A
+clash {A} {b} p q = absurd (subst T (sym p ∙ q) tt)
+
+pub refuted : {b : Bool} → (b ≡ true → ⊥) → b ≡ false
+refuted {b = true} f = absurd (f refl)
+refuted {b = false} f = refl
 
 pub and-left : (a b : Bool) → T (a && b) → T a
 and-left true b t = tt
@@ -48,8 +55,4 @@ all-passed n test e k h = truth (test k) (at-below n test (subst T (sym e) tt) k
     truth false t = absurd t
 
 pub one-fails : (n : ℕ) (test : ℕ → Bool) (k : ℕ) → k < n → test k ≡ false → allBelow n test ≡ false
-one-fails n test k h e = refuted (allBelow n test) (λ t. subst T e (at-below n test t k h))
-  where
-    refuted : (b : Bool) → (T b → ⊥) → b ≡ false
-    refuted true g = absurd (g tt)
-    refuted false g = refl
+one-fails n test k h e = refuted (λ passed. clash (all-passed n test passed k h) e)

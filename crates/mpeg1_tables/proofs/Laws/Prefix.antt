@@ -9,7 +9,7 @@ use lib.Dec.{T, eqb, leb, leb→le}
 use lib.ListN.{length, take, drop, take-append-drop}
 use lib.Seq.{length-take-le, take-all}
 use borrow.Author.Tests.{eqb-true, eq-eqb}
-use Rattle.math.proofs.Test.{and-left, and-right}
+use Rattle.math.proofs.Test.{and-left, and-right, clash, refuted}
 use Rattle.mpeg1_tables.specs.declared.code.Code.the-variants.{Value, NoCode, Truncated}
 use Rattle.mpeg1_tables.specs.Code.{Word, isPrefix, codeOf}
 
@@ -17,9 +17,6 @@ use Rattle.mpeg1_tables.specs.Code.{Word, isPrefix, codeOf}
 pub case : {A : Type 0} (b : Bool) → (b ≡ true → A) → (b ≡ false → A) → A
 case true f g = f refl
 case false f g = g refl
-
-pub clash : {A : Type 0} {b : Bool} → b ≡ true → b ≡ false → A
-clash {A} {b} p q = absurd (subst T (sym p ∙ q) tt)
 
 pub and-true : (a b : Bool) → a && b ≡ true → (a ≡ true) × (b ≡ true)
 and-true true b e = (refl, e)
@@ -76,10 +73,6 @@ prefix-length (x ∷ w) (y ∷ b) e = omega (arith, prefix-length w b (and-true 
 pub and-both : (a b : Bool) → T a → T b → T (a && b)
 and-both true b s t = t
 and-both false b s t = s
-
-pub refuted : {b : Bool} → (b ≡ true → ⊥) → b ≡ false
-refuted {b = true} f = absurd (f refl)
-refuted {b = false} f = refl
 
 -- the three cases of `codeOf` for the first word of a list
 module _ (w : Word) (words : List Word) (b : List ℕ) where

@@ -10,14 +10,14 @@ use lib.ListN.{length, take, drop}
 use lib.Seq.{take-all}
 use borrow.Author.Tests.{eqb-true, eq-eqb, lt-ltb, le-ltb}
 use Rattle.math.specs.Tab.{tab}
-use Rattle.math.proofs.Test.{and-left, and-right}
+use Rattle.math.proofs.Test.{and-left, and-right, clash, refuted}
 use Rattle.mpeg1_bits.specs.Bits.{bitsOf, leadingNumber}
 use Rattle.mpeg1_bits.proofs.Number.{Binary, bits-length, bits-number, number-below, bits-same}
 use Rattle.mpeg1_tables.specs.declared.code.Code.{Code}
 use Rattle.mpeg1_tables.specs.declared.code.Code.the-variants.{Value}
 use Rattle.mpeg1_tables.specs.Code.{Word, isPrefix, codeOf, fieldOf, afterCode}
 use Rattle.mpeg1_tables.specs.Rule.{apartFrom, prefixFree}
-use Rattle.mpeg1_tables.proofs.Laws.Prefix.{case, clash, refuted, and-true, prefix-more, prefix-split, prefix-less, prefix-length, code-found, code-truncated, code-later, and-both, prefix-is}
+use Rattle.mpeg1_tables.proofs.Laws.Prefix.{case, and-true, prefix-more, prefix-split, prefix-less, prefix-length, code-found, code-truncated, code-later, and-both, prefix-is}
 use Rattle.mpeg1_tables.proofs.Laws.Rule.{In, here, there, prefix-either, prefix-chain, not-both, found-exactly, truncated-exactly}
 
 -- a code's bits and its meaning

@@ -8,13 +8,13 @@ use lib.Dec.{T, eqb}
 use lib.ListN.{length, getD}
 use borrow.Author.Tests.{eqb-true, eq-eqb}
 use Rattle.math.specs.Tab.{tab}
-use Rattle.math.proofs.Test.{and-left, and-right}
+use Rattle.math.proofs.Test.{and-left, and-right, clash, refuted}
 use Rattle.mpeg1_bits.specs.Bits.{bitsOf}
 use Rattle.mpeg1_tables.specs.declared.code.Code.the-variants.{Value, NoCode, Truncated}
 use Rattle.mpeg1_tables.specs.Code.{Word, word, digitsOf, isPrefix, codeOf}
 use Rattle.mpeg1_tables.specs.AnnexB.{incrementWords, increments, incrementsAfterEscape, intraTypes, predictedTypes, bidirectionalTypes, patterns, motionCodes, luminanceSizes, chrominanceSizes, sharedWords, firstCoefficients, nextCoefficients, byteWords, largePositive, largeNegative}
 use Rattle.mpeg1_tables.specs.Rule.{Rule, rule, rules, apartFrom, prefixFree, beginNoCode, allHold}
-use Rattle.mpeg1_tables.proofs.Laws.Prefix.{case, clash, refuted, and-true, code-found, code-truncated, code-later}
+use Rattle.mpeg1_tables.proofs.Laws.Prefix.{case, and-true, code-found, code-truncated, code-later}
 
 rules-hold : T (allHold rules)
 unfolding allHold prefixFree apartFrom beginNoCode codeOf isPrefix word digitsOf incrementWords increments incrementsAfterEscape intraTypes predictedTypes bidirectionalTypes patterns motionCodes luminanceSizes chrominanceSizes sharedWords firstCoefficients nextCoefficients byteWords largePositive largeNegative tab bitsOf

@@ -9,6 +9,7 @@ use lib.Dec.{T, eqb, ltb, eqb→eq}
 use lib.ListN.{length, take, drop, length-drop}
 use lib.Seq.{take-all}
 use borrow.Author.Tests.{eqb-true, eqb-false, eq-eqb, ne-eqb, ltb-false}
+use Rattle.math.proofs.Test.{refuted}
 use Rattle.mpeg1_bits.specs.declared.BitPosition.{BitPosition}
 use Rattle.mpeg1_bits.specs.declared.Window.{Window}
 use Rattle.mpeg1_bits.specs.Bits.{bitsOf, bitsIn, bitsFrom, windowOf}
@@ -17,7 +18,7 @@ use Rattle.mpeg1_bits.proofs.Rest.{window-take, window-length, window-bits, res
 use Rattle.mpeg1_tables.specs.declared.code.Code.{Code}
 use Rattle.mpeg1_tables.specs.declared.code.Code.the-variants.{Value, NoCode, Truncated}
 use Rattle.mpeg1_tables.specs.Code.{Word, word, digitsOf, isPrefix, codeOf, fieldOf, afterCode}
-use Rattle.mpeg1_tables.proofs.Laws.Prefix.{case, refuted, prefix-length, prefix-whole, code-truncated, code-later, code-take, code-tested, everyWord, noLonger, prefix-is}
+use Rattle.mpeg1_tables.proofs.Laws.Prefix.{case, prefix-length, prefix-whole, code-truncated, code-later, code-take, code-tested, everyWord, noLonger, prefix-is}
 use Rattle.mpeg1_tables.proofs.Laws.Product.{prefix-of-take}
 use Rattle.mpeg1_vlc.specs.SliceStart.{startPrefix, sliceStartOf}
 use Rattle.mpeg1_vlc.proofs.Laws.Range.{field-read}

@@ -1,11 +1,13 @@
 -- `read_levels` meets its contract: it reads the count, then the pairs. Assumes nothing.
-use mathlib.Core.Path.{_≡_}
+use mathlib.Core.List.{List}
+use mathlib.Core.Path.{_≡_, sym, ap}
 use Prim.Native.Nat.{_+_, _≤_}
 use native.Mathlib.Omega.{arith}
 use borrow.Author.Needs.{needs}
+use lib.IntN.{ℤ}
 use lib.ListN.{length, drop, length-drop}
 use lib.Seq.{drop-drop}
-use Rattle.symbols.specs.Parsed.{value, ParsesAs}
+use Rattle.symbols.specs.Parsed.{parsed, value, ParsesAs}
 use Rattle.symbols.specs.Pair.{firstPosition}
 use Rattle.format3_macroblock.specs.Pairs.{pairsOf, pairsBeforeRefusal}
 use Rattle.format3_macroblock.specs.Landing.{blockRead, pairsResult}
@@ -68,7 +70,10 @@ add-at c = omega (arith, inside (c .before .before .before .before), c .before .
 
 returns-3 : tie.Need-returns-3
 unfolding levelsOf
-returns-3 c = (rw (counted (c .before .before .before .before .before .before .before .before .before) .0, got (c .before .before .before .before) .0, drop-drop, stored (c .before .before .before .before .before .before)), inside (c .before .before .before .before))
+returns-3 c =
+    let end = c .before .before .before .before .before .before .before .before .before .first .given .0 .1 .0 .at + c .before .before .before .before .answer .given .0 .0 .at in
+    let left = drop end (c .before .before .before .before .before .before .before .before .before .before .before .before .before .args .rest .now) in
+    (rw (counted (c .before .before .before .before .before .before .before .before .before) .0, got (c .before .before .before .before) .0, drop-drop) (ap (λ (block : List ℤ). parsed block left) (sym (stored (c .before .before .before .before .before .before)))), inside (c .before .before .before .before))
 
 pub read-levels-spec : {M : Type 1} → statement M
 read-levels-spec =
