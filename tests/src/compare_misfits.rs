@@ -3,16 +3,14 @@
 use std::collections::BTreeMap;
 
 use crate::compare::{same_picture, Counts};
-use crate::decoder::file::{
-    first_header, matrix, record, slice, Header, PictureType, Record, MACROBLOCK, MATRIX, SLICE,
-};
-use crate::decoder::macroblock::{macroblock, Last, SliceState};
+use crate::decoder::file::{Header, PictureType};
+use crate::decoder::macroblock::Macroblock;
 use crate::decoder::picture::skip_vectors;
-use crate::decoder::refusals::{require, Refusal};
 use crate::decoder::size::Size;
 use crate::decoder::vectors::{fits, Vectors};
 use crate::decoder::Entries;
 use crate::generator::{all_arrangements, misfit_cases, Arrangement, Fit};
+use crate::records::{macroblock_records, MacroblockRecord};
 
 /// How often each arrangement occurred.
 pub type ArrangementCounts = BTreeMap<Arrangement, usize>;
@@ -56,88 +54,41 @@ pub fn require_every_arrangement(counts: &ArrangementCounts) -> Result<(), Strin
 /// fit, its arrangement is the last.
 pub fn arrangements(file: &[u8]) -> Vec<Arrangement> {
     let mut found = Vec::new();
-    let Ok((header, mut offset)) = first_header(file) else {
-        return found;
-    };
-    let mut progress = Progress {
-        header,
-        matrices_given: [false; 2],
-        next: 0,
-        slice: None,
-    };
-    while let Ok(record) = record(file, offset) {
-        let Ok(arrangement) = progress.read(record) else {
+    for record in macroblock_records(file) {
+        let Ok(read) = &record.read else {
             break;
         };
-        found.extend(arrangement);
+        found.push(arrangement(&record, read));
         if found.last().is_some_and(Arrangement::has_misfit) {
             break;
         }
-        offset = record.end;
     }
     found
 }
 
-/// How far a file is read after its header.
-struct Progress {
-    header: Header,
-    matrices_given: [bool; 2],
-    /// The next address.
-    next: usize,
-    slice: Option<SliceState>,
-}
-
-impl Progress {
-    /// Reads a record, and gives the arrangement of a macroblock record. Vectors that don't fit are not refused here.
-    fn read(&mut self, record: Record) -> Result<Option<Arrangement>, Refusal> {
-        match (record.kind, self.slice.take()) {
-            (MATRIX, None) => {
-                let (which, _) = matrix(record.body, self.matrices_given)?;
-                self.matrices_given[which] = true;
-                Ok(None)
-            }
-            (SLICE, before) => {
-                let in_turn = before.is_none_or(|before| before.last != Last::None);
-                require(in_turn, Refusal::OutOfTurn)?;
-                let scale = slice(record.body, self.next)?;
-                self.slice = Some(SliceState::start(scale));
-                Ok(None)
-            }
-            (MACROBLOCK, Some(before)) => self.read_macroblock(record.body, &before).map(Some),
-            _ => Err(Refusal::OutOfTurn),
-        }
-    }
-
-    fn read_macroblock(
-        &mut self,
-        body: &[u8],
-        before: &SliceState,
-    ) -> Result<Arrangement, Refusal> {
-        let Header {
-            size, picture_type, ..
-        } = self.header;
-        let read = macroblock(body, &self.header, self.next, before)?;
-        let repeated = match picture_type {
-            PictureType::B => skip_vectors(picture_type, before.last),
-            _ => [None; 2],
-        };
-        let has_vector = body[0] & 6 != 0;
-        let own = if has_vector { read.vectors } else { [None; 2] };
-        let own_address = self.next + read.skipped;
-        let skipped = self.next..own_address;
-        let outside = |address, vectors| past_outside(&self.header, before, address, vectors);
-        let arrangement = Arrangement {
-            picture_type,
-            full_pel: self.header.directions.map(|direction| direction.full_pel),
-            skipped: skipped.clone().map(|at| fit(size, at, repeated)).collect(),
-            own: fit(size, own_address, own),
-            intra: read.intra,
-            past_outside: skipped.clone().any(|at| outside(at, repeated))
-                || outside(own_address, own),
-        };
-        self.next = own_address + 1;
-        self.slice = Some(read.after);
-        Ok(arrangement)
+/// The arrangement of a macroblock record that reads so.
+fn arrangement(record: &MacroblockRecord, read: &Macroblock) -> Arrangement {
+    let Header {
+        size,
+        picture_type,
+        directions,
+    } = record.header;
+    let repeated = match picture_type {
+        PictureType::B => skip_vectors(picture_type, record.before.last),
+        _ => [None; 2],
+    };
+    let has_vector = record.body[0] & 6 != 0;
+    let own = if has_vector { read.vectors } else { [None; 2] };
+    let own_address = record.next + read.skipped;
+    let mut skipped = record.next..own_address;
+    let outside = |address, vectors| past_outside(record, address, vectors);
+    Arrangement {
+        picture_type,
+        full_pel: directions.map(|direction| direction.full_pel),
+        skipped: skipped.clone().map(|at| fit(size, at, repeated)).collect(),
+        own: fit(size, own_address, own),
+        intra: read.intra,
+        past_outside: skipped.any(|at| outside(at, repeated)) || outside(own_address, own),
     }
 }
 
@@ -151,9 +102,12 @@ fn fit(size: Size, address: usize, vectors: Vectors) -> [Fit; 2] {
 }
 
 /// Whether, in a direction that a macroblock with these vectors doesn't use, the past before the record doesn't fit.
-fn past_outside(header: &Header, before: &SliceState, address: usize, vectors: Vectors) -> bool {
+fn past_outside(record: &MacroblockRecord, address: usize, vectors: Vectors) -> bool {
+    let Header {
+        size, directions, ..
+    } = record.header;
     (0..2).any(|way| {
-        let past = header.directions[way].used(before.vector_pasts[way]);
-        vectors[way].is_none() && !fits(header.size, address, past)
+        let past = directions[way].used(record.before.vector_pasts[way]);
+        vectors[way].is_none() && !fits(size, address, past)
     })
 }

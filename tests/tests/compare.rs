@@ -3,6 +3,7 @@
 use format3_tests::compare::{
     changed_fields, coefficients, headers, pictures, transforms, vectors,
 };
+use format3_tests::compare_blocks::blocks;
 use format3_tests::compare_misfits::misfits;
 use format3_tests::compare_room_slices::room_slices;
 use format3_tests::compare_slices::{
@@ -19,6 +20,7 @@ const SEED: u64 = 2;
 fn compare(tested: &Entries) -> Result<(), String> {
     pictures(tested, SEED, 200)?;
     misfits(tested, SEED)?;
+    blocks(tested, SEED)?;
     transforms(tested, SEED, 200)?;
     headers(tested)?;
     changed_fields(tested, SEED)?;

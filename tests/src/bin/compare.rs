@@ -8,6 +8,7 @@ use format3_tests::compare::{
     changed_fields, coefficients, header_answers, headers, panel, picture_answers, pictures,
     require_every_answer, transforms, vectors,
 };
+use format3_tests::compare_blocks::{blocks, Blocks};
 use format3_tests::compare_misfits::{misfits, Misfits};
 use format3_tests::compare_room_slices::room_slices;
 use format3_tests::compare_slices::{
@@ -66,6 +67,9 @@ fn compare_entries(count: u64, seed: u64) -> Result<(), String> {
     } = misfits(&ENTRIES, seed)?;
     let occurred = arrangements.len();
     println!("{occurred} arrangements of vectors that fit or don't, by answer: {answers:?}");
+    let Blocks { answers, stages } = blocks(&ENTRIES, seed)?;
+    let occurred = stages.len();
+    println!("{occurred} stages of blocks, pair by pair, by answer: {answers:?}");
     compare_slices(10 * count, seed)
 }
 

@@ -30,6 +30,12 @@ pub const DEFAULT_INTRA_MATRIX: Block = [
 
 pub const DEFAULT_NON_INTRA_MATRIX: Block = [16; 64];
 
+/// The raster index, 8 × row + column, of a zigzag position below 64.
+pub fn raster_index(position: usize) -> usize {
+    let index = SCAN.iter().position(|scanned| *scanned == position);
+    index.expect("the scan has every position")
+}
+
 /// Reorders 64 numbers from zigzag order to row by row.
 pub fn from_zigzag(zigzag: &Block) -> Block {
     SCAN.map(|position| zigzag[position])

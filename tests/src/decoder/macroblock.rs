@@ -1,6 +1,9 @@
 //! "The Format 3 file", kind 4: the fields of a macroblock record, "each tested when read".
 
-use super::coefficients::{Block, FIRST_DC_PAST};
+use super::coefficients::{
+    coefficients, intra_ac, non_intra, Block, DEFAULT_INTRA_MATRIX, DEFAULT_NON_INTRA_MATRIX,
+    FIRST_DC_PAST,
+};
 use super::file::{Direction, Header, PictureType};
 use super::refusals::{require, Refusal};
 use super::vectors::{code_legal, decoded, f_of, residual_legal, Vector, Vectors};
@@ -93,6 +96,26 @@ pub struct CodedBlock {
     pub dc: Option<i64>,
     /// The levels by zigzag position.
     pub levels: Block,
+}
+
+impl CodedBlock {
+    /// The coefficients, row by row: the levels scaled, and an intra block's DC. The matrices are intra, then non-intra, if given.
+    pub fn coefficients(&self, matrices: [Option<Block>; 2], scale: i64) -> Block {
+        // "It holds for this picture only; without it the standard's default does."
+        let [intra_matrix, non_intra_matrix] = matrices;
+        let Some(dc) = self.dc else {
+            let matrix = non_intra_matrix.unwrap_or(DEFAULT_NON_INTRA_MATRIX);
+            return coefficients(&self.levels, &matrix, |level, weight| {
+                non_intra(level, scale, weight)
+            });
+        };
+        let matrix = intra_matrix.unwrap_or(DEFAULT_INTRA_MATRIX);
+        let mut coefficients = coefficients(&self.levels, &matrix, |level, weight| {
+            intra_ac(level, scale, weight)
+        });
+        coefficients[0] = dc;
+        coefficients
+    }
 }
 
 /// The unread part of the body. "A field that isn't wholly inside its record is refused by 6."

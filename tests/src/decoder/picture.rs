@@ -1,10 +1,8 @@
 //! Makes a picture from the records of a file: the order of the tests, and what a refusal leaves.
 
-use super::coefficients::{
-    coefficients, intra_ac, non_intra, Block, DEFAULT_INTRA_MATRIX, DEFAULT_NON_INTRA_MATRIX,
-};
+use super::coefficients::Block;
 use super::file::{self, Header, PictureType};
-use super::macroblock::{component, macroblock, CodedBlock, Last, Macroblock, SliceState};
+use super::macroblock::{component, macroblock, Last, Macroblock, SliceState};
 use super::refusals::{require, Answer, Refusal};
 use super::transform::inverse_transform;
 use super::vectors::{fits, prediction, Vector, Vectors};
@@ -146,34 +144,14 @@ impl Picture<'_> {
         for address in skipped {
             self.write(header, address, skip, &[const { None }; 6]);
         }
-        let residues = read
-            .blocks
-            .map(|block| Some(self.residue(&block?, read.intra, read.after.scale)));
+        let residues = read.blocks.map(|block| {
+            let coefficients = block?.coefficients(self.matrices, read.after.scale);
+            Some(inverse_transform(&coefficients))
+        });
         self.write(header, own, read.vectors, &residues);
         self.slice = Some(read.after);
         self.made = own + 1;
         Ok(())
-    }
-
-    /// The block's coefficients, transformed.
-    fn residue(&self, block: &CodedBlock, intra: bool, scale: i64) -> Block {
-        // "It holds for this picture only; without it the standard's default does."
-        let [intra_matrix, non_intra_matrix] = self.matrices;
-        let mut coefficients = if intra {
-            let matrix = intra_matrix.unwrap_or(DEFAULT_INTRA_MATRIX);
-            coefficients(&block.levels, &matrix, |level, weight| {
-                intra_ac(level, scale, weight)
-            })
-        } else {
-            let matrix = non_intra_matrix.unwrap_or(DEFAULT_NON_INTRA_MATRIX);
-            coefficients(&block.levels, &matrix, |level, weight| {
-                non_intra(level, scale, weight)
-            })
-        };
-        if let Some(dc) = block.dc {
-            coefficients[0] = dc;
-        }
-        inverse_transform(&coefficients)
     }
 
     /// "Prediction (0 for intra) plus residue is limited to 0..255", at every pel of the macroblock's six blocks.

@@ -1,5 +1,6 @@
 //! Makes cases for both decoders from a seed: single pictures, reels and raw slices, legal and damaged.
 
+mod blocks;
 mod cases;
 pub mod codes;
 mod damage;
@@ -12,6 +13,7 @@ mod slice_damage;
 mod slice_edges;
 mod slices;
 
+pub use blocks::{all_stages, stage_cases, Fault, Next, Pairs, Scaled, Stage};
 pub use cases::{case, small_cases, Case};
 pub use file::File;
 pub use misfits::{all_arrangements, misfit_cases, Arrangement, Fit};

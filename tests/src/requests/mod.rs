@@ -27,6 +27,10 @@ pub const LANDED: &[Landed] = &[
         request: 2,
         files: &[],
     },
+    Landed {
+        request: 3,
+        files: &[],
+    },
 ];
 
 /// A request that has landed, and its files of cases.
