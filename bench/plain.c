@@ -14,7 +14,7 @@ struct plain_census plain_census;
 #define COUNT(what) ((void)0)
 #endif
 
-/* Whether levels land bare and a second pass over the block scales them; if not, each is scaled as it lands. */
+/* Whether levels land unscaled and a second pass over the block scales them; if not, each is scaled as it lands. */
 #ifdef PLAIN_SECOND_PASS
 enum { SECOND_PASS = true };
 #else

@@ -77,8 +77,9 @@ fn whole(matrices: [Option<Block>; 2], read: &Macroblock) -> Vec<Stage> {
 
 /// The stage of the block that has the first pair with a fault.
 fn refused(body: &[u8]) -> Option<Stage> {
-    let intra = *body.first()? & 16 != 0;
-    let (fields, difference) = if intra { (3, 2) } else { (4, 0) };
+    let macroblock_type = *body.first()?;
+    let intra = macroblock_type == 16;
+    let (fields, difference) = lengths_before(macroblock_type);
     let mut left = body.get(fields..)?;
     loop {
         let (count, pairs) = left.get(difference..)?.split_first()?;
@@ -90,6 +91,15 @@ fn refused(body: &[u8]) -> Option<Stage> {
                 next: Next::Refused(fault),
             });
         }
+    }
+}
+
+/// How many bytes come before the blocks of a macroblock of type 8 or 16, and in each block before its count of pairs.
+pub fn lengths_before(macroblock_type: u8) -> (usize, usize) {
+    if macroblock_type == 16 {
+        (3, 2)
+    } else {
+        (4, 0)
     }
 }
 

@@ -2,17 +2,19 @@
 //! missing, every pair shows, and wrong decoders are found.
 
 mod common;
+mod found;
 
 use std::collections::BTreeSet;
 
 use common::{file_of, I, SLICE};
-use format3_tests::compare_blocks::{blocks, require_every_stage, stages};
+use format3_tests::compare_blocks::{blocks, lengths_before, require_every_stage, stages};
 use format3_tests::decoder::coefficients::{raster_index, Block};
 use format3_tests::decoder::file::header;
 use format3_tests::decoder::macroblock::{macroblock, SliceState};
-use format3_tests::decoder::{reconstruct, Answer, Entries, Reconstruct, ENTRIES};
+use format3_tests::decoder::{reconstruct, Answer, Reconstruct, ENTRIES};
 use format3_tests::generator::{all_stages, stage_cases, Case, Fault, Next, Pairs, Scaled, Stage};
 use format3_tests::records::macroblock_records;
+use found::require_found;
 
 const SEED: u64 = 1;
 
@@ -161,7 +163,7 @@ fn pairs_land_at_every_raster_index() {
 }
 
 /// An intra macroblock whose first block has pairs; in legal ones, five blocks without pairs follow. The slice after it is not read:
-/// its start is past, or the macroblock is refused.
+/// it starts at an address already made, or the macroblock is refused.
 #[test]
 fn stages_are_told_from_the_file() {
     let told = |blocks: &[u8]| {
@@ -204,7 +206,7 @@ fn stages_are_told_from_the_file() {
 fn last_levels(file: &[u8]) -> [usize; 6] {
     let records = macroblock_records(file);
     let body = records.last().expect("there is a macroblock").body;
-    let (fields, difference) = if body[0] == 16 { (3, 2) } else { (4, 0) };
+    let (fields, difference) = lengths_before(body[0]);
     let mut end = file.len() - body.len() + fields;
     [(); 6].map(|()| {
         end += difference;
@@ -246,18 +248,6 @@ fn each_last_pair_shows() {
     }
 }
 
-fn require_found(name: &str, reconstruct: Reconstruct) {
-    let wrong = Entries {
-        reconstruct,
-        ..ENTRIES
-    };
-    let found = blocks(&wrong, SEED).err().unwrap_or_default();
-    assert!(
-        found.contains("by the one tested"),
-        "{name} was not found: {found}"
-    );
-}
-
 /// Makes the picture of a file, but negates the last level of each whole block in a stage that is `wrong`.
 fn reconstruct_wrong(
     file: &[u8],
@@ -277,29 +267,33 @@ fn reconstruct_wrong(
     (ENTRIES.reconstruct)(&changed, forward, backward, output)
 }
 
-/// Panels whose blocks are wrong in few stages.
+/// Decoders whose blocks are wrong in few stages.
 #[test]
 fn wrong_blocks_are_found() {
     let last_of_64: Reconstruct = |file, forward, backward, output| {
         let wrong = |stage: &Stage| stage.pairs.count == 64;
         reconstruct_wrong(file, [forward, backward], output, wrong)
     };
-    require_found("a wrong 64th pair", last_of_64);
+    require_found("a wrong 64th pair", last_of_64, blocks);
     let last_of_63_intra: Reconstruct = |file, forward, backward, output| {
         let wrong = |stage: &Stage| stage.pairs.intra && stage.pairs.count == 63;
         reconstruct_wrong(file, [forward, backward], output, wrong)
     };
-    require_found("a wrong 63rd pair of an intra block", last_of_63_intra);
+    require_found(
+        "a wrong 63rd pair of an intra block",
+        last_of_63_intra,
+        blocks,
+    );
     let second_after_a_run: Reconstruct = |file, forward, backward, output| {
         let wrong = |stage: &Stage| stage.pairs.run == 29 && stage.pairs.count == 2;
         reconstruct_wrong(file, [forward, backward], output, wrong)
     };
-    require_found("a wrong second pair of run 29", second_after_a_run);
+    require_found("a wrong second pair of run 29", second_after_a_run, blocks);
     let limited: Reconstruct = |file, forward, backward, output| {
         let wrong = |stage: &Stage| stage.next == Next::End(Some(Scaled::Lowest));
         reconstruct_wrong(file, [forward, backward], output, wrong)
     };
-    require_found("a wrong sign of a limited level", limited);
+    require_found("a wrong sign of a limited level", limited, blocks);
 }
 
 /// The answer to a picture, with another number if a pair has a fault.
@@ -318,24 +312,24 @@ fn answer_by(
     Answer { number, ..answer }
 }
 
-/// Panels that answer a refused pair wrongly, or write before they refuse it.
+/// Decoders that answer a refused pair wrongly, or write before they refuse it.
 #[test]
 fn wrong_refusals_are_found() {
     let takes_zero: Reconstruct = |file, forward, backward, output| {
         let number = |fault| (fault == Fault::ZeroLevel).then_some(0);
         answer_by(file, [forward, backward], output, number)
     };
-    require_found("a level of 0 that is taken", takes_zero);
+    require_found("a level of 0 that is taken", takes_zero, blocks);
     let position_as_length: Reconstruct = |file, forward, backward, output| {
         let number = |fault| (fault == Fault::Position).then_some(6);
         answer_by(file, [forward, backward], output, number)
     };
-    require_found("6 for a position past 63", position_as_length);
+    require_found("6 for a position past 63", position_as_length, blocks);
     let cut_as_level: Reconstruct = |file, forward, backward, output| {
         let number = |fault| (fault == Fault::Cut(2)).then_some(16);
         answer_by(file, [forward, backward], output, number)
     };
-    require_found("16 for a level that is cut", cut_as_level);
+    require_found("16 for a level that is cut", cut_as_level, blocks);
     let writes_first: Reconstruct = |file, forward, backward, output| {
         let answer = (ENTRIES.reconstruct)(file, forward, backward, output);
         if answer.number == 16 {
@@ -343,5 +337,5 @@ fn wrong_refusals_are_found() {
         }
         answer
     };
-    require_found("a block written before the refusal", writes_first);
+    require_found("a block written before the refusal", writes_first, blocks);
 }

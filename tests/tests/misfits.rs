@@ -2,12 +2,14 @@
 //! that test the vectors in a wrong order, or too many of them, are found.
 
 mod common;
+mod found;
 
 use common::{file_of, I, SLICE};
 use format3_tests::compare_misfits::{arrangements, misfits, require_every_arrangement};
 use format3_tests::decoder::file::PictureType;
-use format3_tests::decoder::{reconstruct, Answer, Entries, Reconstruct, ENTRIES};
+use format3_tests::decoder::{reconstruct, Answer, Reconstruct, ENTRIES};
 use format3_tests::generator::{misfit_cases, Arrangement, Fit};
+use found::require_found;
 
 const SEED: u64 = 1;
 
@@ -129,39 +131,31 @@ fn last_skipped_first(arrangement: &Arrangement) -> u32 {
     first_misfit(numbered(skipped.chain([arrangement.own])))
 }
 
-fn require_found(name: &str, reconstruct: Reconstruct) {
-    let wrong = Entries {
-        reconstruct,
-        ..ENTRIES
-    };
-    let found = misfits(&wrong, SEED).err().unwrap_or_default();
-    assert!(
-        found.contains("by the one tested"),
-        "{name} was not found: {found}"
-    );
-}
-
 /// Panels that test the vectors of a record in a wrong order.
 #[test]
 fn wrong_orders_are_found() {
     let one_number: Reconstruct =
         |file, forward, backward, output| answer_by(file, [forward, backward], output, |_| 18);
-    require_found("one number for both directions", one_number);
+    require_found("one number for both directions", one_number, misfits);
     let backward_first: Reconstruct = |file, forward, backward, output| {
         answer_by(file, [forward, backward], output, backward_first)
     };
-    require_found("backward before forward", backward_first);
+    require_found("backward before forward", backward_first, misfits);
     let forward_of_all_first: Reconstruct = |file, forward, backward, output| {
         answer_by(file, [forward, backward], output, forward_of_all_first)
     };
-    require_found("all forward vectors first", forward_of_all_first);
+    require_found("all forward vectors first", forward_of_all_first, misfits);
     let own_first: Reconstruct =
         |file, forward, backward, output| answer_by(file, [forward, backward], output, own_first);
-    require_found("its own vectors before skipped ones", own_first);
+    require_found("its own vectors before skipped ones", own_first, misfits);
     let last_skipped_first: Reconstruct = |file, forward, backward, output| {
         answer_by(file, [forward, backward], output, last_skipped_first)
     };
-    require_found("skipped macroblocks from the last", last_skipped_first);
+    require_found(
+        "skipped macroblocks from the last",
+        last_skipped_first,
+        misfits,
+    );
 }
 
 /// The answer to a picture, with another number if it is accepted and a record that is `tested` has an unused past that doesn't
@@ -205,13 +199,13 @@ fn tests_of_unused_pasts_are_found() {
     let backward_pasts: Reconstruct = |file, forward, backward, output| {
         answer_by_pasts(file, [forward, backward], output, 23, all_use_forward)
     };
-    require_found("a test of unused backward pasts", backward_pasts);
+    require_found("a test of unused backward pasts", backward_pasts, misfits);
     let forward_pasts: Reconstruct = |file, forward, backward, output| {
         answer_by_pasts(file, [forward, backward], output, 18, all_use_backward)
     };
-    require_found("a test of unused forward pasts", forward_pasts);
+    require_found("a test of unused forward pasts", forward_pasts, misfits);
     let p_pasts: Reconstruct = |file, forward, backward, output| {
         answer_by_pasts(file, [forward, backward], output, 18, predicted_in_p)
     };
-    require_found("a test of unused pasts in P", p_pasts);
+    require_found("a test of unused pasts in P", p_pasts, misfits);
 }

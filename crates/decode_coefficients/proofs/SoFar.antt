@@ -85,7 +85,7 @@ module _ {c : BlockCoding} {matrix : List ℕ} {dc : ℤ} where
     ];
   }
 
-  -- ---- one pair more
+  -- ---- one more pair
   pub one-more : (pairs : List Pair) (pair : Pair) {block : List ℤ} → HoldsSoFar c matrix dc pairs block → nextLevel c pairs pair .position ≤ 63
       → HoldsSoFar c matrix dc (pairs ++ (pair ∷ [])) (withLevel c matrix (nextLevel c pairs pair) block)
   one-more pairs pair {block} h low =
@@ -132,7 +132,7 @@ module _ {c : BlockCoding} {matrix : List ℕ} {dc : ℤ} where
     pub one-block : a ≡ b
     one-block = ext-getD (pos 0) a b (h .full ∙ sym (g .full)) (λ raster low. alike raster (blockLevels c pairs) (h .at-each-pair) (g .at-each-pair) (elsewhere raster))
 
--- one pair more sets one coefficient
+-- one more pair sets one coefficient
 pub one-step : (c : BlockCoding) (matrix : List ℕ) (pairs : List Pair) (pair : Pair) (block : List ℤ)
     → withPairs c matrix (pairs ++ (pair ∷ [])) block ≡ withLevel c matrix (nextLevel c pairs pair) (withPairs c matrix pairs block)
 one-step c matrix pairs pair block = rw (levels-more c pairs pair, with-levels-more c matrix (blockLevels c pairs) (nextLevel c pairs pair) block)

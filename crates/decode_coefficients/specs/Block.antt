@@ -25,7 +25,7 @@ positionedLevels next (p ∷ pairs) = record { position = pairPosition next p; l
 abbrev pub blockLevels : BlockCoding → List Pair → List PositionedLevel
 blockLevels c pairs = positionedLevels (firstPosition (c .intra)) pairs
 
--- the level of one pair more after these, at its position
+-- the level of one more pair after these, at its position
 abbrev pub nextLevel : BlockCoding → List Pair → Pair → PositionedLevel
 nextLevel c pairs pair = record { position = pairPosition (afterPairs (firstPosition (c .intra)) pairs) pair; level = pair .level }
 

@@ -1,6 +1,6 @@
 -- Laws of the macroblock that owns a byte: it is in the picture, and its six blocks are exactly the bytes it owns. Assumes nothing.
-use mathlib.Core.Path.{_≡_, ap, _∙_, sym, subst}
-use mathlib.Core.Bool.{true, false, _&&_}
+use mathlib.Core.Path.{_≡_, refl, ap, _∙_, sym, subst}
+use mathlib.Core.Bool.{true, _&&_}
 use Prim.Native.Nat.{ℕ, _+_, _-_, _*_, _/_, _%_, _≤_, _<_}
 use native.Mathlib.Decide.{decLt}
 use native.Mathlib.Nat.{mod-lt, mul-pos, div-lt-iff-lt-mul, div-add-mod', mul-comm}
@@ -8,6 +8,7 @@ use native.Mathlib.Omega.{arith}
 use borrow.Author.Tests.{lt-ltb, le-ltb, le-leb, leb-true, ltb-true}
 use lib.Arith.{digits-lt, digits-div, digits-mod}
 use lib.Dec.{ltb, leb}
+use Rattle.math.proofs.Test.{clash}
 use Rattle.symbols.specs.declared.size.PictureSize.{PictureSize}
 use Rattle.symbols.specs.Requires.{SizeWithin}
 use Rattle.symbols.specs.Size.{macroblockCount, pictureBytes, startOfCb, startOfCr}
@@ -46,15 +47,12 @@ pub record InPlane (p : BlockLocation) (i : ℕ) : Type 0 where
 pub in-location : (p : BlockLocation) (i : ℕ) → inLocation p i ≡ true → InPlane p i
 unfolding inLocation
 in-location p i e = elim (decLt i (p .from)) [
-  | yes h ↦ absurd (never (rw (lt-ltb i (p .from) h) at e))
+  | yes h ↦ clash (rw (lt-ltb i (p .from) h) at e) refl
   | no h ↦ elim (decLt i (p .to)) [
     | yes k ↦ record { after = omega arith; before = k; square = in-block _ _ _ _ (rw (le-ltb i (p .from) (omega arith), lt-ltb i (p .to) k) at e) }
-    | no k ↦ absurd (never (rw (le-ltb i (p .from) (omega arith), le-ltb i (p .to) (omega arith)) at e))
+    | no k ↦ clash (rw (le-ltb i (p .from) (omega arith), le-ltb i (p .to) (omega arith)) at e) refl
   ]
 ]
-  where
-    never : false ≡ true → ⊥
-    never q = let z : _≡_ {A = ℕ} 0 1 = cc in omega arith
 
 location-in : (p : BlockLocation) (i : ℕ) → InPlane p i → inLocation p i ≡ true
 unfolding inLocation

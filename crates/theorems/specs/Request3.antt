@@ -4,8 +4,8 @@
 -- The pairs of a block are read by the loop of `read_pairs` (crates/format3_macroblock/src/pairs.rt), which calls `store_level` for each pair as it
 -- comes. The contract of `store_level` is `withLevel`: the block with one coefficient set. The invariant of the loop is `HoldsSoFar`, for the pairs
 -- read so far (`BetweenPairs`, crates/format3_macroblock/proofs/Laws/Landing.antt). The contract of `read_pairs` has the block that it returns, for any
--- count of pairs and also if one is refused (`blockRead`). A contract says nothing about how often a block is gone over; the code shows that.
--- Pictures are defined by `coefficientsOf`, so no answer, byte or refusal depends on any of this.
+-- count of pairs and also if one is refused (`blockRead`). A contract cannot say how often the code passes over a block; the code shows that.
+-- A picture's definition uses only the finished block (`coefficientsOf`), so when a level is scaled affects no answer, byte or refusal.
 use mathlib.Core.Bool.{true, false}
 use mathlib.Core.List.{List, [], _∷_, _++_}
 use mathlib.Core.Path.{_≡_}
@@ -32,7 +32,7 @@ AfterEachPair =
     (c : BlockCoding) (matrix : List ℕ) (past difference : ℤ) (pairs : List Pair) → PairsInside c pairs
     → (k : ℕ) → HoldsSoFar c matrix (dcOf (c .intra) past difference) (take k pairs) (coefficientsOf c matrix past (coded difference (take k pairs)))
 
--- "scale each level as it lands": one pair more sets one coefficient, to the scaled level, and leaves the others
+-- "scale each level as it lands": one more pair sets one coefficient, to the scaled level, and leaves the others
 abbrev pub ScaledAsItLands : Type 0
 ScaledAsItLands =
     (c : BlockCoding) (matrix : List ℕ) (past difference : ℤ) (pairs : List Pair) (pair : Pair)
@@ -50,7 +50,7 @@ NoCollision = (c : BlockCoding) (pairs : List Pair) (pair : Pair) → PairsInsid
 pub record HoldsWhileReading (c : BlockCoding) (matrix : List ℕ) (past difference : ℤ) (bytes : List ℕ) : Type 0 where
   -- a reader that takes at most k pairs returns a block that holds them
   pub holds : (k : ℕ) → HoldsSoFar c matrix (dcOf (c .intra) past difference) (pairsBeforeRefusal k (firstPosition (c .intra)) bytes) (blockRead c matrix k bytes (dcBlock (dcOf (c .intra) past difference)))
-  -- they are the first k of those that it takes if it takes more
+  -- they are the first k of those that it takes with a larger count
   pub first-ones : (k count : ℕ) → k ≤ count → pairsBeforeRefusal k (firstPosition (c .intra)) bytes ≡ take k (pairsBeforeRefusal count (firstPosition (c .intra)) bytes)
   -- if none is refused, the block is the one that goes into the transform
   pub whole :
@@ -61,7 +61,7 @@ abbrev pub WhileReading : Type 0
 WhileReading = (c : BlockCoding) (matrix : List ℕ) (past difference : ℤ) (bytes : List ℕ) → HoldsWhileReading c matrix past difference bytes
 
 -- ---- two blocks worked
--- a block of 0 but for the first two coefficients of its first three rows
+-- a block that is 0 except for the first two coefficients of its first three rows
 abbrev row : ℤ → ℤ → List ℤ
 row a b = a ∷ b ∷ replicate 6 (pos 0)
 

@@ -1,7 +1,7 @@
 -- The body of a record whose symbols are within their ranges consists of bytes. Assumes nothing.
 use mathlib.Core.Bool.{Bool, true, false, cond}
 use mathlib.Core.List.{List, [], _∷_, _++_}
-use mathlib.Core.Path.{_≡_, sym, _∙_}
+use mathlib.Core.Path.{_≡_, refl, _∙_}
 use Prim.Native.Nat.{ℕ, _+_, _/_, _%_, _<_, _≤_}
 use native.Mathlib.Decide.{decLe}
 use native.Mathlib.Omega.{arith}
@@ -11,6 +11,7 @@ use lib.IntN.{ℤ, pos}
 use lib.ListN.{length}
 use mir.Syntax.{w8}
 use prog.Model.{AllFit}
+use Rattle.math.proofs.Test.{clash}
 use Rattle.math.specs.Joined.{joined}
 use Rattle.math.specs.Limit.{eqZ}
 use Rattle.symbols.specs.declared.slice.SliceHeader.{SliceHeader}
@@ -37,7 +38,6 @@ use Rattle.format3_writer.proofs.Laws.Bytes.{complement-below}
 use Rattle.format3_writer.specs.Records.{sliceBody, pairBytes, pairsBytes, levelsBytes, differenceBytes, blockBytes, blocksBytes, headBytes, vectorCodeBytes, vectorCodesBytes, givenVectorCodesBytes, patternBytes, macroblockBody}
 use Rattle.theorems_records.specs.FieldFit.{WhereGiven}
 use Rattle.theorems_records.specs.Legal.{LegalSlice, LegalCode, LegalCodes, LegalSymbols, LegalPairs, LegalBlock, LegalBlocks, LegalMacroblock}
-use Rattle.theorems_records.proofs.Framed.{never}
 use Rattle.theorems_records.proofs.Legal.{code-fits}
 
 -- ---- one part after the other
@@ -73,7 +73,7 @@ type-small coding type legal = go (decLe type 31)
   where
     go : Dec (type ≤ 31) → type < 256
     go (yes h) = omega arith
-    go (no h) = absurd (never (sym (types-above coding type (omega arith) ∙ legal)))
+    go (no h) = clash (types-above coding type (omega arith) ∙ legal) refl
 
 -- ---- codes
 module _ (f : ℕ) (most : f ≤ 256) where

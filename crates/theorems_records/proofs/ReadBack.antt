@@ -1,7 +1,7 @@
 -- Parts that the writer wrote are read back: a law for each way to put parsers together, and one for each field. Assumes nothing.
 use mathlib.Core.Bool.{Bool, true, false, cond}
 use mathlib.Core.List.{List, [], _∷_, _++_}
-use mathlib.Core.Path.{_≡_, refl, sym, ap, _∙_}
+use mathlib.Core.Path.{_≡_, refl, ap, _∙_}
 use Prim.Native.Nat.{ℕ, suc, _+_, _-_, _*_, _/_, _%_, _<_}
 use native.Mathlib.Omega.{arith}
 use borrow.Author.Tests.{lt-ltb, le-ltb}
@@ -9,6 +9,7 @@ use lib.IntN.{ℤ, pos, negsuc, negℤ, _+ℤ_}
 use lib.Signed.{mag}
 use mir.Syntax.{w8, w16}
 use mir.Val.{Fits, SFits}
+use Rattle.math.proofs.Test.{clash}
 use Rattle.math.proofs.Difference.{up, dn, parts-add, parts-neg, same-of}
 use Rattle.refusals.specs.declared.Refusal.{Refusal}
 use Rattle.refusals.specs.Refusal.{numberOf}
@@ -20,7 +21,7 @@ use Rattle.format3_writer.specs.Bytes as Bytes
 use Rattle.format3_writer.proofs.Laws.Bytes.{complement-below}
 use Rattle.theorems_records.specs.FieldFit.{WhereGiven}
 use Rattle.theorems_records.specs.ReadBack.{ReadBack, back, other}
-use Rattle.theorems_records.proofs.Framed.{framing, never, framed}
+use Rattle.theorems_records.proofs.Framed.{framing, framed}
 
 module _ {A : Type 0} {P : A → Type 0} {Legal : Type 0} {behind : List ℕ} where
   pub back-then : {B : Type 0} {Q : B → Type 0} {Before : Type 0} {rest : List ℕ} {x : Parsed B} (f : B → Parser A) → ReadBack Q Before rest x → (Legal → Before)
@@ -32,7 +33,7 @@ module _ {A : Type 0} {P : A → Type 0} {Legal : Type 0} {behind : List ℕ} wh
       → (test ≡ true → ReadBack P Legal behind (p bytes)) → ReadBack P Legal behind ((require test else refuse refusal then p) bytes)
   unfolding require_else_then_
   back-need true refusal p bytes o l r = r refl
-  back-need false refusal p bytes o l r = other (framed _ o) (λ legal. never (sym (l legal)))
+  back-need false refusal p bytes o l r = other (framed _ o) (λ legal. clash (l legal) refl)
 
   pub back-more : {Q : A → Type 0} {x : Parsed A} → ReadBack Q Legal behind x → ((a : A) → Q a → P a) → ReadBack P Legal behind x
   back-more (back q) r = back (r _ q)

@@ -1,5 +1,5 @@
-//! Makes blocks pair by pair: for each count of pairs, a block that has just the first so many of a list, and blocks in which the
-//! next pair is refused.
+//! Makes blocks pair by pair: for each count n, a block with exactly the first n pairs of a list, and blocks in which the next pair
+//! is refused.
 
 use super::cases::{lent, Case};
 use super::file::File;
@@ -79,8 +79,8 @@ const FAULTS: [Fault; 7] = {
     ]
 };
 
-/// Every stage that must occur: all that a block can have whose pairs have the same run, except that a last level is limited only if
-/// it is the only one.
+/// Every stage that must occur: all stages of blocks whose pairs have the same run, except that a last level is limited only if it
+/// is the only one.
 pub fn all_stages() -> Vec<Stage> {
     let each = [false, true].into_iter().flat_map(all_pairs);
     let stages = |pairs: Pairs| {
@@ -92,7 +92,8 @@ pub fn all_stages() -> Vec<Stage> {
     each.flat_map(stages).collect()
 }
 
-/// All pairs that a block has room for. For each run, their count falls, so that a coefficient that a block leaves to the next shows.
+/// All pairs that a block has room for. For each run, their count falls, so that a coefficient left over from one block shows in the
+/// next.
 fn all_pairs(intra: bool) -> Vec<Pairs> {
     let most = most_pairs(intra);
     let pairs = |run, count| Pairs { intra, run, count };
