@@ -23,13 +23,6 @@
 #include "job.h"
 #include "plain.h"
 
-typedef uint32_t reconstruct_function(
-    const uint8_t *file, size_t file_length,
-    const uint8_t *forward, size_t forward_length,
-    const uint8_t *backward, size_t backward_length,
-    uint8_t *output, size_t output_length,
-    struct format3_picture_result *result);
-
 struct decoder {
     /* WHO on the command line. */
     const char *word;

@@ -8,30 +8,22 @@
 
 #include "format3.h"
 
-/* Like format3_reconstruct. */
-uint32_t plain_reconstruct(
+/* What format3_reconstruct is. */
+typedef uint32_t reconstruct_function(
     const uint8_t *file, size_t file_length,
     const uint8_t *forward, size_t forward_length,
     const uint8_t *backward, size_t backward_length,
     uint8_t *output, size_t output_length,
     struct format3_picture_result *result);
+
+reconstruct_function plain_reconstruct;
 
 /* The same with a second pass over each block, which scales its levels: plain.c, compiled with PLAIN_SECOND_PASS and other
  * public names. */
-uint32_t second_pass_reconstruct(
-    const uint8_t *file, size_t file_length,
-    const uint8_t *forward, size_t forward_length,
-    const uint8_t *backward, size_t backward_length,
-    uint8_t *output, size_t output_length,
-    struct format3_picture_result *result);
+reconstruct_function second_pass_reconstruct;
 
 /* The same with a second pass that skips zeros: compiled with PLAIN_SKIPS_ZEROS too. */
-uint32_t skipping_pass_reconstruct(
-    const uint8_t *file, size_t file_length,
-    const uint8_t *forward, size_t forward_length,
-    const uint8_t *backward, size_t backward_length,
-    uint8_t *output, size_t output_length,
-    struct format3_picture_result *result);
+reconstruct_function skipping_pass_reconstruct;
 
 /* Like format3_read_slice. */
 uint32_t plain_read_slice(

@@ -1,50 +1,24 @@
 //! Compares pictures with blocks pair by pair.
 
-use std::collections::BTreeMap;
-
-use crate::compare::{same_picture, Counts};
+use crate::compare_cases::{compare_cases, require_every, Compared, KindCounts};
 use crate::decoder::coefficients::{raster_index, Block};
 use crate::decoder::macroblock::{CodedBlock, Macroblock};
 use crate::decoder::Entries;
 use crate::generator::{all_stages, stage_cases, Fault, Next, Pairs, Scaled, Stage};
 use crate::records::{macroblock_records, MacroblockRecord};
 
-/// How often each stage occurred.
-pub type StageCounts = BTreeMap<Stage, usize>;
-
-/// What was compared.
-pub struct Blocks {
-    pub answers: Counts,
-    pub stages: StageCounts,
-}
-
 /// Compares pictures with blocks in each stage. Also fails if a stage never occurred, told from the file as the other decoder reads
 /// it.
-pub fn blocks(tested: &Entries, seed: u64) -> Result<Blocks, String> {
-    let mut answers = Counts::new();
-    let mut counts = StageCounts::new();
-    for (number, case) in stage_cases(seed).iter().enumerate() {
-        let what = || format!("picture {number} of blocks of seed {seed}");
-        let answer = same_picture(tested, case, what)?;
-        *answers.entry(answer).or_default() += 1;
-        for stage in stages(&case.file) {
-            *counts.entry(stage).or_default() += 1;
-        }
-    }
-    require_every_stage(&counts)?;
-    Ok(Blocks {
-        answers,
-        stages: counts,
-    })
+pub fn blocks(tested: &Entries, seed: u64) -> Result<Compared<Stage>, String> {
+    let told = |number| format!("picture {number} of blocks of seed {seed}");
+    let compared = compare_cases(tested, &stage_cases(seed), told, stages)?;
+    require_every_stage(&compared.kinds)?;
+    Ok(compared)
 }
 
 /// Fails if a stage never occurred.
-pub fn require_every_stage(counts: &StageCounts) -> Result<(), String> {
-    let mut all = all_stages().into_iter();
-    match all.find(|stage| !counts.contains_key(stage)) {
-        Some(stage) => Err(format!("no block has {stage:?}")),
-        None => Ok(()),
-    }
+pub fn require_every_stage(counts: &KindCounts<Stage>) -> Result<(), String> {
+    require_every("block", all_stages(), counts)
 }
 
 /// The stages of a file's blocks, up to the first pair that is refused; blocks whose pairs have different runs are left out. In a

@@ -1,8 +1,6 @@
 //! Compares pictures with every arrangement of vectors that fit and vectors that don't.
 
-use std::collections::BTreeMap;
-
-use crate::compare::{same_picture, Counts};
+use crate::compare_cases::{compare_cases, require_every, Compared, KindCounts};
 use crate::decoder::file::{Header, PictureType};
 use crate::decoder::macroblock::Macroblock;
 use crate::decoder::picture::skip_vectors;
@@ -12,42 +10,18 @@ use crate::decoder::Entries;
 use crate::generator::{all_arrangements, misfit_cases, Arrangement, Fit};
 use crate::records::{macroblock_records, MacroblockRecord};
 
-/// How often each arrangement occurred.
-pub type ArrangementCounts = BTreeMap<Arrangement, usize>;
-
-/// What was compared.
-pub struct Misfits {
-    pub answers: Counts,
-    pub arrangements: ArrangementCounts,
-}
-
 /// Compares a picture for each arrangement. Also fails if an arrangement never occurred, told from the file as the other decoder
 /// reads it.
-pub fn misfits(tested: &Entries, seed: u64) -> Result<Misfits, String> {
-    let mut answers = Counts::new();
-    let mut counts = ArrangementCounts::new();
-    for (number, case) in misfit_cases(seed).iter().enumerate() {
-        let what = || format!("misfit {number} of seed {seed}");
-        let answer = same_picture(tested, case, what)?;
-        *answers.entry(answer).or_default() += 1;
-        for arrangement in arrangements(&case.file) {
-            *counts.entry(arrangement).or_default() += 1;
-        }
-    }
-    require_every_arrangement(&counts)?;
-    Ok(Misfits {
-        answers,
-        arrangements: counts,
-    })
+pub fn misfits(tested: &Entries, seed: u64) -> Result<Compared<Arrangement>, String> {
+    let told = |number| format!("misfit {number} of seed {seed}");
+    let compared = compare_cases(tested, &misfit_cases(seed), told, arrangements)?;
+    require_every_arrangement(&compared.kinds)?;
+    Ok(compared)
 }
 
 /// Fails if an arrangement never occurred.
-pub fn require_every_arrangement(counts: &ArrangementCounts) -> Result<(), String> {
-    let mut all = all_arrangements().into_iter();
-    match all.find(|arrangement| !counts.contains_key(arrangement)) {
-        Some(arrangement) => Err(format!("no record has {arrangement:?}")),
-        None => Ok(()),
-    }
+pub fn require_every_arrangement(counts: &KindCounts<Arrangement>) -> Result<(), String> {
+    require_every("record", all_arrangements(), counts)
 }
 
 /// The arrangements of a file's macroblock records, up to the first record that is refused. If that is because a vector doesn't

@@ -11,7 +11,7 @@ use format3_tests::compare_blocks::{blocks, lengths_before, require_every_stage,
 use format3_tests::decoder::coefficients::{raster_index, Block};
 use format3_tests::decoder::file::header;
 use format3_tests::decoder::macroblock::{macroblock, SliceState};
-use format3_tests::decoder::{reconstruct, Answer, Reconstruct, ENTRIES};
+use format3_tests::decoder::{reconstruct, Answer, Entries, Reconstruct, ENTRIES};
 use format3_tests::generator::{all_stages, stage_cases, Case, Fault, Next, Pairs, Scaled, Stage};
 use format3_tests::records::macroblock_records;
 use found::require_found;
@@ -141,7 +141,7 @@ fn missing_stages_are_reported() {
     assert_eq!(all.len(), whole + refused);
     let made = blocks(&ENTRIES, SEED).expect("the decoder is itself");
     for missing in all.iter().step_by(97) {
-        let mut counts = made.stages.clone();
+        let mut counts = made.kinds.clone();
         counts.remove(missing);
         let told = format!("no block has {missing:?}");
         assert_eq!(require_every_stage(&counts), Err(told));
@@ -152,7 +152,7 @@ fn missing_stages_are_reported() {
 #[test]
 fn pairs_land_at_every_raster_index() {
     let made = blocks(&ENTRIES, SEED).expect("the decoder is itself");
-    let landed = made.stages.keys().filter_map(|stage| {
+    let landed = made.kinds.keys().filter_map(|stage| {
         let Next::End(Some(scaled)) = stage.next else {
             return None;
         };
@@ -248,6 +248,15 @@ fn each_last_pair_shows() {
     }
 }
 
+/// The comparison must find a decoder with this `reconstruct`.
+fn require_wrong_found(name: &str, reconstruct: Reconstruct) {
+    let wrong = Entries {
+        reconstruct,
+        ..ENTRIES
+    };
+    require_found(name, blocks(&wrong, SEED));
+}
+
 /// Makes the picture of a file, but negates the last level of each whole block in a stage that is `wrong`.
 fn reconstruct_wrong(
     file: &[u8],
@@ -274,26 +283,22 @@ fn wrong_blocks_are_found() {
         let wrong = |stage: &Stage| stage.pairs.count == 64;
         reconstruct_wrong(file, [forward, backward], output, wrong)
     };
-    require_found("a wrong 64th pair", last_of_64, blocks);
+    require_wrong_found("a wrong 64th pair", last_of_64);
     let last_of_63_intra: Reconstruct = |file, forward, backward, output| {
         let wrong = |stage: &Stage| stage.pairs.intra && stage.pairs.count == 63;
         reconstruct_wrong(file, [forward, backward], output, wrong)
     };
-    require_found(
-        "a wrong 63rd pair of an intra block",
-        last_of_63_intra,
-        blocks,
-    );
+    require_wrong_found("a wrong 63rd pair of an intra block", last_of_63_intra);
     let second_after_a_run: Reconstruct = |file, forward, backward, output| {
         let wrong = |stage: &Stage| stage.pairs.run == 29 && stage.pairs.count == 2;
         reconstruct_wrong(file, [forward, backward], output, wrong)
     };
-    require_found("a wrong second pair of run 29", second_after_a_run, blocks);
+    require_wrong_found("a wrong second pair of run 29", second_after_a_run);
     let limited: Reconstruct = |file, forward, backward, output| {
         let wrong = |stage: &Stage| stage.next == Next::End(Some(Scaled::Lowest));
         reconstruct_wrong(file, [forward, backward], output, wrong)
     };
-    require_found("a wrong sign of a limited level", limited, blocks);
+    require_wrong_found("a wrong sign of a limited level", limited);
 }
 
 /// The answer to a picture, with another number if a pair has a fault.
@@ -319,17 +324,17 @@ fn wrong_refusals_are_found() {
         let number = |fault| (fault == Fault::ZeroLevel).then_some(0);
         answer_by(file, [forward, backward], output, number)
     };
-    require_found("a level of 0 that is taken", takes_zero, blocks);
+    require_wrong_found("a level of 0 that is taken", takes_zero);
     let position_as_length: Reconstruct = |file, forward, backward, output| {
         let number = |fault| (fault == Fault::Position).then_some(6);
         answer_by(file, [forward, backward], output, number)
     };
-    require_found("6 for a position past 63", position_as_length, blocks);
+    require_wrong_found("6 for a position past 63", position_as_length);
     let cut_as_level: Reconstruct = |file, forward, backward, output| {
         let number = |fault| (fault == Fault::Cut(2)).then_some(16);
         answer_by(file, [forward, backward], output, number)
     };
-    require_found("16 for a level that is cut", cut_as_level, blocks);
+    require_wrong_found("16 for a level that is cut", cut_as_level);
     let writes_first: Reconstruct = |file, forward, backward, output| {
         let answer = (ENTRIES.reconstruct)(file, forward, backward, output);
         if answer.number == 16 {
@@ -337,5 +342,5 @@ fn wrong_refusals_are_found() {
         }
         answer
     };
-    require_found("a block written before the refusal", writes_first, blocks);
+    require_wrong_found("a block written before the refusal", writes_first);
 }

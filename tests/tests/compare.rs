@@ -1,5 +1,7 @@
 //! Tests the comparison itself: it finds no difference between the other decoder and itself, but finds wrong implementations.
 
+mod found;
+
 use format3_tests::compare::{
     changed_fields, coefficients, headers, pictures, transforms, vectors,
 };
@@ -13,6 +15,7 @@ use format3_tests::decoder::{
     Answer, Entries, FileStart, Given, ReadHeader, ReadSlice, Reconstruct, SliceAnswer, ENTRIES,
 };
 use format3_tests::generator::{record_ends, ROOM};
+use found::require_found;
 
 const SEED: u64 = 2;
 
@@ -38,10 +41,6 @@ fn compare(tested: &Entries) -> Result<(), String> {
 #[test]
 fn the_decoder_is_itself() {
     assert_eq!(compare(&ENTRIES), Ok(()));
-}
-
-fn require_found(name: &str, wrong: Entries) {
-    assert!(compare(&wrong).is_err(), "{name} was not found");
 }
 
 /// The wrong implementations that document 01's checklist names.
@@ -81,7 +80,7 @@ fn wrong_panels_are_found() {
             reconstruct,
             ..ENTRIES
         };
-        require_found(name, wrong);
+        require_found(name, compare(&wrong));
     }
 }
 
@@ -91,7 +90,7 @@ fn wrong_entries_are_found() {
         transform: |_| (0, [0; 64]),
         ..ENTRIES
     };
-    require_found("a transform of zeros", zeros);
+    require_found("a transform of zeros", compare(&zeros));
     let limited_first = Entries {
         intra_coefficient: |level, scale, weight| {
             let (number, value) = (ENTRIES.intra_coefficient)(level, scale, weight);
@@ -99,12 +98,12 @@ fn wrong_entries_are_found() {
         },
         ..ENTRIES
     };
-    require_found("limiting before the move to odd", limited_first);
+    require_found("limiting before the move to odd", compare(&limited_first));
     let one_rule = Entries {
         non_intra_coefficient: ENTRIES.intra_coefficient,
         ..ENTRIES
     };
-    require_found("the intra rule for non-intra", one_rule);
+    require_found("the intra rule for non-intra", compare(&one_rule));
     let doubled = Entries {
         vector: |f_code, past, code, residual| {
             let (number, vector) = (ENTRIES.vector)(f_code, past, code, residual);
@@ -112,12 +111,12 @@ fn wrong_entries_are_found() {
         },
         ..ENTRIES
     };
-    require_found("a doubled vector", doubled);
+    require_found("a doubled vector", compare(&doubled));
     let first_record = Entries {
         show_record: |file, _| (ENTRIES.show_record)(file, 1),
         ..ENTRIES
     };
-    require_found("the first record for any offset", first_record);
+    require_found("the first record for any offset", compare(&first_record));
     let starts_where_refused = Entries {
         show_record: |file, offset| {
             let (number, mut shown) = (ENTRIES.show_record)(file, offset);
@@ -126,7 +125,10 @@ fn wrong_entries_are_found() {
         },
         ..ENTRIES
     };
-    require_found("a start where a record is refused", starts_where_refused);
+    require_found(
+        "a start where a record is refused",
+        compare(&starts_where_refused),
+    );
 }
 
 /// Readers of headers that break one rule each, found by the generated pictures and by the headers alone.
@@ -191,13 +193,8 @@ fn wrong_readers_of_headers_are_found() {
             read_header,
             ..ENTRIES
         };
-        for found in [headers(&wrong).err(), pictures(&wrong, SEED, 1000).err()] {
-            let found = found.unwrap_or_default();
-            assert!(
-                found.contains("by the one tested"),
-                "{name} was not found: {found}"
-            );
-        }
+        require_found(name, headers(&wrong));
+        require_found(name, pictures(&wrong, SEED, 1000));
     }
 }
 
@@ -271,12 +268,8 @@ fn wrong_readers_of_slices_are_found() {
             read_slice,
             ..ENTRIES
         };
-        let found = changed_slices(&wrong, SEED).and(slices(&wrong, SEED, 6000));
-        let found = found.err().unwrap_or_default();
-        assert!(
-            found.contains("by the one tested"),
-            "{name} was not found: {found}"
-        );
+        let compared = changed_slices(&wrong, SEED).and(slices(&wrong, SEED, 6000));
+        require_found(name, compared);
     }
 }
 
@@ -399,10 +392,6 @@ fn wrong_readers_around_the_room_are_found() {
             read_slice,
             ..ENTRIES
         };
-        let found = room_slices(&wrong, SEED).err().unwrap_or_default();
-        assert!(
-            found.contains("by the one tested"),
-            "{name} was not found: {found}"
-        );
+        require_found(name, room_slices(&wrong, SEED));
     }
 }

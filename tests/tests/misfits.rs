@@ -7,7 +7,7 @@ mod found;
 use common::{file_of, I, SLICE};
 use format3_tests::compare_misfits::{arrangements, misfits, require_every_arrangement};
 use format3_tests::decoder::file::PictureType;
-use format3_tests::decoder::{reconstruct, Answer, Reconstruct, ENTRIES};
+use format3_tests::decoder::{reconstruct, Answer, Entries, Reconstruct, ENTRIES};
 use format3_tests::generator::{misfit_cases, Arrangement, Fit};
 use found::require_found;
 
@@ -51,8 +51,8 @@ fn misfits_are_answered_by_the_first() {
 #[test]
 fn missing_arrangements_are_reported() {
     let made = misfits(&ENTRIES, SEED).expect("the decoder is itself");
-    let required = made.arrangements.keys().filter(|arrangement| {
-        let mut counts = made.arrangements.clone();
+    let required = made.kinds.keys().filter(|arrangement| {
+        let mut counts = made.kinds.clone();
         counts.remove(arrangement);
         require_every_arrangement(&counts).is_err()
     });
@@ -131,31 +131,36 @@ fn last_skipped_first(arrangement: &Arrangement) -> u32 {
     first_misfit(numbered(skipped.chain([arrangement.own])))
 }
 
+/// The comparison must find a decoder with this `reconstruct`.
+fn require_wrong_found(name: &str, reconstruct: Reconstruct) {
+    let wrong = Entries {
+        reconstruct,
+        ..ENTRIES
+    };
+    require_found(name, misfits(&wrong, SEED));
+}
+
 /// Panels that test the vectors of a record in a wrong order.
 #[test]
 fn wrong_orders_are_found() {
     let one_number: Reconstruct =
         |file, forward, backward, output| answer_by(file, [forward, backward], output, |_| 18);
-    require_found("one number for both directions", one_number, misfits);
+    require_wrong_found("one number for both directions", one_number);
     let backward_first: Reconstruct = |file, forward, backward, output| {
         answer_by(file, [forward, backward], output, backward_first)
     };
-    require_found("backward before forward", backward_first, misfits);
+    require_wrong_found("backward before forward", backward_first);
     let forward_of_all_first: Reconstruct = |file, forward, backward, output| {
         answer_by(file, [forward, backward], output, forward_of_all_first)
     };
-    require_found("all forward vectors first", forward_of_all_first, misfits);
+    require_wrong_found("all forward vectors first", forward_of_all_first);
     let own_first: Reconstruct =
         |file, forward, backward, output| answer_by(file, [forward, backward], output, own_first);
-    require_found("its own vectors before skipped ones", own_first, misfits);
+    require_wrong_found("its own vectors before skipped ones", own_first);
     let last_skipped_first: Reconstruct = |file, forward, backward, output| {
         answer_by(file, [forward, backward], output, last_skipped_first)
     };
-    require_found(
-        "skipped macroblocks from the last",
-        last_skipped_first,
-        misfits,
-    );
+    require_wrong_found("skipped macroblocks from the last", last_skipped_first);
 }
 
 /// The answer to a picture, with another number if it is accepted and a record that is `tested` has an unused past that doesn't
@@ -199,13 +204,13 @@ fn tests_of_unused_pasts_are_found() {
     let backward_pasts: Reconstruct = |file, forward, backward, output| {
         answer_by_pasts(file, [forward, backward], output, 23, all_use_forward)
     };
-    require_found("a test of unused backward pasts", backward_pasts, misfits);
+    require_wrong_found("a test of unused backward pasts", backward_pasts);
     let forward_pasts: Reconstruct = |file, forward, backward, output| {
         answer_by_pasts(file, [forward, backward], output, 18, all_use_backward)
     };
-    require_found("a test of unused forward pasts", forward_pasts, misfits);
+    require_wrong_found("a test of unused forward pasts", forward_pasts);
     let p_pasts: Reconstruct = |file, forward, backward, output| {
         answer_by_pasts(file, [forward, backward], output, 18, predicted_in_p)
     };
-    require_found("a test of unused pasts in P", p_pasts, misfits);
+    require_wrong_found("a test of unused pasts in P", p_pasts);
 }

@@ -1,4 +1,4 @@
--- Laws of tests: none both passes and fails, and one that cannot pass fails. Laws of `allBelow`: from one computed test to each number and back. Assumes nothing.
+-- Laws of tests, none of which both passes and fails, and of `allBelow`: from one computed test to each number, and back. Assumes nothing.
 use mathlib.Core.Path.{_≡_, refl, ap₂, subst, sym, _∙_}
 use mathlib.Core.Bool.{Bool, true, false, _&&_}
 use Prim.Native.Nat.{ℕ, zero, suc, _+_, _<_}

@@ -8,8 +8,9 @@ use format3_tests::compare::{
     changed_fields, coefficients, header_answers, headers, panel, picture_answers, pictures,
     require_every_answer, transforms, vectors,
 };
-use format3_tests::compare_blocks::{blocks, Blocks};
-use format3_tests::compare_misfits::{misfits, Misfits};
+use format3_tests::compare_blocks::blocks;
+use format3_tests::compare_cases::Compared;
+use format3_tests::compare_misfits::misfits;
 use format3_tests::compare_room_slices::room_slices;
 use format3_tests::compare_slices::{
     changed_slices, ended_slices, long_slices, slices, stream_slices, SLICE_ANSWERS,
@@ -61,14 +62,11 @@ fn compare_entries(count: u64, seed: u64) -> Result<(), String> {
     let counts = pictures(&ENTRIES, seed, count)?;
     println!("{count} pictures, by answer: {counts:?}");
     require_every_answer(&counts, picture_answers())?;
-    let Misfits {
-        answers,
-        arrangements,
-    } = misfits(&ENTRIES, seed)?;
-    let occurred = arrangements.len();
+    let Compared { answers, kinds } = misfits(&ENTRIES, seed)?;
+    let occurred = kinds.len();
     println!("{occurred} arrangements of vectors that fit or don't, by answer: {answers:?}");
-    let Blocks { answers, stages } = blocks(&ENTRIES, seed)?;
-    let occurred = stages.len();
+    let Compared { answers, kinds } = blocks(&ENTRIES, seed)?;
+    let occurred = kinds.len();
     println!("{occurred} stages of blocks, pair by pair, by answer: {answers:?}");
     compare_slices(10 * count, seed)
 }

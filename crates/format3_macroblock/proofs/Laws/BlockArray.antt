@@ -171,7 +171,7 @@ six-in-array c matrix pasts blocks six =
 
 -- ---- the loop: the array holds the blocks read so far, and these plus the blocks still to be read are all six
 module _ (c : BlocksCoding) (matrix : List ℕ) (start : Progress) (body : List ℕ) where
-  pub record SoFar (block at : ℕ) (s : Progress) : Type 0 where
+  pub record BetweenBlocks (block at : ℕ) (s : Progress) : Type 0 where
     pub below : block ≤ 6
     pub inside : at ≤ length body
     pub legal : LegalDcPasts (s .pasts)
@@ -180,11 +180,11 @@ module _ (c : BlocksCoding) (matrix : List ℕ) (start : Progress) (body : List 
     pub holds : s ≡ storedThrough c matrix 0 start blocks
     pub goes-on : blocksOf (c .intra) (c .pattern) 6 (start .pasts) 0 body ≡ after blocks (blocksOf (c .intra) (c .pattern) (6 - block) (s .pasts) block (drop at body))
 
-  pub at-start : LegalDcPasts (start .pasts) → SoFar 0 0 start
+  pub at-start : LegalDcPasts (start .pasts) → BetweenBlocks 0 0 start
   unfolding storedThrough
   at-start p = record { below = omega arith; inside = omega arith; legal = p; blocks = []; count = refl; holds = refl; goes-on = sym (nothing-after (blocksOf (c .intra) (c .pattern) 6 (start .pasts) 0 body)) }
 
-  module _ {block at : ℕ} {s : Progress} (p : SoFar block at s) where
+  module _ {block at : ℕ} {s : Progress} (p : BetweenBlocks block at s) where
     pub ends : 6 ≤ block → start .coefficients ≡ replicate 384 (pos 0) → ParsesAs (decodedBlocksOf c matrix (start .pasts)) body (value (record { pasts = s .pasts; coefficients = sixBlocks (s .coefficients) }) at)
     ends h zeros =
         let none : 6 - block ≤ 0 = omega arith in
@@ -202,7 +202,7 @@ module _ (c : BlocksCoding) (matrix : List ℕ) (start : Progress) (body : List 
           let e = stopped-before (givenBlockOf (c .intra) (c .pattern) (s .pasts) block) _ (drop at body) found in
           rw (p .goes-on, one-refused (c .intra) (c .pattern) (6 - block) block (s .pasts) (drop at body) some e)
 
-      pub one-more : {next : Progress} {n : ℕ} → ParsesAs (blockInto c matrix block s) (drop at body) (value next n) → SoFar (block + 1) (at + n) next
+      pub one-more : {next : Progress} {n : ℕ} → ParsesAs (blockInto c matrix block s) (drop at body) (value next n) → BetweenBlocks (block + 1) (at + n) next
       one-more {next} {n} found =
           let b = made-of (givenBlockOf (c .intra) (c .pattern) (s .pasts) block) _ (drop at body) found in
           let read = b .found .0 in

@@ -7,13 +7,13 @@ use lib.ListN.{drop, length-drop}
 use Rattle.symbols.specs.Parsed.{value, ParsesAs}
 use Rattle.format3_records.proofs.Laws.Field.{rest-from}
 use Rattle.format3_macroblock.specs.Decoding.{blockInto, progressResult}
-use Rattle.format3_macroblock.proofs.Laws.BlockArray.{SoFar, at-start, ends, stops, one-more}
+use Rattle.format3_macroblock.proofs.Laws.BlockArray.{BetweenBlocks, at-start, ends, stops, one-more}
 use Rattle.format3_macroblock.proofs.blocks.read_blocks.Statement.{statement}
 use Rattle.format3_macroblock.proofs.blocks.read_blocks.Tie as tie
 
 abbrev Inv-loop : tie.InvT-loop
 Inv-loop rest coding matrix coefficients₀ order running₀ at₀ block₀ coefficients running at block =
-    SoFar coding matrix (record { pasts = running₀; coefficients = coefficients₀ }) rest block at (record { pasts = running; coefficients = coefficients })
+    BetweenBlocks coding matrix (record { pasts = running₀; coefficients = coefficients₀ }) rest block at (record { pasts = running; coefficients = coefficients })
 
 abbrev μ-loop : tie.MeasureT-loop
 μ-loop rest coding matrix coefficients₀ order running₀ at₀ block₀ coefficients running at block =
