@@ -6,12 +6,13 @@
  *   bench reel WHO NUMBER REEL          decodes one picture of a reel once, inside measured(), for an instruction counter
  *   bench reel WHO all REEL             the same for every picture of a reel
  *   bench made WHO KIND BLOCKS PAIRS    the same for a synthetic picture
+ *   bench rows WHO END BLOCKS KEPT      the same for one whose blocks keep only some of their coefficients, see job.h
  *   bench transform WHO                 the same for the transform of one block
  *   bench reel-census NUMBER REEL       counts what a picture of a reel consists of
  *   bench made-census KIND BLOCKS PAIRS counts what a synthetic picture consists of
  *
  * WHO is library, plain, second-pass or skipping-pass, and for a transform library or plain; KIND is intra, whole, half or
- * mixed. bench/run runs all of these. */
+ * mixed; END is whole or refused. bench/run runs all of these. */
 #include <stdbool.h>
 #include <stdint.h>
 #include <stdio.h>
@@ -47,9 +48,13 @@ struct answer {
 
 enum { MAX_PICTURE_BYTES = FORMAT3_MACROBLOCK_BYTES * FORMAT3_MAX_MACROBLOCKS };
 
+/* memset takes a few instructions more or fewer by the alignment of what it fills. Those who call what is measured have a local
+ * of this alignment, so the stack below is aligned alike, whatever the arguments and the environment of the process are. */
+enum { STACK_ALIGNMENT = 64 };
+
 static struct answer run(reconstruct_function *reconstruct, const struct job *job, uint8_t *output)
 {
-    struct answer answer;
+    struct answer answer __attribute__((aligned(STACK_ALIGNMENT)));
     answer.number = reconstruct(
         job->file, job->file_length, job->forward, job->forward_length, job->backward, job->backward_length,
         output, job->picture_length, &answer.result);
@@ -67,7 +72,8 @@ static struct answer run_afresh(int who, const struct job *job, uint8_t *output)
 
 static bool same_answer(struct answer one, struct answer other)
 {
-    return one.number == other.number && one.result.place == other.result.place && one.result.made == other.result.made;
+    return one.number == other.number && one.result.place == other.result.place && one.result.made == other.result.made
+        && one.result.rows == other.result.rows;
 }
 
 /* Whether all decoders give the library's answer and bytes; if not, tells which does not. */
@@ -192,32 +198,34 @@ static struct answer measured(reconstruct_function *reconstruct, const struct jo
 }
 
 __attribute__((noinline))
-static uint32_t measured_transform(bool library, const int16_t coefficients[64], int16_t residues[64])
+static size_t measured_transform(bool library, const int16_t coefficients[64], int16_t residues[64])
 {
-    if (library)
-        return format3_transform(coefficients, residues);
-    plain_transform(coefficients, residues);
-    return FORMAT3_ACCEPTED;
+    size_t rows;
+    if (!library)
+        return (size_t)plain_transform(coefficients, residues);
+    return format3_transform(coefficients, residues, &rows) == FORMAT3_ACCEPTED ? rows : 0;
 }
 
-/* Decodes a picture once and checks that it is the one the library made before. */
+/* Decodes a picture once and checks that answer and picture are those that the library gave before. */
 static int once(reconstruct_function *reconstruct, const struct job *job)
 {
     static uint8_t output[MAX_PICTURE_BYTES];
+    struct answer expected = {job->number, job->result};
     struct answer answer = measured(reconstruct, job, output);
-    if (answer.number == FORMAT3_ACCEPTED && memcmp(output, job->picture, job->picture_length) == 0)
+    if (same_answer(answer, expected) && memcmp(output, job->picture, job->picture_length) == 0)
         return 0;
     fprintf(stderr, "bench: not the picture\n");
     return 1;
 }
 
-static bool is_library(const char *who)
+/* Whether a word is the first of two. Exits if it is neither. */
+static bool is_first(const char *word, const char *first, const char *second)
 {
-    if (strcmp(who, "library") != 0 && strcmp(who, "plain") != 0) {
-        fprintf(stderr, "bench: library or plain, not %s\n", who);
+    if (strcmp(word, first) != 0 && strcmp(word, second) != 0) {
+        fprintf(stderr, "bench: %s or %s, not %s\n", first, second, word);
         exit(2);
     }
-    return strcmp(who, "library") == 0;
+    return strcmp(word, first) == 0;
 }
 
 static reconstruct_function *who_is(const char *word)
@@ -270,6 +278,12 @@ static struct job made_of(char **argument)
     return made_job(kind_of(argument[0]), atoi(argument[1]), atoi(argument[2]));
 }
 
+static struct job rows_of(char **argument)
+{
+    bool refused = is_first(argument[0], "refused", "whole");
+    return rows_job(atoi(argument[1]), (unsigned)strtoul(argument[2], NULL, 0), refused);
+}
+
 static int made(const char *who, struct job job)
 {
     return once(who_is(who), &job);
@@ -277,10 +291,10 @@ static int made(const char *who, struct job job)
 
 static int transform(const char *who)
 {
-    int16_t coefficients[64], residues[64];
+    int16_t coefficients[64] __attribute__((aligned(STACK_ALIGNMENT))), residues[64];
     for (int k = 0; k < 64; k++)
         coefficients[k] = (int16_t)((37 * k % 61 - 30) * 5);
-    return measured_transform(is_library(who), coefficients, residues) == FORMAT3_ACCEPTED ? 0 : 1;
+    return measured_transform(is_first(who, "library", "plain"), coefficients, residues) == 8 ? 0 : 1;
 }
 
 static int census(struct job job)
@@ -310,6 +324,8 @@ int main(int count, char **argument)
         return reel(argument[2], argument[3], argument[4]);
     if (strcmp(command, "made") == 0 && count == 6)
         return made(argument[2], made_of(argument + 3));
+    if (strcmp(command, "rows") == 0 && count == 6)
+        return made(argument[2], rows_of(argument + 3));
     if (strcmp(command, "transform") == 0 && count == 3)
         return transform(argument[2]);
     if (strcmp(command, "reel-census") == 0 && count == 4)

@@ -6,9 +6,10 @@
 #include <string.h>
 
 #include "format3.h"
+#include "zigzag.h"
 
 enum { FORWARD = 2, BACKWARD = 4, PATTERN = 8, INTRA = 16 };
-enum { LENGTH_BYTES = 4 };
+enum { NON_INTRA_MATRIX = 1, LENGTH_BYTES = 4 };
 
 /* By coding type. format3_read_header gives 1 to 3, and 0 if it refuses the header. */
 static const char LETTERS[] = "?IPB";
@@ -92,14 +93,14 @@ static struct job job_of_file(const char *path, uint8_t *file, size_t length, st
     return job;
 }
 
-static void decode(struct job *job, const char *name)
+/* Decodes a job by the library. Exits if it gives another answer. */
+static void decode(struct job *job, const char *name, uint32_t answer)
 {
-    struct format3_picture_result result;
-    uint32_t number = format3_reconstruct(
+    job->number = format3_reconstruct(
         job->file, job->file_length, job->forward, job->forward_length, job->backward, job->backward_length,
-        job->picture, job->picture_length, &result);
-    if (number != FORMAT3_ACCEPTED)
-        fail(name, format3_answer_text(number));
+        job->picture, job->picture_length, &job->result);
+    if (job->number != answer)
+        fail(name, format3_answer_text(job->number));
 }
 
 static size_t big_endian(const uint8_t length[LENGTH_BYTES])
@@ -137,7 +138,7 @@ struct jobs jobs_of_reel(const char *path)
     for (int k = 0; k < jobs.count; k++) {
         size_t length = file_length_at(path, reel, offset);
         jobs.job[k] = job_of_file(path, reel.data + offset + LENGTH_BYTES, length, references);
-        decode(&jobs.job[k], path);
+        decode(&jobs.job[k], path, FORMAT3_ACCEPTED);
         if (jobs.job[k].letter != 'B')
             references = (struct references){&jobs.job[k], references.newer};
         offset += LENGTH_BYTES + length;
@@ -148,7 +149,20 @@ struct jobs jobs_of_reel(const char *path)
 /* ---- synthetic pictures */
 
 enum { WIDTH = 22, HEIGHT = 18, MACROBLOCKS = WIDTH * HEIGHT };
-enum { MAX_RECORD_BYTES = 4 + 8 + 1 + 6 * (3 + 3 * 64), MAX_FILE_BYTES = 32 + MACROBLOCKS * MAX_RECORD_BYTES };
+enum { MAX_RECORD_BYTES = 4 + 8 + 1 + 6 * (3 + 3 * 64), MAX_FILE_BYTES = 128 + MACROBLOCKS * MAX_RECORD_BYTES };
+
+/* What a synthetic picture is made of. Levels and weights are in zigzag order. */
+struct plan {
+    enum made_kind kind;
+    int scale;
+    /* The non-intra matrix to load, or NULL. */
+    const uint8_t *weights;
+    /* The coded blocks of a macroblock, and the levels of each; a level of 0 has no pair. */
+    int blocks;
+    int levels[64];
+    /* Whether the last record has a byte too many. */
+    bool refused;
+};
 
 static void put(struct job *job, int byte)
 {
@@ -187,6 +201,17 @@ static void put_header(struct job *job, int type)
     end_record(job, start);
 }
 
+static void put_matrix(struct job *job, const uint8_t *weights)
+{
+    if (weights == NULL)
+        return;
+    size_t start = start_record(job, FORMAT3_KIND_MATRIX);
+    put(job, NON_INTRA_MATRIX);
+    for (int k = 0; k < 64; k++)
+        put(job, weights[k]);
+    end_record(job, start);
+}
+
 static void put_slice(struct job *job, int scale)
 {
     size_t start = start_record(job, FORMAT3_KIND_SLICE);
@@ -195,15 +220,26 @@ static void put_slice(struct job *job, int scale)
     end_record(job, start);
 }
 
-/* Low coefficients of both signs, with no zeros between them. */
-static void put_block(struct job *job, bool intra, int pairs)
+static int count_pairs(const int levels[64])
 {
+    int pairs = 0;
+    for (int k = 0; k < 64; k++)
+        pairs += levels[k] != 0;
+    return pairs;
+}
+
+static void put_block(struct job *job, bool intra, const int levels[64])
+{
+    int next = intra ? 1 : 0;
     if (intra)
         put_word(job, 0);
-    put(job, pairs);
-    for (int k = 0; k < pairs; k++) {
-        put(job, 0);
-        put_word(job, k % 2 == 0 ? 3 : -2);
+    put(job, count_pairs(levels));
+    for (int position = next; position < 64; position++) {
+        if (levels[position] == 0)
+            continue;
+        put(job, position - next);
+        put_word(job, levels[position]);
+        next = position + 1;
     }
 }
 
@@ -259,21 +295,24 @@ static void put_head(struct job *job, enum made_kind kind, int address, int bloc
         put(job, 64 - (64 >> blocks));
 }
 
-static void put_macroblock(struct job *job, enum made_kind kind, int address, int blocks, int pairs)
+/* How many blocks are coded in the macroblock at an address. */
+static int coded_blocks(const struct plan *plan, int address)
 {
-    size_t start = start_record(job, FORMAT3_KIND_MACROBLOCK);
-    put_head(job, kind, address, blocks);
-    for (int k = 0; k < blocks; k++)
-        put_block(job, kind == MADE_INTRA, pairs);
-    end_record(job, start);
+    if (plan->kind == MADE_INTRA)
+        return 6;
+    return plan->kind == MADE_MIXED && address % 7 >= 5 ? plan->blocks - 1 : plan->blocks;
 }
 
-/* How many blocks are coded in the macroblock at an address. */
-static int coded_blocks(enum made_kind kind, int address, int blocks)
+static void put_macroblock(struct job *job, const struct plan *plan, int address)
 {
-    if (kind == MADE_INTRA)
-        return 6;
-    return kind == MADE_MIXED && address % 7 >= 5 ? blocks - 1 : blocks;
+    int blocks = coded_blocks(plan, address);
+    size_t start = start_record(job, FORMAT3_KIND_MACROBLOCK);
+    put_head(job, plan->kind, address, blocks);
+    for (int k = 0; k < blocks; k++)
+        put_block(job, plan->kind == MADE_INTRA, plan->levels);
+    if (plan->refused && address == MACROBLOCKS - 1)
+        put(job, 0);
+    end_record(job, start);
 }
 
 /* A reference picture of noise. */
@@ -288,21 +327,63 @@ static uint8_t *noise(size_t length)
     return bytes;
 }
 
-struct job made_job(enum made_kind kind, int blocks, int pairs)
+static struct job planned_job(const struct plan *plan)
 {
     static const int types[] = {FORMAT3_I_PICTURE, FORMAT3_P_PICTURE, FORMAT3_B_PICTURE, FORMAT3_P_PICTURE};
-    int type = types[kind];
+    int type = types[plan->kind];
     struct job job = {.macroblocks = MACROBLOCKS, .letter = LETTERS[type]};
     job.picture_length = FORMAT3_MACROBLOCK_BYTES * MACROBLOCKS;
     job.picture = allocate(job.picture_length);
     job.file = allocate(MAX_FILE_BYTES);
     put(&job, 3);
     put_header(&job, type);
-    put_slice(&job, 8);
+    put_matrix(&job, plan->weights);
+    put_slice(&job, plan->scale);
     for (int address = 0; address < MACROBLOCKS; address++)
-        put_macroblock(&job, kind, address, coded_blocks(kind, address, blocks), pairs);
+        put_macroblock(&job, plan, address);
     struct job reference = {.picture = noise(job.picture_length), .picture_length = job.picture_length};
     lend(&job, type == FORMAT3_I_PICTURE ? NULL : &reference, type == FORMAT3_B_PICTURE ? &reference : NULL);
-    decode(&job, "made picture");
+    decode(&job, "made picture", plan->refused ? FORMAT3_REFUSED_BODY_LENGTH : FORMAT3_ACCEPTED);
+    return job;
+}
+
+/* Low coefficients of both signs, with no zeros between them. */
+struct job made_job(enum made_kind kind, int blocks, int pairs)
+{
+    struct plan plan = {.kind = kind, .scale = 8, .blocks = blocks};
+    int first = kind == MADE_INTRA ? 1 : 0;
+    if (first + pairs > 64)
+        fail("made picture", "too many pairs");
+    for (int k = 0; k < pairs; k++)
+        plan.levels[first + k] = k % 2 == 0 ? 3 : -2;
+    return planned_job(&plan);
+}
+
+enum { KEPT_COLUMNS = 2 };
+
+/* How many rows have a coefficient that is kept. */
+static int kept_rows(unsigned kept)
+{
+    int rows = 0;
+    for (; kept != 0; kept >>= KEPT_COLUMNS)
+        rows += kept % (1 << KEPT_COLUMNS) != 0;
+    return rows;
+}
+
+/* With a scale of 1 a weight of 22 makes a level of 1 into 4 and then, since that is even, into 3; a weight of 1 makes it 0. So
+ * both quotients are even, and scaling takes the same steps. */
+struct job rows_job(int blocks, unsigned kept, bool refused)
+{
+    uint8_t weights[64];
+    struct plan plan = {.kind = MADE_WHOLE_PEL, .scale = 1, .weights = weights, .blocks = blocks, .refused = refused};
+    for (int k = 0; k < 64; k++) {
+        int row = ZIGZAG[k] / 8, column = ZIGZAG[k] % 8;
+        bool coded = column < KEPT_COLUMNS;
+        plan.levels[k] = !coded ? 0 : column == 0 ? 1 : -1;
+        weights[k] = coded && kept >> (KEPT_COLUMNS * row + column) & 1 ? 22 : 1;
+    }
+    struct job job = planned_job(&plan);
+    if (job.result.rows != job.result.made * (size_t)(blocks * kept_rows(kept)))
+        fail("made picture", "the answer has another number of rows");
     return job;
 }

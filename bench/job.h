@@ -6,6 +6,8 @@
 #include <stddef.h>
 #include <stdint.h>
 
+#include "format3.h"
+
 struct job {
     uint8_t *file;
     size_t file_length;
@@ -13,7 +15,9 @@ struct job {
     size_t forward_length;
     const uint8_t *backward;
     size_t backward_length;
-    /* The picture as the library reconstructs it. */
+    /* The library's answer, and the picture as it reconstructs it. */
+    uint32_t number;
+    struct format3_picture_result result;
     uint8_t *picture;
     size_t picture_length;
     int macroblocks;
@@ -43,5 +47,12 @@ enum made_kind {
 /* A synthetic CIF picture: every macroblock has the same kind and `blocks` coded blocks with `pairs` pairs each. MADE_INTRA codes
  * all six blocks, whatever `blocks` is; MADE_MIXED needs at least one. */
 struct job made_job(enum made_kind kind, int blocks, int pairs);
+
+/* A synthetic CIF picture for the work of the transform: P, whole pels, `blocks` coded blocks a macroblock. Each block has 16
+ * pairs, two in each row. A matrix scales all of them to 0 but those in `kept`, where bit 0 stands for the first in raster order
+ * and bit 15 for the last: 1 keeps the DC alone, 3 the first row, 0xffff all rows. The records of macroblocks are the same bytes
+ * whatever is kept.
+ * If the picture is to be refused, its last record has a byte too many: it is read to its end, but not made. */
+struct job rows_job(int blocks, unsigned kept, bool refused);
 
 #endif

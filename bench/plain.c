@@ -5,6 +5,7 @@
 #include <string.h>
 
 #include "format3.h"
+#include "zigzag.h"
 
 struct plain_census plain_census;
 
@@ -70,6 +71,7 @@ struct picture {
     enum turn turn;
     int next;
     int made;
+    int rows;
     struct slice slice;
     const uint8_t *reference[2];
     uint8_t *output;
@@ -89,12 +91,6 @@ struct symbols {
 struct rest {
     const uint8_t *at;
     const uint8_t *end;
-};
-
-static const uint8_t ZIGZAG[64] = {
-    0,  1,  8,  16, 9,  2,  3,  10, 17, 24, 32, 25, 18, 11, 4,  5,  12, 19, 26, 33, 40, 48,
-    41, 34, 27, 20, 13, 6,  7,  14, 21, 28, 35, 42, 49, 56, 57, 50, 43, 36, 29, 22, 15, 23,
-    30, 37, 44, 51, 58, 59, 52, 45, 38, 31, 39, 46, 53, 60, 61, 54, 47, 55, 62, 63,
 };
 
 static const uint8_t DEFAULT_INTRA[64] = {
@@ -130,10 +126,32 @@ static inline int16_t residue_of(int64_t sum)
     return rounded > 255 ? 255 : (int16_t)rounded;
 }
 
-void plain_transform(const int16_t coefficients[64], int16_t residues[64])
+/* How many rows have a coefficient that is not 0. */
+static inline int used_rows(const int16_t coefficients[64])
+{
+    int rows = 0;
+    for (int v = 0; v < 8; v++) {
+        uint64_t halves[2];
+        memcpy(halves, coefficients + 8 * v, sizeof halves);
+        rows += (halves[0] | halves[1]) != 0;
+    }
+    return rows;
+}
+
+/* What the transform has to work, as the census has it. */
+static inline int work_of(const int16_t coefficients[64])
+{
+    for (int k = 1; k < 64; k++)
+        if (coefficients[k] != 0)
+            return WORK_ROWS + used_rows(coefficients) - 1;
+    return coefficients[0] != 0 ? WORK_DC_ALONE : WORK_NOTHING;
+}
+
+int plain_transform(const int16_t coefficients[64], int16_t residues[64])
 {
     int64_t middle[64];
     COUNT(transforms);
+    COUNT(works[work_of(coefficients)]);
     for (int v = 0; v < 8; v++) {
         int64_t x[8];
         for (int u = 0; u < 8; u++)
@@ -148,6 +166,7 @@ void plain_transform(const int16_t coefficients[64], int16_t residues[64])
         for (int q = 0; q < 8; q++)
             residues[8 * q + p] = residue_of(y[q]);
     }
+    return used_rows(coefficients);
 }
 
 /* ---- fields: each function says whether the field is wholly inside */
@@ -514,14 +533,16 @@ static void predict_block(
         block[k] = (uint8_t)((block[k] + other[k] + 1) >> 1);
 }
 
-static void add_residues(const int16_t coefficients[64], uint8_t block[64])
+/* Answers how many rows of the coefficients are not all 0. */
+static int add_residues(const int16_t coefficients[64], uint8_t block[64])
 {
     int16_t residues[64];
-    plain_transform(coefficients, residues);
+    int rows = plain_transform(coefficients, residues);
     for (int k = 0; k < 64; k++) {
         int16_t pel = (int16_t)(block[k] + residues[k]);
         block[k] = pel < 0 ? 0 : pel > 255 ? 255 : (uint8_t)pel;
     }
+    return rows;
 }
 
 static void store_block(uint8_t *plane, struct place place, const uint8_t block[64])
@@ -531,18 +552,20 @@ static void store_block(uint8_t *plane, struct place place, const uint8_t block[
         memcpy(plane + (ptrdiff_t)(place.y + j) * place.stride + place.x, block + 8 * j, 8);
 }
 
-/* A macroblock's six blocks; `coefficients` has those that the pattern codes. */
-static void write_macroblock(
+/* A macroblock's six blocks; `coefficients` has those that the pattern codes. Answers how many of their rows are not all 0. */
+static int write_macroblock(
     const struct picture *picture, int address, const struct motion *motion, int pattern, const int16_t *coefficients)
 {
+    int rows = 0;
     for (int number = 0; number < 6; number++) {
         struct place place = place_of(picture, address, number);
         uint8_t block[64];
         predict_block(picture, motion, place, number >= 4, block);
         if (pattern & 32 >> number)
-            add_residues(coefficients + 64 * number, block);
+            rows += add_residues(coefficients + 64 * number, block);
         store_block(picture->output + place.plane, place, block);
     }
+    return rows;
 }
 
 /* ---- records */
@@ -577,7 +600,7 @@ static uint32_t act_macroblock(struct picture *picture, struct rest body)
         return refusal;
     for (int k = picture->next; k < address; k++)
         write_macroblock(picture, k, &skip, 0, NULL);
-    write_macroblock(picture, address, &motion, symbols.pattern, symbols.coefficients);
+    picture->rows += write_macroblock(picture, address, &motion, symbols.pattern, symbols.coefficients);
     update_slice(picture, &symbols, &motion);
     picture->next = address + 1;
     picture->made += symbols.skipped + 1;
@@ -759,5 +782,6 @@ uint32_t plain_reconstruct(
     uint32_t number = read_file(&picture, &left, output_length, forward_length, backward_length);
     result->place = (size_t)(left.at - file);
     result->made = (size_t)picture.made;
+    result->rows = (size_t)picture.rows;
     return number;
 }

@@ -32,15 +32,20 @@ uint32_t plain_read_slice(
     uint8_t *records, size_t records_length,
     struct format3_slice_result *result);
 
-/* Like format3_transform, for coefficients in range. */
-void plain_transform(const int16_t coefficients[64], int16_t residues[64]);
+/* Like format3_transform, for coefficients in range. It works every row, and answers how many are not all 0. */
+int plain_transform(const int16_t coefficients[64], int16_t residues[64]);
+
+/* What a coded block gives the transform to work: nothing, if all its levels are scaled to 0; its first coefficient alone; or
+ * 1 row and, after it, 2 to 8 rows. */
+enum { WORK_NOTHING, WORK_DC_ALONE, WORK_ROWS, WORKS = WORK_ROWS + 8 };
 
 /* What has been done since the counts were last cleared, if compiled with PLAIN_CENSUS: codes of slices, pairs, and 8 x 8
- * blocks. */
+ * blocks; those transformed also by their work. */
 struct plain_census {
     unsigned long codes;
     unsigned long pairs;
     unsigned long transforms;
+    unsigned long works[WORKS];
     unsigned long whole_pel_fetches;
     unsigned long half_pel_fetches;
     unsigned long means_of_both;

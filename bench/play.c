@@ -7,6 +7,8 @@
  *   play all STREAM            plays it once, inside measured(), for an instruction counter or a clock; prints the count
  *   play slices STREAM         the same without pictures: only from slices to records
  *   play codes STREAM          counts the codes in its slices
+ *   play rows STREAM           the rows that its pictures' transforms worked, as the answers have them
+ *   play works STREAM          counts its coded blocks by what their transform has to work (plain.h)
  *
  * bench/run runs all of these. */
 #include <stdbool.h>
@@ -42,12 +44,14 @@ static struct bytes read_stream(const char *path)
     return bytes;
 }
 
-/* Decodes the current file. The picture is in decoder.output or, if it is a reference, in decoder.newer. */
-static const struct picture *make_picture(void)
+/* Decodes the current file, and adds the rows that its answer has. The picture is in decoder.output or, if it is a reference, in
+ * decoder.newer. */
+static const struct picture *make_picture(size_t *rows)
 {
     struct answer answer = decode(&decoder, file.bytes, file.length);
     if (answer.number != FORMAT3_ACCEPTED)
         fail("a picture", format3_answer_text(answer.number));
+    *rows += answer.result.rows;
     const struct picture *picture = decoder.output;
     if (answer.header.coding_type != FORMAT3_B_PICTURE)
         keep_reference(&decoder);
@@ -60,18 +64,24 @@ static void require_end(const struct stream *stream)
         fail("the stream", stream->problem);
 }
 
-/* Plays a stream from its start, and returns how many pictures it has. */
-static int play(struct bytes bytes, enum extent extent)
+/* What a stream has: its pictures and, if they are made, the rows of their answers. */
+struct played {
+    int pictures;
+    size_t rows;
+};
+
+/* Plays a stream from its start. */
+static struct played play(struct bytes bytes, enum extent extent)
 {
     struct stream stream;
-    int count = 0;
+    struct played played = {0, 0};
     open_stream(&stream, bytes.data, bytes.length);
     start_decoder(&decoder);
-    for (; next_picture(&stream, &file); count++)
+    for (; next_picture(&stream, &file); played.pictures++)
         if (extent == WHOLE)
-            make_picture();
+            make_picture(&played.rows);
     require_end(&stream);
-    return count;
+    return played;
 }
 
 /* ---- comparing */
@@ -85,10 +95,13 @@ static int compare(const char *path, const char *reel)
     open_stream(&stream, bytes.data, bytes.length);
     start_decoder(&decoder);
     for (; count < jobs.count && next_picture(&stream, &file); count++) {
-        const struct picture *picture = make_picture();
+        size_t rows = 0;
+        const struct picture *picture = make_picture(&rows);
         const struct job *job = &jobs.job[count];
         if (picture->length != job->picture_length || memcmp(picture->bytes, job->picture, job->picture_length) != 0)
             fail(path, "not the reel's pictures");
+        if (rows != job->result.rows)
+            fail(path, "not the rows of the reel's pictures");
     }
     if (count < jobs.count || next_picture(&stream, &file))
         fail(path, "not as many pictures as the reel");
@@ -127,7 +140,7 @@ static int time_streams(char **paths, int count)
 {
     for (int k = 0; k < count; k++) {
         struct bytes bytes = read_stream(paths[k]);
-        int pictures = play(bytes, WHOLE);
+        int pictures = play(bytes, WHOLE).pictures;
         double whole = best_round(bytes, WHOLE), slices = best_round(bytes, SLICES_ALONE);
         printf("%s: %d pictures, %zu bytes each\n", paths[k], pictures, bytes.length / (size_t)pictures);
         printf("  %8.0f pictures/s from the stream's bytes to pels; %.0f%% of the time for slices\n",
@@ -140,32 +153,57 @@ static int time_streams(char **paths, int count)
 /* ---- run once */
 
 __attribute__((noinline))
-static int measured(struct bytes bytes, enum extent extent)
+static struct played measured(struct bytes bytes, enum extent extent)
 {
     return play(bytes, extent);
 }
 
-static int once(const char *path, enum extent extent)
+static struct played once(const char *path, enum extent extent)
 {
     struct bytes bytes = read_stream(path);
-    printf("%d\n", measured(bytes, extent));
+    struct played played = measured(bytes, extent);
     free(bytes.data);
+    return played;
+}
+
+static int print_pictures(struct played played)
+{
+    printf("%d\n", played.pictures);
     return 0;
 }
 
-/* Counts each slice once: no slice of these streams has records too long for plain C's array. */
-static int codes(const char *path)
+static int print_rows(struct played played)
+{
+    printf("%zu\n", played.rows);
+    return 0;
+}
+
+/* ---- counting what a stream has: each code and each block once, also where plain C reads a part of a slice twice */
+
+static void take_census(const char *path, enum extent extent)
 {
 #ifdef PLAIN_CENSUS
-    struct bytes bytes = read_stream(path);
     memset(&plain_census, 0, sizeof plain_census);
-    play(bytes, SLICES_ALONE);
-    printf("%lu\n", plain_census.codes);
-    free(bytes.data);
-    return 0;
+    once(path, extent);
 #else
+    (void)extent;
     fail(path, "not compiled with PLAIN_CENSUS");
 #endif
+}
+
+static int codes(const char *path)
+{
+    take_census(path, SLICES_ALONE);
+    printf("%lu\n", plain_census.codes);
+    return 0;
+}
+
+static int works(const char *path)
+{
+    take_census(path, WHOLE);
+    for (int k = 0; k < WORKS; k++)
+        printf("%lu%c", plain_census.works[k], k == WORKS - 1 ? '\n' : ' ');
+    return 0;
 }
 
 int main(int count, char **argument)
@@ -177,11 +215,15 @@ int main(int count, char **argument)
     if (strcmp(command, "time") == 0)
         return time_streams(argument + 2, count - 2);
     if (strcmp(command, "all") == 0 && count == 3)
-        return once(argument[2], WHOLE);
+        return print_pictures(once(argument[2], WHOLE));
     if (strcmp(command, "slices") == 0 && count == 3)
-        return once(argument[2], SLICES_ALONE);
+        return print_pictures(once(argument[2], SLICES_ALONE));
     if (strcmp(command, "codes") == 0 && count == 3)
         return codes(argument[2]);
+    if (strcmp(command, "rows") == 0 && count == 3)
+        return print_rows(once(argument[2], WHOLE));
+    if (strcmp(command, "works") == 0 && count == 3)
+        return works(argument[2]);
     fprintf(stderr, "play: see the head of play.c for its arguments\n");
     return 2;
 }

@@ -17,7 +17,7 @@
  * The library allocates nothing and keeps nothing between calls, so several threads may call it at once.
  *
  * Every proved function except format3_api_version returns a number of `enum format3_answer`. Whatever it returns, it sets
- * every field of the result struct, or the one result, that it has a pointer to. Which bytes of `output` and `records` it
+ * every field of the result struct, or every number, that it has a pointer to. Which bytes of `output` and `records` it
  * writes is stated below. */
 #ifndef FORMAT3_H
 #define FORMAT3_H
@@ -52,11 +52,11 @@ extern "C" {
 #define FORMAT3_ARRAY_RESTRICT
 #endif
 
-/* The version of this interface, also of the shared library's name (libformat3.so.1). It increases when a function or a struct
+/* The version of this interface, also of the shared library's name (libformat3.so.2). It increases when a function or a struct
  * changes or goes. A new function, a new answer or another name for an answer does not change it, so expect answers that are not
  * listed below.
  * format3_api_version returns the version that the library was built with: compare the two before the first call. */
-#define FORMAT3_API_VERSION 1
+#define FORMAT3_API_VERSION 2
 
 FORMAT3_USE_RESULT
 uint32_t format3_api_version(void);
@@ -228,10 +228,13 @@ FORMAT3_USE_RESULT FORMAT3_NOT_NULL(4)
 uint32_t format3_show_record(
     const uint8_t *file, size_t file_length, size_t offset, struct format3_record *FORMAT3_RESTRICT shown);
 
-/* Where reconstruction ended, as an offset in the file, and how many macroblocks are in the output. */
+/* Where reconstruction ended, as an offset in the file; how many macroblocks are in the output; and how many rows of
+ * coefficients the transform worked for these. In each coded block it works those of the eight rows that are not all zero, so
+ * at most 48 a macroblock. `rows` is 0 if the header is not accepted. */
 struct format3_picture_result {
     size_t place;
     size_t made;
+    size_t rows;
 };
 
 /* Reconstructs the picture of a Format 3 file into `output`.
@@ -242,11 +245,12 @@ struct format3_picture_result {
  *
  * Returns 0 to 21 or 23.
  * Accepted (0): the output is the picture that clause 2.4.4 of ISO/IEC 11172-2 defines for the file's symbols and matrices
- * and these references, with the inverse transform of `format3_transform`. `place` is the file's length, and `made` is the
- * picture's count of macroblocks.
+ * and these references, with the inverse transform of `format3_transform`. `place` is the file's length, `made` is the
+ * picture's count of macroblocks, and `rows` is the total over all of them.
  * Refused: `place` is the offset of the refused record's length field (0 for 1 and 2, the file's length for 7). `made` is
  * the count of macroblocks that the records before it gave. These, at addresses 0 to `made` - 1, are in the output,
- * reconstructed by the same rules; every other byte of the output is as it was before the call. */
+ * reconstructed by the same rules; every other byte of the output is as it was before the call. `rows` is the total over
+ * these: the refused record adds nothing. */
 FORMAT3_USE_RESULT FORMAT3_NOT_NULL(9)
 uint32_t format3_reconstruct(
     const uint8_t *file, size_t file_length,
@@ -313,10 +317,12 @@ uint32_t format3_read_slice(
  * (factors from the table in document 01, "Inverse transform"), plus 2^41, divided by 2^42 rounding down, limited to
  * -256..255. Before it is limited, it is within 9/16 of the exact cosine sum, for any seven fractions between the ends
  * around the cosines (docs/COSINES.md).
- * Returns 22 if a coefficient is outside -2048..2047; the residues are then zeros. */
-FORMAT3_USE_RESULT FORMAT3_NOT_NULL(1, 2)
+ * The transform skips each row of eight zero coefficients; `*rows` is how many rows it works, 0..8.
+ * Returns 22 if a coefficient is outside -2048..2047; the residues are then zeros, and `*rows` is 0. */
+FORMAT3_USE_RESULT FORMAT3_NOT_NULL(1, 2, 3)
 uint32_t format3_transform(
-    const int16_t coefficients[FORMAT3_AT_LEAST 64], int16_t residues[FORMAT3_AT_LEAST FORMAT3_ARRAY_RESTRICT 64]);
+    const int16_t coefficients[FORMAT3_AT_LEAST 64], int16_t residues[FORMAT3_AT_LEAST FORMAT3_ARRAY_RESTRICT 64],
+    size_t *FORMAT3_RESTRICT rows);
 
 /* Dequantizes a level: intra AC, and non-intra.
  * Accepted: the intra coefficient is 2 x level x scale x weight / 16, the non-intra one

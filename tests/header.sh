@@ -31,7 +31,7 @@ to_c_structs() {
 }
 
 # The exports as C declarations, one per line: a slice is a pointer and a length. A pointer to what is written is `restrict`,
-# except to a single number, which is the only pointer of its call.
+# unless it is the only pointer of its call.
 source_functions() {
     awk '/^pub extern "C" fn/ { on = 1 } on { printf "%s ", $0 } / -> / { on = 0 }' $exports | sed -E '
         s/pub extern "C" fn (\w+)\(\s*([^)]*)\) -> (\w+) /\3 \1(\2);\n/g
@@ -42,9 +42,9 @@ source_functions() {
         s/(\w+): &\[(\w+); (\w+)\]/const \2 \1[static \3]/g
         s/(\w+): &mut (\w+::)*([A-Z]\w*)/@\3 *restrict \1/g
         s/(\w+): &(\w+::)*([A-Z]\w*)/const @\3 *\1/g
-        s/(\w+): &mut (\w+)/\2 *\1/g
+        s/(\w+): &mut (\w+)/\2 *restrict \1/g
         s/(\w+): (\w+)/\2 \1/g
-        s/,\s*\)/)/g; s/ +/ /g' | to_c_types | to_c_structs
+        s/,\s*\)/)/g; s/ +/ /g' | sed -E '/[*[].*[*[]/!s/\*restrict /*/' | to_c_types | to_c_structs
 }
 
 # C++ has neither `restrict` nor lengths for array parameters; compilers have __restrict__ for pointers.

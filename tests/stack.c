@@ -190,11 +190,12 @@ static void call_show_record(void)
 }
 
 static int16_t coefficients[64], residues[64];
+static size_t rows;
 
 static void call_transform(void)
 {
     FRAME_HERE();
-    number = format3_transform(coefficients, residues);
+    number = format3_transform(coefficients, residues, &rows);
 }
 
 static int32_t numbers[4];

@@ -66,27 +66,33 @@ static void vectors(void)
     vector(8, 0, 1, 0, FORMAT3_REFUSED_NUMBER_OUT_OF_RANGE, 0);
 }
 
-/* A DC coefficient alone gives the same number 64 times. */
-static void transformed(int16_t dc, uint32_t number, long expected)
+/* A DC coefficient alone gives the same number 64 times, from one row unless it is 0. */
+static void transformed(int16_t dc, uint32_t number, long expected, long expected_rows)
 {
     int16_t coefficients[64] = {0}, residues[64] = {0};
+    size_t rows = 9;
     coefficients[0] = dc;
     residues[63] = -1;
-    expect_answer("transform answer", number, format3_transform(coefficients, residues));
+    expect_answer("transform answer", number, format3_transform(coefficients, residues, &rows));
     for (int k = 0; k < 64; k++)
         expect("residue", expected, residues[k]);
+    expect("rows of a block", expected_rows, (long)rows);
 }
 
 static void transforms(void)
 {
-    transformed(8, FORMAT3_ACCEPTED, 1);
-    transformed(4, FORMAT3_ACCEPTED, 0);
-    transformed(2040, FORMAT3_ACCEPTED, 255);
-    transformed(2048, FORMAT3_REFUSED_NUMBER_OUT_OF_RANGE, 0);
+    transformed(8, FORMAT3_ACCEPTED, 1, 1);
+    transformed(4, FORMAT3_ACCEPTED, 0, 1);
+    transformed(2040, FORMAT3_ACCEPTED, 255, 1);
+    transformed(0, FORMAT3_ACCEPTED, 0, 0);
+    transformed(2048, FORMAT3_REFUSED_NUMBER_OUT_OF_RANGE, 0, 0);
 }
 
 /* The first file of document 01's reel: a grey picture of one macroblock. */
 static const uint8_t GREY[41] = {3, 0, 8, 1, 1, 1, 1, 0, 0, 0, 0, 0, 4, 3, 8, 0, 0, 0, 22, 4, 16, 0, 1};
+
+/* Each of its six blocks has a row: that of its DC. */
+enum { GREY_ROWS = 6 };
 
 static void header(size_t file_length, uint32_t number, long type, long size, long expected_start)
 {
@@ -131,12 +137,13 @@ static void records(void)
 static void picture(size_t file_length, size_t output_length, uint32_t number, long expected_place, long expected_made)
 {
     uint8_t output[FORMAT3_MACROBLOCK_BYTES];
-    struct format3_picture_result result = {9, 9};
+    struct format3_picture_result result = {9, 9, 9};
     memset(output, 7, sizeof output);
     expect_answer("picture answer", number,
         format3_reconstruct(GREY, file_length, NULL, 0, NULL, 0, output, output_length, &result));
     expect("place", expected_place, (long)result.place);
     expect("made", expected_made, (long)result.made);
+    expect("rows", GREY_ROWS * expected_made, (long)result.rows);
     for (size_t k = 0; k < sizeof output; k++)
         expect("pel", expected_made == 1 ? 128 : 7, output[k]);
 }

@@ -7,7 +7,7 @@ use std::fmt::Debug;
 use crate::decoder::panel::{play, text, PANEL_LIMITS};
 use crate::decoder::refusals::Refusal;
 use crate::decoder::vectors::f_of;
-use crate::decoder::{reconstruct, Entries, ENTRIES};
+use crate::decoder::{reconstruct, Answer, Entries, ENTRIES};
 use crate::generator::{case, reel, small_cases, Case};
 use crate::program::Program;
 use crate::random::Random;
@@ -60,7 +60,7 @@ pub fn pictures(tested: &Entries, seed: u64, count: u64) -> Result<Counts, Strin
         let case = case(seed, number);
         let what = || format!("picture {number} of seed {seed}");
         let answer = same_picture(tested, &case, what)?;
-        *counts.entry(answer).or_default() += 1;
+        *counts.entry(answer.number).or_default() += 1;
         let random = &mut Random::new(&[seed, number, 1]);
         same_records_shown(tested, &case.file, random)?;
     }
@@ -128,12 +128,12 @@ fn same_header(
     Ok(ours.0)
 }
 
-/// The answer's number, if both give the same answer and bytes, and read the same header.
+/// The answer, if both give the same answer and bytes, and read the same header.
 pub(crate) fn same_picture(
     tested: &Entries,
     case: &Case,
     what: impl Fn() -> String,
-) -> Result<u32, String> {
+) -> Result<Answer, String> {
     let run = |entries: &Entries| {
         let mut output = case.output.clone();
         let answer = (entries.reconstruct)(&case.file, &case.forward, &case.backward, &mut output);
@@ -143,7 +143,7 @@ pub(crate) fn same_picture(
     same_header(tested, &case.file, || format!("header of {}", what()))?;
     require_same(&what, ours.0, theirs.0)?;
     require_same_bytes(&what, &ours.1, &theirs.1)?;
-    Ok(ours.0.number)
+    Ok(ours.0)
 }
 
 /// Checks that two buffers of the same length have the same bytes, and reports the first that differs.
@@ -235,11 +235,16 @@ pub fn transforms(tested: &Entries, seed: u64, count: usize) -> Result<usize, St
     let mut blocks: Vec<[i16; 64]> = alone.collect();
     blocks.extend((0..count).map(|_| random_block(random)));
     for block in &blocks {
-        let transform = |entries: &Entries| (entries.transform)(block);
-        let what = || format!("transform of {block:?}");
-        require_same(what, transform(&ENTRIES), transform(tested))?;
+        same_transform(tested, block)?;
     }
     Ok(blocks.len())
+}
+
+/// The answer's number, if both transform a block alike: the number, the residues and the rows worked.
+pub(crate) fn same_transform(tested: &Entries, block: &[i16; 64]) -> Result<u32, String> {
+    let [ours, theirs] = [&ENTRIES, tested].map(|entries| (entries.transform)(block));
+    require_same(|| format!("transform of {block:?}"), ours, theirs)?;
+    Ok(ours.0)
 }
 
 fn random_block(random: &mut Random) -> [i16; 64] {

@@ -4,13 +4,14 @@ use crate::compare_cases::{compare_cases, require_every, Compared, KindCounts};
 use crate::decoder::coefficients::{raster_index, Block};
 use crate::decoder::macroblock::{CodedBlock, Macroblock};
 use crate::decoder::Entries;
-use crate::generator::{all_stages, stage_cases, Fault, Next, Pairs, Scaled, Stage};
-use crate::records::{macroblock_records, MacroblockRecord};
+use crate::generator::{all_stages, stage_cases, Case, Fault, Next, Pairs, Scaled, Stage};
+use crate::records::{lengths_before, macroblock_records, MacroblockRecord};
 
 /// Compares pictures with blocks in each stage. Also fails if a stage never occurred, told from the file as the other decoder reads
 /// it.
 pub fn blocks(tested: &Entries, seed: u64) -> Result<Compared<Stage>, String> {
     let told = |number| format!("picture {number} of blocks of seed {seed}");
+    let stages = |case: &Case, _| stages(&case.file);
     let compared = compare_cases(tested, &stage_cases(seed), told, stages)?;
     require_every_stage(&compared.kinds)?;
     Ok(compared)
@@ -65,15 +66,6 @@ fn refused(body: &[u8]) -> Option<Stage> {
                 next: Next::Refused(fault),
             });
         }
-    }
-}
-
-/// How many bytes come before the blocks of a macroblock of type 8 or 16, and in each block before its count of pairs.
-pub fn lengths_before(macroblock_type: u8) -> (usize, usize) {
-    if macroblock_type == 16 {
-        (3, 2)
-    } else {
-        (4, 0)
     }
 }
 

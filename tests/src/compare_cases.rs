@@ -4,7 +4,7 @@ use std::collections::BTreeMap;
 use std::fmt::Debug;
 
 use crate::compare::{same_picture, Counts};
-use crate::decoder::Entries;
+use crate::decoder::{Answer, Entries};
 use crate::generator::Case;
 
 /// How often each kind occurred.
@@ -16,19 +16,19 @@ pub struct Compared<Kind> {
     pub kinds: KindCounts<Kind>,
 }
 
-/// Compares each case, and counts the kinds that its file has. A case is told by its number.
+/// Compares each case, and counts the kinds that it has, given the other decoder's answer. A case is told by its number.
 pub(crate) fn compare_cases<Kind: Ord>(
     tested: &Entries,
     cases: &[Case],
     told: impl Fn(usize) -> String,
-    kinds_of: fn(&[u8]) -> Vec<Kind>,
+    kinds_of: fn(&Case, Answer) -> Vec<Kind>,
 ) -> Result<Compared<Kind>, String> {
     let mut answers = Counts::new();
     let mut kinds = KindCounts::new();
     for (number, case) in cases.iter().enumerate() {
         let answer = same_picture(tested, case, || told(number))?;
-        *answers.entry(answer).or_default() += 1;
-        for kind in kinds_of(&case.file) {
+        *answers.entry(answer.number).or_default() += 1;
+        for kind in kinds_of(case, answer) {
             *kinds.entry(kind).or_default() += 1;
         }
     }

@@ -7,13 +7,14 @@ use crate::decoder::picture::skip_vectors;
 use crate::decoder::size::Size;
 use crate::decoder::vectors::{fits, Vectors};
 use crate::decoder::Entries;
-use crate::generator::{all_arrangements, misfit_cases, Arrangement, Fit};
+use crate::generator::{all_arrangements, misfit_cases, Arrangement, Case, Fit};
 use crate::records::{macroblock_records, MacroblockRecord};
 
 /// Compares a picture for each arrangement. Also fails if an arrangement never occurred, told from the file as the other decoder
 /// reads it.
 pub fn misfits(tested: &Entries, seed: u64) -> Result<Compared<Arrangement>, String> {
     let told = |number| format!("misfit {number} of seed {seed}");
+    let arrangements = |case: &Case, _| arrangements(&case.file);
     let compared = compare_cases(tested, &misfit_cases(seed), told, arrangements)?;
     require_every_arrangement(&compared.kinds)?;
     Ok(compared)

@@ -6,6 +6,7 @@ use std::path::{Path, PathBuf};
 
 use crate::decoder::panel::{play, text, Line, NO_LIMITS};
 use crate::decoder::{Entries, FileStart, Given, ReadHeader, ReadSlice, Reconstruct, SliceAnswer};
+use crate::records::{macroblock_records, MacroblockRecord};
 use crate::sha256;
 use crate::stream;
 
@@ -184,8 +185,8 @@ impl PanelFixture {
 }
 
 impl StreamFixture {
-    /// Checks that every picture of the reel, made by `reconstruct`, has the expected line and hash, and is within 1 per pel of the
-    /// other codec's.
+    /// Checks that every picture of the reel, made by `reconstruct`, has the expected line and hash, counts the rows worked, and is
+    /// within 1 per pel of the other codec's.
     pub fn check(&self, reconstruct: Reconstruct) -> Result<(), String> {
         let mut lines = play(&self.reel, NO_LIMITS, reconstruct);
         let pictures: Vec<u8> = lines
@@ -195,10 +196,28 @@ impl StreamFixture {
             .collect();
         lines.iter_mut().for_each(add_hash);
         same_lines(&self.name, &self.expected, &text(&lines))?;
+        self.check_rows(&lines)?;
         match &self.other {
             Some(other) => within_one(&self.name, other, &pictures),
             None => Ok(()),
         }
+    }
+
+    /// Checks that each answer has the rows of its file's macroblocks, as the other decoder reads them. All pictures are accepted.
+    fn check_rows(&self, lines: &[Line]) -> Result<(), String> {
+        let files = stream::files_of_reel(&self.reel)?;
+        for (number, (file, line)) in (1..).zip(files.iter().zip(lines)) {
+            let records = macroblock_records(file);
+            let expected = records.iter().map(MacroblockRecord::rows).sum();
+            let found = line.answer.map(|answer| answer.rows);
+            if found != Some(expected) {
+                let name = &self.name;
+                return Err(format!(
+                    "{name}, picture {number}: {found:?} rows, not {expected}"
+                ));
+            }
+        }
+        Ok(())
     }
 
     /// Checks that the stream's slices, turned into records, are those of the reel, so that the pictures' files are too.

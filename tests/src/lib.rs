@@ -13,6 +13,7 @@ pub mod compare_blocks;
 pub mod compare_cases;
 pub mod compare_misfits;
 pub mod compare_room_slices;
+pub mod compare_rows;
 pub mod compare_slices;
 pub mod decoder;
 pub mod fixtures;

@@ -5,7 +5,7 @@
 use format3::raw;
 
 use crate::decoder::entries::{Entries, FileStart, Shown};
-use crate::decoder::{Answer, Given, SliceAnswer};
+use crate::decoder::{Answer, Given, SliceAnswer, Transformed};
 
 /// The library's entries.
 pub const ENTRIES: Entries = Entries {
@@ -50,6 +50,7 @@ fn reconstruct(file: &[u8], forward: &[u8], backward: &[u8], output: &mut [u8]) 
     let mut result = raw::PictureResult {
         place: UNWRITTEN,
         made: UNWRITTEN,
+        rows: UNWRITTEN,
     };
     // SAFETY: each pointer belongs to a live slice, with its length, or to a live struct, and what is written overlaps nothing.
     let number = unsafe {
@@ -69,14 +70,16 @@ fn reconstruct(file: &[u8], forward: &[u8], backward: &[u8], output: &mut [u8]) 
         number,
         place: result.place,
         made: result.made,
+        rows: result.rows,
     }
 }
 
-fn transform(coefficients: &[i16; 64]) -> (u32, [i16; 64]) {
+fn transform(coefficients: &[i16; 64]) -> (u32, Transformed) {
     let mut residues = [UNWRITTEN as i16; 64];
-    // SAFETY: both pointers belong to live arrays of 64 numbers.
-    let number = unsafe { raw::format3_transform(coefficients, &mut residues) };
-    (number, residues)
+    let mut rows = UNWRITTEN;
+    // SAFETY: the pointers belong to separate live arrays of 64 numbers and to a live number.
+    let number = unsafe { raw::format3_transform(coefficients, &mut residues, &mut rows) };
+    (number, Transformed { residues, rows })
 }
 
 fn coefficient(entry: Coefficient, level: i32, scale: i32, weight: i32) -> (u32, i16) {

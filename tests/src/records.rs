@@ -4,8 +4,12 @@ use crate::decoder::coefficients::Block;
 use crate::decoder::file::{
     first_header, matrix, record, slice, Header, Record, MACROBLOCK, MATRIX, SLICE,
 };
-use crate::decoder::macroblock::{macroblock, Last, Macroblock, SliceState};
+use crate::decoder::macroblock::{
+    coded_block, component, macroblock, CodedBlock, Fields, Last, Macroblock, SliceState,
+};
 use crate::decoder::refusals::{require, Refusal};
+use crate::decoder::transform::rows_worked;
+use crate::decoder::Answer;
 
 /// A macroblock record, and what it depends on.
 pub struct MacroblockRecord<'a> {
@@ -18,6 +22,48 @@ pub struct MacroblockRecord<'a> {
     pub before: SliceState,
     pub body: &'a [u8],
     pub read: Result<Macroblock, Refusal>,
+}
+
+impl MacroblockRecord<'_> {
+    /// The coefficients of the coded blocks that are read before a field is refused. If one is, the type must be 8, with all blocks
+    /// coded, or 16.
+    pub fn coefficients(&self) -> Vec<Block> {
+        if let Ok(read) = &self.read {
+            let blocks = read.coefficients(self.matrices);
+            return blocks.into_iter().flatten().collect();
+        }
+        let blocks = self.blocks_before_refusal();
+        let coefficients = |block: CodedBlock| block.coefficients(self.matrices, self.before.scale);
+        blocks.into_iter().map(coefficients).collect()
+    }
+
+    fn blocks_before_refusal(&self) -> Vec<CodedBlock> {
+        let Some(&macroblock_type) = self.body.first() else {
+            return Vec::new();
+        };
+        let (fields, _) = lengths_before(macroblock_type);
+        let fields = &mut Fields(self.body.get(fields..).unwrap_or_default());
+        let mut pasts = self.before.dc_pasts;
+        let block = |index| {
+            let past = &mut pasts[component(index)];
+            coded_block(fields, macroblock_type == 16, past).ok()
+        };
+        (0..6).map_while(block).collect()
+    }
+
+    /// The rows worked in these blocks.
+    pub fn rows(&self) -> usize {
+        self.coefficients().iter().map(rows_worked).sum()
+    }
+}
+
+/// How many bytes come before the blocks of a macroblock of type 8 or 16, and in each block before its count of pairs.
+pub fn lengths_before(macroblock_type: u8) -> (usize, usize) {
+    if macroblock_type == 16 {
+        (3, 2)
+    } else {
+        (4, 0)
+    }
 }
 
 /// The macroblock records of a file, up to the first record that is refused; if that is a macroblock record, it is the last. Vectors
@@ -44,6 +90,19 @@ pub fn macroblock_records(file: &[u8]) -> Vec<MacroblockRecord<'_>> {
         offset = record.end;
     }
     found
+}
+
+/// The records of a file that are made, by the answer to it, and the macroblock record that is refused, if one is.
+pub fn made_and_refused<'a, 'b>(
+    records: &'a [MacroblockRecord<'b>],
+    answer: Answer,
+) -> (&'a [MacroblockRecord<'b>], Option<&'a MacroblockRecord<'b>>) {
+    let is_made = |record: &&MacroblockRecord| match &record.read {
+        Ok(read) => record.next + read.skipped < answer.made,
+        Err(_) => false,
+    };
+    let (made, rest) = records.split_at(records.iter().take_while(is_made).count());
+    (made, rest.first())
 }
 
 /// How far a file is read after its header.

@@ -7,13 +7,13 @@ mod found;
 use std::collections::BTreeSet;
 
 use common::{file_of, I, SLICE};
-use format3_tests::compare_blocks::{blocks, lengths_before, require_every_stage, stages};
+use format3_tests::compare_blocks::{blocks, require_every_stage, stages};
 use format3_tests::decoder::coefficients::{raster_index, Block};
 use format3_tests::decoder::file::header;
 use format3_tests::decoder::macroblock::{macroblock, SliceState};
 use format3_tests::decoder::{reconstruct, Answer, Entries, Reconstruct, ENTRIES};
 use format3_tests::generator::{all_stages, stage_cases, Case, Fault, Next, Pairs, Scaled, Stage};
-use format3_tests::records::macroblock_records;
+use format3_tests::records::{lengths_before, macroblock_records};
 use found::require_found;
 
 const SEED: u64 = 1;

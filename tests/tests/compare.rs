@@ -8,11 +8,13 @@ use format3_tests::compare::{
 use format3_tests::compare_blocks::blocks;
 use format3_tests::compare_misfits::misfits;
 use format3_tests::compare_room_slices::room_slices;
+use format3_tests::compare_rows::{row_masks, rows};
 use format3_tests::compare_slices::{
     changed_slices, ended_slices, long_slices, slices, stream_slices,
 };
 use format3_tests::decoder::{
-    Answer, Entries, FileStart, Given, ReadHeader, ReadSlice, Reconstruct, SliceAnswer, ENTRIES,
+    Answer, Entries, FileStart, Given, ReadHeader, ReadSlice, Reconstruct, SliceAnswer,
+    Transformed, ENTRIES,
 };
 use format3_tests::generator::{record_ends, ROOM};
 use found::require_found;
@@ -24,6 +26,8 @@ fn compare(tested: &Entries) -> Result<(), String> {
     pictures(tested, SEED, 200)?;
     misfits(tested, SEED)?;
     blocks(tested, SEED)?;
+    rows(tested, SEED)?;
+    row_masks(tested, SEED)?;
     transforms(tested, SEED, 200)?;
     headers(tested)?;
     changed_fields(tested, SEED)?;
@@ -50,6 +54,7 @@ fn wrong_panels_are_found() {
         number: 3,
         place: 1,
         made: 0,
+        rows: 0,
     };
     let grey: Reconstruct = |file, forward, backward, output| {
         let answer = (ENTRIES.reconstruct)(file, forward, backward, output);
@@ -63,6 +68,10 @@ fn wrong_panels_are_found() {
         made: 0,
         ..(ENTRIES.reconstruct)(file, forward, backward, output)
     };
+    let invents_rows: Reconstruct = |file, forward, backward, output| Answer {
+        rows: 0,
+        ..(ENTRIES.reconstruct)(file, forward, backward, output)
+    };
     let seven_at_the_start: Reconstruct = |file, forward, backward, output| {
         let answer = (ENTRIES.reconstruct)(file, forward, backward, output);
         let place = if answer.number == 7 { 1 } else { answer.place };
@@ -73,6 +82,7 @@ fn wrong_panels_are_found() {
         ("one grey picture for all", grey),
         ("a panel that writes nothing", writes_nothing),
         ("an invented made", invents_made),
+        ("invented rows", invents_rows),
         ("7 said at the start", seven_at_the_start),
     ];
     for (name, reconstruct) in panels {
@@ -87,7 +97,17 @@ fn wrong_panels_are_found() {
 #[test]
 fn wrong_entries_are_found() {
     let zeros = Entries {
-        transform: |_| (0, [0; 64]),
+        transform: |block| {
+            let (_, transformed) = (ENTRIES.transform)(block);
+            let residues = [0; 64];
+            (
+                0,
+                Transformed {
+                    residues,
+                    ..transformed
+                },
+            )
+        },
         ..ENTRIES
     };
     require_found("a transform of zeros", compare(&zeros));

@@ -1,7 +1,7 @@
 //! Tests the other decoder against every fixture.
 
 use format3_tests::decoder::panel::{play, text, PANEL_LIMITS};
-use format3_tests::decoder::{reconstruct, ENTRIES};
+use format3_tests::decoder::{reconstruct, Answer, Reconstruct, ENTRIES};
 use format3_tests::fixtures::{panel_fixtures, stream_fixtures};
 
 #[test]
@@ -17,6 +17,19 @@ fn streams_have_the_pictures_of_the_fixtures() {
     for fixture in stream_fixtures() {
         assert_eq!(fixture.check(reconstruct), Ok(()));
     }
+}
+
+#[test]
+fn wrong_rows_of_a_stream_are_reported() {
+    let one_more: Reconstruct = |file, forward, backward, output| {
+        let answer = reconstruct(file, forward, backward, output);
+        let rows = answer.rows + 1;
+        Answer { rows, ..answer }
+    };
+    let fixtures = stream_fixtures();
+    let reported = fixtures[0].check(one_more).expect_err("a row too many");
+    assert!(reported.contains("picture 1: "), "{reported}");
+    assert!(reported.contains(" rows, not "), "{reported}");
 }
 
 #[test]

@@ -1,4 +1,4 @@
-//! Tests the other decoder against settled readings of document 01 and request No. 1, where their words leave a choice.
+//! Tests the other decoder against settled readings of document 01 and requests No. 1 and 6, where their words leave a choice.
 
 mod common;
 
@@ -6,7 +6,7 @@ use common::{file_of, I, SLICE};
 use format3_tests::decoder::entries::{FileStart, Shown};
 use format3_tests::decoder::panel::{play, text, PANEL_LIMITS};
 use format3_tests::decoder::refusals::Answer;
-use format3_tests::decoder::{reconstruct, ENTRIES};
+use format3_tests::decoder::{reconstruct, Transformed, ENTRIES};
 
 /// The header of a P-picture of one macroblock.
 const P: &[u8] = &[1, 1, 1, 2, 0, 1, 0, 0];
@@ -17,16 +17,22 @@ const GREY: &[u8] = &[
 ];
 
 /// The answer, with references of `macroblocks` macroblocks in each direction that the first header's type uses.
-fn answer_with(file: &[u8], macroblocks: usize) -> (u32, usize, usize) {
+fn whole_answer(file: &[u8], macroblocks: usize) -> Answer {
     let bytes = vec![100; 384 * macroblocks];
     let picture_type = file.get(6).copied().unwrap_or(0);
     let forward = if picture_type >= 2 { &bytes[..] } else { &[] };
     let backward = if picture_type >= 3 { &bytes[..] } else { &[] };
+    reconstruct(file, forward, backward, &mut bytes.clone())
+}
+
+/// Its number, place and made.
+fn answer_with(file: &[u8], macroblocks: usize) -> (u32, usize, usize) {
     let Answer {
         number,
         place,
         made,
-    } = reconstruct(file, forward, backward, &mut bytes.clone());
+        ..
+    } = whole_answer(file, macroblocks);
     (number, place, made)
 }
 
@@ -270,7 +276,124 @@ fn numbers_out_of_range() {
     assert_eq!((ENTRIES.non_intra_coefficient)(1, 1, 0), (22, 0));
     let mut block = [0; 64];
     block[63] = 2048;
-    assert_eq!((ENTRIES.transform)(&block), (22, [0; 64]));
+    let zeros = Transformed {
+        residues: [0; 64],
+        rows: 0,
+    };
+    assert_eq!((ENTRIES.transform)(&block), (22, zeros));
+}
+
+/// The rows worked for a P-picture of one macroblock, whose first block alone is coded, with these pairs.
+fn rows_of_block(before: &[&[u8]], pairs: &[[u8; 3]]) -> usize {
+    let fields = [4, 8, 0, 1, 32, pairs.len() as u8];
+    let macroblock = [&fields, pairs.as_flattened()].concat();
+    let file = file_of(&[&[P], before, &[&macroblock]].concat());
+    let answer = whole_answer(&file, 1);
+    assert_eq!(answer.number, 0);
+    answer.rows
+}
+
+/// A row is a vertical frequency: positions 0 and 1 are in the first one, position 2 in the second.
+#[test]
+fn rows_are_vertical_frequencies() {
+    let next = [0, 0, 1];
+    assert_eq!(rows_of_block(&[SLICE], &[next]), 1);
+    assert_eq!(rows_of_block(&[SLICE], &[next, next]), 1);
+    assert_eq!(rows_of_block(&[SLICE], &[next, [1, 0, 1]]), 2);
+    assert_eq!(rows_of_block(&[SLICE], &[[2, 0, 1]]), 1);
+    assert_eq!(rows_of_block(&[SLICE], &[[63, 0, 1]]), 1);
+    assert_eq!(rows_of_block(&[SLICE], &[next; 64]), 8);
+}
+
+/// With scale 1 and weight 1, the coefficient is (2 × level + 1) / 16: 0 up to level 7, and 1 for level 8.
+#[test]
+fn a_level_scaled_to_0_works_no_row() {
+    let matrix = [&[2, 1], &[1; 64][..]].concat();
+    let before: &[&[u8]] = &[&matrix, &[3, 1, 0, 0]];
+    assert_eq!(rows_of_block(before, &[[0, 0, 1]]), 0);
+    assert_eq!(rows_of_block(before, &[[0, 0, 7]; 64]), 0);
+    assert_eq!(rows_of_block(before, &[[0, 0, 8]]), 1);
+    assert_eq!(rows_of_block(before, &[[0, 0, 8], [1, 0, 7]]), 1);
+    assert_eq!(rows_of_block(before, &[[0, 0, 7], [0, 0, 8]]), 1);
+}
+
+/// A block with a DC of 0 alone works no row: a difference of -128 for the first block of Y, or of each component.
+#[test]
+fn a_dc_of_0_works_no_row() {
+    let rows = |differences: [u8; 3]| {
+        let [y, cb, cr] = differences.map(|low| [if low == 0 { 0 } else { 255 }, low, 0]);
+        let body = [&[4, 16, 0, 1], &y[..], &[0; 9], &cb, &cr].concat();
+        let answer = whole_answer(&file_of(&[I, SLICE, &body]), 1);
+        assert_eq!(answer.number, 0);
+        answer.rows
+    };
+    assert_eq!(rows([0, 0, 0]), 6);
+    assert_eq!(rows([128, 0, 0]), 2);
+    assert_eq!(rows([0, 128, 0]), 5);
+    assert_eq!(rows([128, 128, 128]), 0);
+}
+
+/// A macroblock of which the first and the last block are coded, with two rows and one.
+const THREE_ROWS: &[u8] = &[4, 8, 0, 1, 33, 2, 0, 0, 1, 1, 0, 1, 1, 0, 0, 1];
+
+/// Three macroblocks side by side: those that are skipped or have no pattern work no row, nor do blocks that are not coded.
+#[test]
+fn rows_of_coded_blocks_alone() {
+    let p = &[1, 3, 1, 2, 0, 1, 0, 0];
+    let no_pattern = &[4, 2, 0, 1, 0, 0, 0, 0];
+    let skipping = &[4, 2, 0, 2, 0, 0, 0, 0];
+    let rows = |records: &[&[u8]]| {
+        let answer = whole_answer(&file_of(&[&[p, SLICE], records].concat()), 3);
+        assert_eq!((answer.number, answer.made), (0, 3));
+        answer.rows
+    };
+    assert_eq!(rows(&[no_pattern, skipping]), 0);
+    assert_eq!(rows(&[THREE_ROWS, skipping]), 3);
+    assert_eq!(rows(&[THREE_ROWS, no_pattern, THREE_ROWS]), 6);
+    assert_eq!(rows(&[THREE_ROWS, THREE_ROWS, GREY]), 12);
+}
+
+/// Two macroblocks side by side. A refused record adds no row, wherever it is refused. All rows count if what follows the last
+/// macroblock is refused.
+#[test]
+fn rows_of_a_refused_picture() {
+    let p = &[1, 2, 1, 2, 0, 1, 0, 0];
+    let rows = |records: &[&[u8]]| {
+        let Answer { number, rows, .. } = whole_answer(&file_of(records), 2);
+        (number, rows)
+    };
+    let first = &[p, SLICE, THREE_ROWS];
+    let then = |second: &[u8]| rows(&[&first[..], &[second]].concat());
+    assert_eq!(rows(first), (7, 3));
+    let long = [THREE_ROWS, &[0]].concat();
+    assert_eq!(then(&long), (6, 3));
+    assert_eq!(then(&THREE_ROWS[..THREE_ROWS.len() - 1]), (6, 3));
+    let level_0 = [&THREE_ROWS[..THREE_ROWS.len() - 1], &[0]].concat();
+    assert_eq!(then(&level_0), (16, 3));
+    let misfit = [&[4, 10, 0, 1, 0, 0, 1, 0], &THREE_ROWS[4..]].concat();
+    assert_eq!(then(&misfit), (18, 3));
+    assert_eq!(then(THREE_ROWS), (0, 6));
+    let whole = [&first[..], &[THREE_ROWS]].concat();
+    assert_eq!(rows(&[&whole[..], &[THREE_ROWS]].concat()), (5, 6));
+    assert_eq!(rows(&[&whole[..], &[&[9]]].concat()), (4, 6));
+}
+
+/// No row is worked if no macroblock is made.
+#[test]
+fn rows_without_a_macroblock() {
+    let intra = file_of(&[I, SLICE, GREY]);
+    let lent = |forward: usize, backward: usize, output: usize| {
+        let [forward, backward, mut output] = [forward, backward, output].map(|n| vec![0; n]);
+        let answer = reconstruct(&intra, &forward, &backward, &mut output);
+        (answer.number, answer.rows)
+    };
+    assert_eq!(lent(0, 0, 383), (19, 0));
+    assert_eq!(lent(384, 0, 384), (20, 0));
+    assert_eq!(lent(0, 384, 384), (21, 0));
+    assert_eq!(lent(0, 0, 384), (0, 6));
+    for file in [&[][..], &[4], &[3], &intra[..40], &intra[..17]] {
+        assert_eq!(whole_answer(file, 1).rows, 0, "{file:?}");
+    }
 }
 
 #[test]

@@ -3,27 +3,111 @@
 use std::fs;
 use std::path::{Path, PathBuf};
 
-use format3_tests::decoder::{Answer, Entries, Reconstruct, ENTRIES};
+use format3_tests::decoder::{Answer, Entries, Reconstruct, Transform, Transformed, ENTRIES};
 use format3_tests::requests::notation::Unread;
 use format3_tests::requests::{
     found_in, request_of, run, CaseResult, Difference, Found, Landed, Report, RequestFile, Tested,
     LANDED,
 };
 
-const HEADER: &str = "# name\tfile\tforward\tbackward\toutput\tnumber\tplace\tmade\tsum";
+/// A file of a request, and a case of it that is met.
+struct Example {
+    name: &'static str,
+    case: Vec<String>,
+}
+
+fn example(name: &'static str, case: &[&str]) -> Example {
+    Example {
+        name,
+        case: case.iter().copied().map(String::from).collect(),
+    }
+}
 
 /// A case of No. 1 whose forward vector does not fit.
-const CASE: [&str; 9] = [
-    "hand/forward-alone",
-    "0300080102010300010001000403080000000804020001ff000000",
-    "1004446826:768",
-    "3742870132:768",
-    "1:768",
-    "18",
-    "17",
-    "0",
-    "2475f214d3577918",
-];
+fn no01() -> Example {
+    let case = [
+        "hand/forward-alone",
+        "0300080102010300010001000403080000000804020001ff000000",
+        "1004446826:768",
+        "3742870132:768",
+        "1:768",
+        "18",
+        "17",
+        "0",
+        "2475f214d3577918",
+    ];
+    example("no01.txt", &case)
+}
+
+/// A case of No. 6: a macroblock whose six blocks have a DC alone.
+fn no06() -> Example {
+    let case = [
+        "hand/six-dc",
+        "0300080101010100000000000403080000001604100001000000000000000000000000000000000000",
+        "-",
+        "-",
+        "1:384",
+        "0",
+        "41",
+        "1",
+        "6",
+        "79ab84058bbe8125",
+    ];
+    example("no06.txt", &case)
+}
+
+/// A case of No. 6: the transform of a DC alone.
+fn no06_transform() -> Example {
+    let case = ["dc/6", &list("8", "0"), "0", "1", &list("1", "1")];
+    example("no06-transform.txt", &case)
+}
+
+/// A list of 64 numbers, all the same but for the first.
+fn list(first: &str, other: &str) -> String {
+    [&[first], &[other; 63][..]].concat().join(",")
+}
+
+impl Example {
+    fn line(&self) -> String {
+        self.case.join("\t")
+    }
+
+    /// The case's line with another text in a field.
+    fn line_with(&self, field: usize, text: &str) -> String {
+        let mut fields = self.case.clone();
+        fields[field] = text.into();
+        fields.join("\t")
+    }
+
+    /// The report on a file with the case, and a line.
+    fn report_with(&self, line: &str) -> Report {
+        let text = format!("# fields\n{}\n{line}\n", self.line());
+        run_on_decoder(&[found(self.name, &text)], LANDED)
+    }
+
+    /// The case of a line differs so.
+    fn assert_differs(&self, line: &str, expected: &str, given: &str) {
+        let (name, case) = (self.name, &self.case[0]);
+        let lines = [
+            &*format!("{name}, line 3: {case}: expected {expected}; given {given}"),
+            &*format!("{name}: 2 cases, 1 differ"),
+            "requests: 2 cases, 1 differ",
+        ];
+        assert_report(&self.report_with(line), 1, &lines);
+    }
+
+    /// A line is not run, for this reason.
+    fn assert_not_run(&self, line: &str, reason: &str) {
+        let name = self.name;
+        let lines = [
+            &*format!("{name}, line 3: {reason}"),
+            &*format!("{name}: 1 cases, 0 differ"),
+            "1 files or lines could not be run",
+            "requests: 1 cases, 0 differ",
+        ];
+        assert_report(&self.report_with(line), 1, &lines);
+    }
+}
 
 fn copies() -> PathBuf {
     Path::new(env!("CARGO_MANIFEST_DIR")).join("fixtures/requests")
@@ -47,23 +131,6 @@ fn found(name: &str, text: &str) -> Found {
     }
 }
 
-/// A file of No. 1 with these lines.
-fn no01(lines: &[String]) -> Found {
-    found("no01.txt", &format!("{}\n", lines.join("\n")))
-}
-
-fn case_with(field: usize, text: &str) -> String {
-    let mut fields = CASE;
-    fields[field] = text;
-    fields.join("\t")
-}
-
-/// The report on a file of No. 1 with a case that is met, and a line.
-fn report_with(line: &str) -> Report {
-    let lines = [HEADER.into(), CASE.join("\t"), line.into()];
-    run_on_decoder(&[no01(&lines)], LANDED)
-}
-
 fn assert_report(report: &Report, exit_status: u8, lines: &[&str]) {
     let text = report.to_string();
     assert_eq!(text.lines().collect::<Vec<_>>(), lines);
@@ -76,7 +143,9 @@ fn the_decoder_gives_the_answers_of_the_cases() {
     let report = run_on_decoder(&found, LANDED);
     let lines = [
         "no01.txt: 306 cases, 0 differ",
-        "requests: 306 cases, 0 differ",
+        "no06-transform.txt: 206 cases, 0 differ",
+        "no06.txt: 335 cases, 0 differ",
+        "requests: 847 cases, 0 differ",
     ];
     assert_report(&report, 0, &lines);
 }
@@ -90,12 +159,18 @@ fn every_file_of_a_landed_request_is_copied() {
 
 #[test]
 fn a_case_that_is_met_passes() {
-    let lines = ["no01.txt: 2 cases, 0 differ", "requests: 2 cases, 0 differ"];
-    assert_report(&report_with(&CASE.join("\t")), 0, &lines);
+    for example in [no01(), no06(), no06_transform()] {
+        let lines = [
+            &*format!("{}: 2 cases, 0 differ", example.name),
+            "requests: 2 cases, 0 differ",
+        ];
+        assert_report(&example.report_with(&example.line()), 0, &lines);
+    }
 }
 
 #[test]
 fn each_wrong_answer_differs() {
+    let example = no01();
     let answer = "number 18, place 17, made 0, sum 2475f214d3577918";
     for (field, text, expected) in [
         (5, "23", "number 23, place 17, made 0, sum 2475f214d3577918"),
@@ -107,12 +182,36 @@ fn each_wrong_answer_differs() {
             "number 18, place 17, made 0, sum 2475f214d3577919",
         ),
     ] {
-        let lines = [
-            &format!("no01.txt, line 3: hand/forward-alone: expected {expected}; given {answer}"),
-            "no01.txt: 2 cases, 1 differ",
-            "requests: 2 cases, 1 differ",
-        ];
-        assert_report(&report_with(&case_with(field, text)), 1, &lines);
+        example.assert_differs(&example.line_with(field, text), expected, answer);
+    }
+}
+
+#[test]
+fn wrong_rows_of_a_picture_differ() {
+    let example = no06();
+    let with_rows =
+        |rows: &str| format!("number 0, place 41, made 1, rows {rows}, sum 79ab84058bbe8125");
+    for rows in ["0", "5", "7"] {
+        let line = example.line_with(8, rows);
+        example.assert_differs(&line, &with_rows(rows), &with_rows("6"));
+    }
+    let line = example.line_with(7, "0");
+    let expected = "number 0, place 41, made 0, rows 6, sum 79ab84058bbe8125";
+    example.assert_differs(&line, expected, &with_rows("6"));
+}
+
+#[test]
+fn each_wrong_answer_of_the_transform_differs() {
+    let example = no06_transform();
+    let ones = list("1", "1");
+    let answer = format!("number 0, rows 1, residues {ones}");
+    let other = list("2", "1");
+    for (field, text, expected) in [
+        (2, "22", format!("number 22, rows 1, residues {ones}")),
+        (3, "2", format!("number 0, rows 2, residues {ones}")),
+        (4, &*other, format!("number 0, rows 1, residues {other}")),
+    ] {
+        example.assert_differs(&example.line_with(field, text), &expected, &answer);
     }
 }
 
@@ -128,56 +227,147 @@ fn the_inputs_of_a_case_reach_the_entry() {
             number: 7,
             place: 8,
             made: 9,
+            rows: 10,
         }
     };
     let entries = Entries {
         reconstruct,
         ..ENTRIES
     };
-    let line = "name\t00ff\t1:3\t2:4\t1:384\t7\t8\t9\tea2c49134a3df333";
-    let found = [no01(&[HEADER.into(), line.into()])];
+    let inputs = "# fields\nname\t00ff\t1:3\t2:4\t1:384";
+    let without_rows = format!("{inputs}\t7\t8\t9\tea2c49134a3df333");
+    let with_rows = format!("{inputs}\t7\t8\t9\t10\tea2c49134a3df333");
+    let found = [
+        found("no01.txt", &without_rows),
+        found("no06.txt", &with_rows),
+    ];
+    let report = run(&found, LANDED, tested_with(&entries));
+    assert_eq!(report.exit_status(), 0, "{report}");
+}
+
+/// The coefficients are in the order of the line.
+#[test]
+fn the_coefficients_of_a_case_reach_the_entry() {
+    let transform: Transform = |coefficients| {
+        assert_eq!(*coefficients, std::array::from_fn(|place| place as i16));
+        let transformed = Transformed {
+            residues: coefficients.map(|coefficient| -coefficient),
+            rows: 3,
+        };
+        (4, transformed)
+    };
+    let entries = Entries {
+        transform,
+        ..ENTRIES
+    };
+    let list = |sign: i32| {
+        let numbers = (0..64).map(|place| (sign * place).to_string());
+        Vec::from_iter(numbers).join(",")
+    };
+    let line = format!("name\t{}\t4\t3\t{}", list(1), list(-1));
+    let found = [found("no06-transform.txt", &format!("# fields\n{line}"))];
     let report = run(&found, LANDED, tested_with(&entries));
     assert_eq!(report.exit_status(), 0, "{report}");
 }
 
 #[test]
 fn a_line_that_is_not_a_case_fails() {
-    let short = CASE[..8].join("\t");
-    let long = format!("{}\t0", CASE.join("\t"));
+    let example = no01();
+    let short = example.case[..8].join("\t");
+    let long = format!("{}\t0", example.line());
+    let with = |field, text| example.line_with(field, text);
     for (line, reason) in [
         (short, "8 fields, not 9"),
         (long, "10 fields, not 9"),
         (String::new(), "1 fields, not 9"),
-        (case_with(1, "03F0"), "no bytes: \"03F0\""),
-        (case_with(2, "1"), "no picture: \"1\""),
-        (case_with(5, "x"), "no number: \"x\""),
+        (no06().line(), "10 fields, not 9"),
+        (with(1, "03F0"), "no bytes: \"03F0\""),
+        (with(2, "1"), "no picture: \"1\""),
+        (with(5, "x"), "no number: \"x\""),
         (
-            case_with(5, "4294967296"),
+            with(5, "4294967296"),
             "the entry's type has no number 4294967296",
         ),
-        (case_with(8, "2475f214d35779"), "no sum: \"2475f214d35779\""),
+        (with(8, "2475f214d35779"), "no sum: \"2475f214d35779\""),
     ] {
-        let lines = [
-            &format!("no01.txt, line 3: {reason}"),
-            "no01.txt: 1 cases, 0 differ",
-            "1 files or lines could not be run",
-            "requests: 1 cases, 0 differ",
-        ];
-        assert_report(&report_with(&line), 1, &lines);
+        example.assert_not_run(&line, reason);
     }
+    no06().assert_not_run(&example.line(), "9 fields, not 10");
+    no06().assert_not_run(
+        &no06().line_with(8, "-1"),
+        "the entry's type has no number -1",
+    );
+}
+
+#[test]
+fn a_list_that_is_not_64_numbers_fails() {
+    let example = no06_transform();
+    let few = list("8", "0").replacen(",0", "", 1);
+    let many = list("8", "0") + ",0";
+    for (text, reason) in [
+        (&*few, "63 numbers, not 64"),
+        (&*many, "65 numbers, not 64"),
+        ("-", "0 numbers, not 64"),
+        ("8", "1 numbers, not 64"),
+        ("", "no number: \"\""),
+        (&*list("x", "0"), "no number: \"x\""),
+        (&*list("8", ""), "no number: \"\""),
+        (&*list("08", "0"), "no number: \"08\""),
+        (&*list("8", " 0"), "no number: \" 0\""),
+        (&*list("32768", "0"), "the entry's type has no number 32768"),
+        (
+            &*list("-32769", "0"),
+            "the entry's type has no number -32769",
+        ),
+    ] {
+        for field in [1, 4] {
+            example.assert_not_run(&example.line_with(field, text), reason);
+        }
+    }
+}
+
+/// The report on a line whose name says that it is wide.
+fn report_on_wide(example: &Example, field: usize, text: &str) -> Report {
+    let line = example.line_with(field, text);
+    let (_, fields) = line.split_once('\t').expect("a line has fields");
+    example.report_with(&format!("wide/number\t{fields}"))
 }
 
 #[test]
 fn a_wide_case_is_left_out_only_if_the_type_has_no_such_number() {
-    let wide = |field, text| case_with(field, text).replace(CASE[0], "wide/number");
-    let lines = [
-        "no01.txt: 1 cases, 0 differ, 1 left out",
-        "requests: 1 cases, 0 differ",
-    ];
-    assert_report(&report_with(&wide(5, "4294967296")), 0, &lines);
-    let differing = report_with(&wide(5, "4294967295")).to_string();
-    assert!(differing.ends_with("requests: 2 cases, 1 differ\n"));
-    assert_eq!(report_with(&wide(5, "x")).exit_status(), 1);
+    for (example, field, too_wide) in [
+        (no01(), 5, "4294967296"),
+        (no06(), 8, "18446744073709551616"),
+        (no06_transform(), 1, &*list("32768", "0")),
+    ] {
+        let lines = [
+            &*format!("{}: 1 cases, 0 differ, 1 left out", example.name),
+            "requests: 1 cases, 0 differ",
+        ];
+        assert_report(&report_on_wide(&example, field, too_wide), 0, &lines);
+    }
+    for (example, field, wide) in [
+        (no01(), 5, "4294967295"),
+        (no06(), 8, "18446744073709551615"),
+        (no06_transform(), 1, &*list("32767", "0")),
+    ] {
+        let differing = report_on_wide(&example, field, wide).to_string();
+        assert!(differing.ends_with("requests: 2 cases, 1 differ\n"));
+    }
+}
+
+/// A number that is too wide hides no other mistake.
+#[test]
+fn a_wide_case_that_is_malformed_fails() {
+    for (example, field, malformed) in [
+        (no01(), 5, "x"),
+        (no06(), 8, "x"),
+        (no06_transform(), 1, "32768"),
+        (no06_transform(), 1, &*list("32768", "x")),
+    ] {
+        let report = report_on_wide(&example, field, malformed);
+        assert_eq!(report.exit_status(), 1, "{report}");
+    }
 }
 
 #[test]
@@ -188,13 +378,14 @@ fn a_file_without_a_first_line_or_a_case_fails() {
         "1 files or lines could not be run",
         "requests: 0 cases, 0 differ",
     ];
-    let report = |lines: &[String]| run_on_decoder(&[no01(lines)], LANDED);
+    let report = |text: &str| run_on_decoder(&[found("no01.txt", text)], LANDED);
     let lines = [&[first], &end[..]].concat();
-    assert_report(&report(&[CASE.join("\t")]), 1, &lines);
-    assert_report(&report(&[]), 1, &lines);
+    assert_report(&report(&no01().line()), 1, &lines);
+    assert_report(&report("\n"), 1, &lines);
+    assert_report(&report(""), 1, &lines);
     let none = ["no01.txt: no case was run", "no01.txt: 0 cases, 0 differ"];
     let lines = [&none[..], &end].concat();
-    assert_report(&report(&[HEADER.into()]), 1, &lines);
+    assert_report(&report("# fields\n"), 1, &lines);
 }
 
 #[test]

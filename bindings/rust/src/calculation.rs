@@ -2,27 +2,43 @@
 
 use crate::{raw, Refusal};
 
-/// The inverse transform: 64 coefficients in -2048 to 2047 to 64 residues, both row by row.
+/// A transformed block.
+#[derive(Clone, Copy, Debug, PartialEq, Eq)]
+#[non_exhaustive]
+pub struct Transformed {
+    /// Row by row.
+    pub residues: [i16; 64],
+    /// How many of the eight rows of coefficients the transform worked: those that are not all zero.
+    pub rows: usize,
+}
+
+/// The inverse transform: 64 coefficients in -2048 to 2047 to 64 residues, both row by row. It skips each row of eight zero
+/// coefficients.
 ///
 /// ```
 /// use format3::{transform, Refusal};
 ///
 /// let mut coefficients = [0; 64];
 /// coefficients[0] = 8;
-/// assert_eq!(transform(&coefficients), Ok([1; 64]));
+/// let transformed = transform(&coefficients)?;
+/// assert_eq!(transformed.residues, [1; 64]);
+/// assert_eq!(transformed.rows, 1);
+///
 /// coefficients[0] = 2048;
 /// assert_eq!(transform(&coefficients), Err(Refusal::NumberOutOfRange));
+/// # Ok::<(), Refusal>(())
 /// ```
 ///
 /// # Errors
 ///
 /// [`Refusal::NumberOutOfRange`] if a coefficient is out of range.
-pub fn transform(coefficients: &[i16; 64]) -> Result<[i16; 64], Refusal> {
+pub fn transform(coefficients: &[i16; 64]) -> Result<Transformed, Refusal> {
     let mut residues = [0; 64];
-    // SAFETY: both pointers belong to separate live arrays of 64 numbers.
-    let answer = unsafe { raw::format3_transform(coefficients, &mut residues) };
+    let mut rows = 0;
+    // SAFETY: the pointers belong to separate live arrays of 64 numbers, and to a live number.
+    let answer = unsafe { raw::format3_transform(coefficients, &mut residues, &mut rows) };
     Refusal::check(answer)?;
-    Ok(residues)
+    Ok(Transformed { residues, rows })
 }
 
 /// The intra AC coefficient for a level in -255 to 255, a scale in 1 to 31 and a weight in 1 to 255.

@@ -5,7 +5,7 @@ use core::fmt::{Display, Formatter, Result};
 
 use crate::{BitPosition, Refusal};
 
-/// A refused picture: why, where in the file, and how many macroblocks were made before.
+/// A refused picture: why, where in the file, and what was made before.
 #[derive(Clone, Copy, Debug, PartialEq, Eq)]
 #[non_exhaustive]
 pub struct RefusedPicture {
@@ -16,6 +16,8 @@ pub struct RefusedPicture {
     pub place: usize,
     /// How many macroblocks the records before it gave. These, from address 0 on, are in the output.
     pub made: usize,
+    /// How many rows of coefficients the transform worked for these, as in [`Reconstructed`](crate::Reconstructed).
+    pub rows: usize,
 }
 
 /// A refused slice: why, and where.
@@ -50,6 +52,7 @@ impl Display for RefusedPicture {
             refusal,
             place,
             made,
+            ..
         } = self;
         write!(
             formatter,

@@ -35,7 +35,7 @@ mod refusal;
 mod slice;
 
 pub use api_version::API_VERSION;
-pub use calculation::{intra_coefficient, non_intra_coefficient, transform, vector};
+pub use calculation::{intra_coefficient, non_intra_coefficient, transform, vector, Transformed};
 pub use error::{RefusedPicture, RefusedSlice, VersionMismatch};
 pub use file::{read_header, show_record, CodingType, Header, Record, RecordKind};
 pub use picture::{reconstruct, Reconstructed};
@@ -113,11 +113,11 @@ mod tests {
         assert_eq!(check_version(), Ok(()));
         assert_eq!(same_version(API_VERSION), Ok(()));
         let mismatch = VersionMismatch {
-            needed: 1,
-            library: 2,
+            needed: 2,
+            library: 1,
         };
-        assert_eq!(same_version(2), Err(mismatch));
-        let message = "the library has version 2 of the interface, but this crate needs version 1";
+        assert_eq!(same_version(1), Err(mismatch));
+        let message = "the library has version 1 of the interface, but this crate needs version 2";
         assert_eq!(mismatch.to_string(), message);
     }
 }

@@ -8,6 +8,9 @@ use crate::{raw, Refusal, RefusedPicture};
 pub struct Reconstructed {
     /// How many macroblocks were made: all of the picture's.
     pub made: usize,
+    /// How many rows of coefficients the transform worked for these. In each coded block it works those of the eight rows that
+    /// are not all zero, so at most 48 a macroblock.
+    pub rows: usize,
 }
 
 /// Reconstructs the picture of a Format 3 file into `output`.
@@ -24,19 +27,20 @@ pub struct Reconstructed {
 /// file.extend([0; 18]);
 /// let mut output = vec![0; read_header(&file)?.picture_bytes()];
 /// let picture = reconstruct(&file, &[], &[], &mut output)?;
-/// assert_eq!(picture.made, 1);
+/// // Each block has a row: that of its DC.
+/// assert_eq!((picture.made, picture.rows), (1, 6));
 /// assert_eq!(output, [128; 384]);
 ///
 /// let refused = reconstruct(&file[..40], &[], &[], &mut output).unwrap_err();
 /// assert_eq!(refused.refusal, Refusal::RecordCut);
-/// assert_eq!((refused.place, refused.made), (17, 0));
+/// assert_eq!((refused.place, refused.made, refused.rows), (17, 0, 0));
 /// # Ok::<(), Box<dyn std::error::Error>>(())
 /// ```
 ///
 /// # Errors
 ///
 /// Refusals 1 to 21 ([`Refusal::FileEmpty`] to [`Refusal::BackwardLength`]) and 23 ([`Refusal::BackwardVectorOutside`]), with the
-/// place in the file and how many macroblocks were made before.
+/// place in the file, and how many macroblocks were made and rows worked before.
 pub fn reconstruct(
     file: &[u8],
     forward: &[u8],
@@ -58,13 +62,14 @@ pub fn reconstruct(
             &mut result,
         )
     };
-    let raw::PictureResult { place, made } = result;
+    let raw::PictureResult { place, made, rows } = result;
     match Refusal::check(answer) {
-        Ok(()) => Ok(Reconstructed { made }),
+        Ok(()) => Ok(Reconstructed { made, rows }),
         Err(refusal) => Err(RefusedPicture {
             refusal,
             place,
             made,
+            rows,
         }),
     }
 }

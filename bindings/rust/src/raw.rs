@@ -47,6 +47,8 @@ pub struct PictureResult {
     pub place: usize,
     /// The count of macroblocks that are in the output.
     pub made: usize,
+    /// The count of rows that the transform worked for these.
+    pub rows: usize,
 }
 
 /// `struct format3_picture_parameters`.
@@ -117,7 +119,11 @@ extern "C" {
     ) -> u32;
 
     /// The inverse transform.
-    pub fn format3_transform(coefficients: *const [i16; 64], residues: *mut [i16; 64]) -> u32;
+    pub fn format3_transform(
+        coefficients: *const [i16; 64],
+        residues: *mut [i16; 64],
+        rows: *mut usize,
+    ) -> u32;
 
     /// Dequantizes an intra AC level.
     pub fn format3_intra_coefficient(

@@ -102,6 +102,8 @@ mod decoder {
         pub header: Header,
         /// Its planes Y, Cb and Cr, each row by row.
         pub bytes: &'a [u8],
+        /// How many rows of coefficients the transform worked, as in [`Reconstructed`](crate::Reconstructed).
+        pub rows: usize,
     }
 
     impl Decoder {
@@ -120,6 +122,8 @@ mod decoder {
         ///     let picture = decoder.decode(file?)?;
         ///     assert_eq!((picture.header.width, picture.header.height), (1, 1));
         ///     assert_eq!(picture.bytes, [128; 384]);
+        ///     // Each of its six blocks has a row: that of its DC.
+        ///     assert_eq!(picture.rows, 6);
         /// }
         /// # Ok::<(), Box<dyn std::error::Error>>(())
         /// ```
@@ -137,16 +141,20 @@ mod decoder {
                 _ => (&[], &[]),
             };
             self.current.resize(header.picture_bytes(), 0);
-            reconstruct(file, forward, backward, &mut self.current)?;
+            let rows = reconstruct(file, forward, backward, &mut self.current)?.rows;
             // Only I and P pictures are references.
-            if !matches!(header.coding_type, CodingType::I | CodingType::P) {
-                let bytes = &self.current;
-                return Ok(Picture { header, bytes });
-            }
-            swap(&mut self.older, &mut self.newer);
-            swap(&mut self.newer, &mut self.current);
-            let bytes = &self.newer;
-            Ok(Picture { header, bytes })
+            let bytes = if matches!(header.coding_type, CodingType::I | CodingType::P) {
+                swap(&mut self.older, &mut self.newer);
+                swap(&mut self.newer, &mut self.current);
+                &self.newer
+            } else {
+                &self.current
+            };
+            Ok(Picture {
+                header,
+                bytes,
+                rows,
+            })
         }
     }
 
@@ -157,6 +165,7 @@ mod decoder {
             refusal,
             place: 0,
             made: 0,
+            rows: 0,
         })
     }
 }

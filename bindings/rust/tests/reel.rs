@@ -99,6 +99,7 @@ fn sizes() {
     let picture = decoder.decode(&wide).unwrap();
     assert_eq!((picture.header.width, picture.header.height), (2, 1));
     assert_eq!(picture.bytes, [128; 768]);
+    assert_eq!(picture.rows, 12);
     let refused = decoder.decode(&copy()).unwrap_err();
     assert_eq!(refused.refusal, Refusal::ForwardLength);
     let picture = decoder.decode(&grey).unwrap();

@@ -21,19 +21,27 @@ fn grey() -> Vec<u8> {
 fn a_picture() {
     let mut output = [7; 384];
     let picture = reconstruct(&grey(), &[], &[], &mut output);
-    assert_eq!(picture.map(|picture| picture.made), Ok(1));
+    assert_eq!(
+        picture.map(|picture| (picture.made, picture.rows)),
+        Ok((1, 6))
+    );
     assert_eq!(output, [128; 384]);
 }
 
-/// Why a picture is refused, its place, and how many macroblocks were made.
-fn refused_picture(file: &[u8], forward: &[u8], output: &mut [u8]) -> (Refusal, usize, usize) {
+/// Why a picture is refused, its place, and how many macroblocks were made and rows worked.
+fn refused_picture(
+    file: &[u8],
+    forward: &[u8],
+    output: &mut [u8],
+) -> (Refusal, usize, usize, usize) {
     let RefusedPicture {
         refusal,
         place,
         made,
+        rows,
         ..
     } = reconstruct(file, forward, &[], output).unwrap_err();
-    (refusal, place, made)
+    (refusal, place, made, rows)
 }
 
 #[test]
@@ -41,9 +49,9 @@ fn refused_pictures() {
     let file = grey();
     let mut output = [7; 384];
     let mut refused = |file, forward| refused_picture(file, forward, &mut output);
-    assert_eq!(refused(&file[..40], &[]), (Refusal::RecordCut, 17, 0));
-    assert_eq!(refused(&[], &[]), (Refusal::FileEmpty, 0, 0));
-    assert_eq!(refused(&file, &[0]), (Refusal::ForwardLength, 1, 0));
+    assert_eq!(refused(&file[..40], &[]), (Refusal::RecordCut, 17, 0, 0));
+    assert_eq!(refused(&[], &[]), (Refusal::FileEmpty, 0, 0, 0));
+    assert_eq!(refused(&file, &[0]), (Refusal::ForwardLength, 1, 0, 0));
     assert_eq!(output, [7; 384]);
 }
 
@@ -53,7 +61,7 @@ fn a_picture_refused_at_its_end() {
     let longer = [&grey()[..], &[0]].concat();
     let mut output = [7; 384];
     let refused = refused_picture(&longer, &[], &mut output);
-    assert_eq!(refused, (Refusal::RecordCut, 41, 1));
+    assert_eq!(refused, (Refusal::RecordCut, 41, 1, 6));
     assert_eq!(output, [128; 384]);
 }
 
@@ -119,10 +127,29 @@ fn coefficients_vectors_and_blocks() {
     assert_eq!(vector(1, 15, 1, 0), Ok(-16));
     assert_eq!(vector(0, 0, 0, 0), Err(Refusal::NumberOutOfRange));
     let mut block = [0; 64];
+    let transformed = transform(&block).unwrap();
+    assert_eq!((transformed.residues, transformed.rows), ([0; 64], 0));
     block[0] = 8;
-    assert_eq!(transform(&block), Ok([1; 64]));
+    let transformed = transform(&block).unwrap();
+    assert_eq!((transformed.residues, transformed.rows), ([1; 64], 1));
     block[0] = 2048;
     assert_eq!(transform(&block), Err(Refusal::NumberOutOfRange));
+}
+
+/// The rows that are not all zero, not those up to the last, and not columns.
+#[test]
+fn rows_of_a_block() {
+    let rows = |places: &[usize]| {
+        let mut block = [0; 64];
+        for place in places {
+            block[*place] = -1;
+        }
+        transform(&block).map(|transformed| transformed.rows)
+    };
+    assert_eq!(rows(&[63]), Ok(1));
+    assert_eq!(rows(&[0, 1, 2, 3, 4, 5, 6, 7]), Ok(1));
+    assert_eq!(rows(&[0, 8, 16, 24, 32, 40, 48, 56]), Ok(8));
+    assert_eq!(rows(&[9, 10, 33]), Ok(2));
 }
 
 /// The grey picture as one slice, and the numbers that it is read with.

@@ -1,3 +1,4 @@
 pub mod Ranges
 pub mod Range
 pub mod SoFar
+pub mod RowMarks

@@ -107,6 +107,13 @@ module _ {c : BlockCoding} {matrix : List ℕ} {dc : ℤ} where
             ∙ h .zero-elsewhere raster not-dc (each-first (λ p. ¬ (raster ≡ rasterIndex (p .position))) levels (next ∷ []) others);
       }
 
+  -- ---- the next pair's coefficient is still 0
+  pub next-zero : (pairs : List Pair) (pair : Pair) {block : List ℤ} → HoldsSoFar c matrix dc pairs block → nextLevel c pairs pair .position ≤ 63
+      → at block (rasterIndex (nextLevel c pairs pair .position)) ≡ pos 0
+  next-zero pairs pair h low =
+      h .zero-elsewhere (rasterIndex (nextLevel c pairs pair .position)) (λ intra same. apart-from-0 c pairs pair low intra (sym same))
+      (each-map (λ p other same. other (sym same)) (blockLevels c pairs) (apart c pairs pair low))
+
   -- ---- no other block holds that
   module _ {pairs : List Pair} {a b : List ℤ} (h : HoldsSoFar c matrix dc pairs a) (g : HoldsSoFar c matrix dc pairs b) where
     -- the same at each pair, so the same everywhere if it is the same elsewhere

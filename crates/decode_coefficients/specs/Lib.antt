@@ -6,4 +6,6 @@ pub mod Block
 pub mod SoFar
 pub mod Macroblock
 pub mod BlockArray
+pub mod Rows
+pub mod Marks
 pub mod Requires

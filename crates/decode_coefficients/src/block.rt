@@ -8,7 +8,9 @@ ghost use Rattle.symbols.specs.Pair.{lastPosition};
 ghost use Rattle.decode_coefficients.specs.Scaling.{coefficientOf};
 ghost use Rattle.decode_coefficients.specs.Requires.{BlockCodingWithin};
 ghost use Rattle.decode_coefficients.specs.BlockArray.{putBlock};
-ghost use Rattle.decode_coefficients.specs.Block.{dcBlock, withLevel};
+ghost use Rattle.decode_coefficients.specs.Block.{dcBlock, rasterIndex, scaledLevel, withLevel};
+ghost use Rattle.decode_coefficients.specs.Marks.{withCoefficient};
+use crate::marks;
 use crate::scaling;
 
 // How the levels of a block are scaled.
@@ -30,21 +32,24 @@ fn scaled_level(level: i16, coding: BlockCoding, weight: u8) -> i16
     )
 }
 
-// Stores a level in its block: scaled, at its raster index. `order` is the zigzag order.
+// Stores a level in its block: scaled, at its raster index. `order` is the zigzag order. Answers the marks after it.
 pub fn store_level(
     block: &mut [i16; 64],
+    marks: u16,
     position: usize,
     level: i16,
     coding: BlockCoding,
     order: &[u8; 64],
     matrix: &[u8; 64],
-)
+) -> u16
     requires { ⌜ (position ≤ lastPosition) × Within 255 level × BlockCodingWithin coding × (now order ≡ zigzag) ⌝ }
     ensures { λ _. ⌜ now (block .exit) ≡ withLevel coding (now (matrix .entry)) (record { position = position; level = level }) (now (block .entry)) ⌝ }
+    ensures { λ r. ⌜ r ≡ withCoefficient marks (rasterIndex position) (scaledLevel coding (now (matrix .entry)) (record { position = position; level = level })) ⌝ }
 {
     let raster = order[position] as usize;
     let scaled = scaled_level(level, coding, matrix[raster]);
     block[raster] = scaled;
+    marks::with_coefficient(marks, raster, scaled)
 }
 
 // Stores a block's coefficients in the array.

@@ -2,5 +2,6 @@
 pub mod block;
 pub mod dc;
 pub mod macroblock;
+pub mod marks;
 pub mod matrices;
 pub mod scaling;

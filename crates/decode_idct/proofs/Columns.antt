@@ -2,7 +2,7 @@
 use Prim.Native.Nat.{ℕ, _+_, _*_, _/_, _%_, _≤_, _<_}
 use mathlib.Core.List.{List}
 use mathlib.Core.Path.{_≡_, refl, sym, _∙_, subst}
-use native.Mathlib.Decide.{ℕ-discrete, decLt}
+use native.Mathlib.Decide.{ℕ-discrete}
 use native.Mathlib.Omega.{arith}
 use lib.ListN.{length, getD, replicate, getD-replicate}
 use lib.Seq.{ext-getD}
@@ -44,12 +44,19 @@ module _ {A : Type 0} where
           subst (λ (j : ℕ). getD next j d ≡ f j) q (here (k / 8) (omega arith))
       go k b t (no s) = other k s ∙ p .made k b (omega arith)
 
-  -- if f gives the initial value in every column that is left, the whole block is f's
-  pub columns-all : {f : ℕ → A} {d : A} {v : ℕ} {l : List A} → Columns f d v l → ((u w : ℕ) → u < 8 → w < 8 → v ≤ w → f (8 * u + w) ≡ d) → l ≡ tab 64 f
-  columns-all {f} {d} {v} {l} p rest = ext-getD d l (tab 64 f) (p .long ∙ sym (tab-length 64 f)) (λ k q. value k (omega (arith, p .long)) (decLt (k % 8) v) ∙ sym (tab-at 64 f k d (omega (arith, p .long))))
+  -- a column that f leaves at the initial value is skipped
+  pub columns-skip : {f : ℕ → A} {d : A} {v : ℕ} {l : List A} → Columns f d v l → ((u : ℕ) → u < 8 → f (8 * u + v) ≡ d) → Columns f d (v + 1) l
+  columns-skip {f} {d} {v} {l} p e = record {
+    long = p .long;
+    made = λ k b t. go k b t (ℕ-discrete (k % 8) v);
+    left = λ k b t. p .left k b (omega arith);
+  }
     where
-      value : (k : ℕ) → k < 64 → Dec (k % 8 < v) → getD l k d ≡ f k
-      value k b (yes h) = p .made k b h
-      value k b (no h) =
-          let q : 8 * (k / 8) + k % 8 ≡ k = omega arith in
-          p .left k b (omega arith) ∙ sym (subst (λ (j : ℕ). f j ≡ d) q (rest (k / 8) (k % 8) (omega arith) (omega arith) (omega arith)))
+      go : (k : ℕ) → k < 64 → k % 8 < v + 1 → Dec (k % 8 ≡ v) → getD l k d ≡ f k
+      go k b t (yes s) =
+          let q : 8 * (k / 8) + v ≡ k = omega arith in
+          p .left k b (omega arith) ∙ sym (subst (λ (j : ℕ). f j ≡ d) q (e (k / 8) (omega arith)))
+      go k b t (no s) = p .made k b (omega arith)
+
+  pub columns-all : {f : ℕ → A} {d : A} {v : ℕ} {l : List A} → Columns f d v l → 8 ≤ v → l ≡ tab 64 f
+  columns-all {f} {d} {v} {l} p all = ext-getD d l (tab 64 f) (p .long ∙ sym (tab-length 64 f)) (λ k q. p .made k (omega (arith, p .long)) (omega arith) ∙ sym (tab-at 64 f k d (omega (arith, p .long))))

@@ -1,9 +1,9 @@
 -- Two passes, each from rows to columns, give the double sum; with bounds on every number on the way. Assumes nothing.
-use Prim.Native.Nat.{ℕ, zero, suc, _+_, _-_, _*_, _/_, _%_, _^_, _≤_, _<_}
-use mathlib.Core.Bool.{Bool, true, false, cond}
+use Prim.Native.Nat.{ℕ, _+_, _*_, _/_, _%_, _^_, _<_}
+use mathlib.Core.Bool.{Bool, true}
 use mathlib.Core.List.{List}
-use mathlib.Core.Path.{_≡_, refl, sym, ap, _∙_, subst}
-use native.Mathlib.Decide.{ℕ-discrete, decLt}
+use mathlib.Core.Path.{_≡_, sym, ap, _∙_, subst}
+use native.Mathlib.Decide.{decLt}
 use native.Mathlib.Omega.{arith}
 use lib.Dec.{T, leb}
 use lib.IntN.{ℤ, pos, negsuc, natAbs, _*ℤ_, *ℤ-zero}
@@ -18,8 +18,9 @@ use Rattle.math.proofs.Tab.{tab-at, tab-ext}
 use Rattle.math.proofs.Test.{at-below₂, all-passed}
 use Rattle.math.specs.Tab.{tab}
 use Rattle.math.specs.Test.{allBelow}
+use Rattle.decode_coefficients.specs.Rows.{isZeroRow}
 use Rattle.decode_idct.specs.Answer.{transformEntryInRange}
-use Rattle.decode_idct.specs.Line.{lineSum, isZeroRow, usedRows, rowOf, columnIndex, passResult, residueOf}
+use Rattle.decode_idct.specs.Line.{lineSum, rowOf, columnIndex, passResult, residueOf}
 use Rattle.decode_idct.specs.Transform.{angle, cosineFactor, factor, doubleSum, inverseTransform, limitedResidue, residuesBy}
 
 -- ---- bounds
@@ -69,43 +70,20 @@ pub line-at : (c x y : List ℤ) (v : ℕ) → v < 8 → x ≡ rowOf c v → y �
 line-at c x y v h p q u b =
     ap (λ (l : List ℤ). at l u) q ∙ tab-at 8 (lineSum x 0) u (pos 0) b ∙ ap (λ (l : List ℤ). lineSum l 0 u) p ∙ row-sum c v u ∙ passed-at c v u h
 
-pub zero-row : (c : List ℤ) (v : ℕ) → v < 8 → isZeroRow c v ≡ true → (u : ℕ) → passResult c (columnIndex v u) ≡ pos 0
+-- ---- a row of zeros
+row-zero : (c : List ℤ) (v : ℕ) → isZeroRow c v ≡ true → (u : ℕ) → u < 8 → at c (8 * v + u) ≡ pos 0
 unfolding isZeroRow
+row-zero c v e u b = eqZ-true (at c (8 * v + u)) (pos 0) (all-passed 8 _ e u b)
+
+pub zero-row : (c : List ℤ) (v : ℕ) → v < 8 → isZeroRow c v ≡ true → (u : ℕ) → passResult c (columnIndex v u) ≡ pos 0
 zero-row c v h e u =
     sym (passed-at c v u h)
-    ∙ sum-ext _ _ 8 (λ k b. ap (λ (z : ℤ). factor u k *ℤ z) (eqZ-true (at c (8 * v + k)) (pos 0) (all-passed 8 _ e k b)) ∙ *ℤ-zero (factor u k))
+    ∙ sum-ext _ _ 8 (λ k b. ap (λ (z : ℤ). factor u k *ℤ z) (row-zero c v e k b) ∙ *ℤ-zero (factor u k))
     ∙ sum-zero 8
 
--- the zero rows at the end
-pub used-below : (n : ℕ) (c : List ℤ) → usedRows n c ≤ n
-unfolding usedRows
-used-below zero c = omega arith
-used-below (suc n) c = go (isZeroRow c n) (used-below n c)
-  where
-    go : (b : Bool) → usedRows n c ≤ n → cond b (usedRows n c) (suc n) ≤ suc n
-    go true h = omega arith
-    go false h = omega arith
-
-pub unused-zero : (n : ℕ) (c : List ℤ) (v : ℕ) → v < n → usedRows n c ≤ v → isZeroRow c v ≡ true
-unfolding usedRows
-unused-zero zero c v h u = absurd (omega arith)
-unused-zero (suc n) c v h u = go (isZeroRow c n) refl (ℕ-discrete v n) (unused-zero n c v) u
-  where
-    go : (b : Bool) → isZeroRow c n ≡ b → Dec (v ≡ n) → (v < n → usedRows n c ≤ v → isZeroRow c v ≡ true) → cond b (usedRows n c) (suc n) ≤ v → isZeroRow c v ≡ true
-    go true e (yes s) before u = rw s e
-    go true e (no s) before u = before (omega arith) u
-    go false e d before u = absurd (omega arith)
-
-module _ (c : List ℤ) where
-  pub last-used : (rows : ℕ) → 0 < rows → isZeroRow c (rows - 1) ≡ false → usedRows rows c ≡ rows
-  unfolding usedRows
-  last-used zero h e = absurd (omega arith)
-  last-used (suc n) h e = let q : suc n - 1 ≡ n = omega arith in rw (rw q at e)
-
-  pub last-unused : (rows : ℕ) → 0 < rows → isZeroRow c (rows - 1) ≡ true → usedRows rows c ≡ usedRows (rows - 1) c
-  unfolding usedRows
-  last-unused zero h e = absurd (omega arith)
-  last-unused (suc n) h e = let q : suc n - 1 ≡ n = omega arith in rw q (rw (rw q at e))
+-- "a row of eight coefficients that are all zero" adds 0 to every sum
+pub zero-row-adds-0 : (c : List ℤ) (v q p : ℕ) → isZeroRow c v ≡ true → sumTo (λ u. (factor p u *ℤ factor q v) *ℤ at c (8 * v + u)) 8 ≡ pos 0
+zero-row-adds-0 c v q p e = sum-ext _ _ 8 (λ u b. ap (λ (z : ℤ). (factor p u *ℤ factor q v) *ℤ z) (row-zero c v e u b) ∙ *ℤ-zero (factor p u *ℤ factor q v)) ∙ sum-zero 8
 
 -- ---- both passes
 column : (c : List ℤ) (q p : ℕ) → q < 8 → p < 8 → lineSum (tab 64 (passResult c)) (8 * p) q ≡ doubleSum c q p

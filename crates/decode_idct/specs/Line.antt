@@ -1,13 +1,11 @@
 -- How the code computes the transform: by lines of eight and their halves. proofs/Passes.antt shows that this is the double sum.
-use mathlib.Core.Bool.{Bool, cond}
 use mathlib.Core.List.{List}
-use Prim.Native.Nat.{ℕ, zero, suc, _+_, _*_, _/_, _%_}
-use lib.IntN.{ℤ, pos, _*ℤ_}
+use Prim.Native.Nat.{ℕ, _+_, _*_, _/_, _%_}
+use lib.IntN.{ℤ, _*ℤ_}
 use Rattle.math.specs.Tab.{tab}
-use Rattle.math.specs.Test.{allBelow}
 use Rattle.math.specs.Bound.{at}
-use Rattle.math.specs.Limit.{eqZ}
 use Rattle.math.specs.Sum.{sumTo}
+use Rattle.tables.specs.Tables.{cosines}
 use Rattle.decode_idct.specs.Transform.{factor, divided, limitedResidue}
 
 -- the sum of eight products at output index p, over the eight numbers of c from `start` on
@@ -22,15 +20,6 @@ halfSum f x first = sumTo (λ j. at f j *ℤ at x (first + 2 * j)) 4
 abbrev pub rowOf : List ℤ → ℕ → List ℤ
 rowOf c v = tab 8 (λ u. at c (8 * v + u))
 
--- whether row v of a block is all zeros
-unfoldable pub isZeroRow : List ℤ → ℕ → Bool
-isZeroRow c v = allBelow 8 (λ u. eqZ (at c (8 * v + u)) (pos 0))
-
--- the count of the first n rows, without the zero rows at their end
-unfoldable pub usedRows : ℕ → List ℤ → ℕ
-usedRows zero c = 0
-usedRows (suc n) c = cond (isZeroRow c n) (usedRows n c) (suc n)
-
 -- the index of number u of column v
 abbrev pub columnIndex : ℕ → ℕ → ℕ
 columnIndex v u = 8 * u + v
@@ -42,3 +31,7 @@ passResult c k = lineSum c (8 * (k % 8)) (k / 8)
 -- the residue of an exact sum
 abbrev pub residueOf : ℤ → ℤ
 residueOf z = limitedResidue (divided z)
+
+-- the exact sum of a block with a DC alone, at every output index: "for u = 0 it is the fourth entry"
+abbrev pub dcSum : ℤ → ℤ
+dcSum dc = (at cosines 3 *ℤ at cosines 3) *ℤ dc

@@ -5,8 +5,11 @@ ghost use Rattle.math.specs.Tab.{tab};
 ghost use Rattle.math.specs.Scatter.{scatter};
 ghost use Rattle.math.specs.Bound.{Within, AllWithin, at};
 ghost use Rattle.decode_idct.specs.Transform.{limitedResidue};
-ghost use Rattle.decode_idct.specs.Line.{isZeroRow, usedRows, rowOf, columnIndex, passResult, residueOf};
+ghost use Rattle.decode_idct.specs.Line.{rowOf, columnIndex, passResult, residueOf};
+ghost use Rattle.decode_coefficients.specs.Rows.{rowsWorked};
+ghost use Rattle.decode_coefficients.specs.Marks.{Marked};
 use crate::line;
+use decode_coefficients::marks;
 
 fn limit_residue(z: i64) -> i64
     ensures { λ r. ⌜ r ≡ limitedResidue z ⌝ }
@@ -28,7 +31,7 @@ fn round_residue(z: i64) -> i64
     limit_residue((z + 0x200_0000_0000) >> 42)
 }
 
-fn residue(z: i64) -> i16
+pub(crate) fn residue(z: i64) -> i16
     requires { ⌜ Within (2 ^ 57) z ⌝ }
     ensures { λ r. ⌜ r ≡ residueOf z ⌝ }
 {
@@ -36,22 +39,10 @@ fn residue(z: i64) -> i16
     rounded as i16
 }
 
-fn widened(z: i16) -> i64
+pub(crate) fn widened(z: i16) -> i64
     ensures { λ r. ⌜ r ≡ z ⌝ }
 {
     z as i64
-}
-
-// Whether row v of the coefficients is all zeros. The loop has no early exit, so a row costs one branch.
-fn is_zero_row(c: &[i16; 64], v: usize) -> bool
-    requires { ⌜ v < 8 ⌝ }
-    ensures { λ r. ⌜ r ≡ isZeroRow (now (c .entry)) v ⌝ }
-{
-    let mut zero = true;
-    for u in 0..8 {
-        zero = (c[8 * v + u] == 0) & zero;
-    }
-    zero
 }
 
 // Row v of the coefficients, widened.
@@ -98,34 +89,37 @@ fn put_residues(t: &mut [i16; 64], v: usize, y: [i64; 8])
     }
 }
 
-// The count of rows, without the zero rows at the end.
-fn used_rows(c: &[i16; 64]) -> usize
-    ensures { λ r. ⌜ r ≡ usedRows 8 (now (c .entry)) ⌝ }
+// Transforms row v and stores its line in column v.
+fn work_row(c: &[i16; 64], v: usize, numbers: &mut [i64; 64])
+    requires { ⌜ (v < 8) × AllWithin (2 ^ 11) (now c) ⌝ }
+    ensures { λ _. ⌜ now (numbers .exit) ≡ scatter (columnIndex v) (λ u. passResult (now (c .entry)) (columnIndex v u)) 8 (now (numbers .entry)) ⌝ }
 {
-    let mut rows: usize = 8;
-    while 0 < rows {
-        let last = rows - 1;
-        if !is_zero_row(c, last) {
-            return rows;
-        }
-        rows = last;
-    }
-    0
+    let x = coefficient_row(c, v);
+    let y = line::transform_line(x);
+    put_column(numbers, v, y);
 }
 
-// Skips the zero rows at the end: their lines are zeros, which the block holds from the start.
-pub(crate) fn row_pass(c: [i16; 64]) -> [i64; 64]
-    requires { ⌜ AllWithin (2 ^ 11) c ⌝ }
-    ensures { λ r. ⌜ r ≡ tab 64 (passResult c) ⌝ }
+// The numbers between the passes, and how many rows gave them.
+pub struct RowPass {
+    pub numbers: [i64; 64],
+    pub rows: usize,
+}
+
+// Works the rows that are marked. The line of any other row is zeros, which the block holds from the start.
+pub(crate) fn row_pass(c: [i16; 64], marks: u16) -> RowPass
+    requires { ⌜ AllWithin (2 ^ 11) c × Marked c marks ⌝ }
+    ensures { λ r. ⌜ r .numbers ≡ tab 64 (passResult c) ⌝ }
+    ensures { λ r. ⌜ r .rows ≡ rowsWorked c ⌝ }
 {
-    let mut t = [0i64; 64];
-    let rows = used_rows(&c);
-    for v in 0..rows {
-        let x = coefficient_row(&c, v);
-        let y = line::transform_line(x);
-        put_column(&mut t, v, y);
+    let mut numbers = [0i64; 64];
+    let mut rows: usize = 0;
+    for v in 0..8 {
+        if marks::has_mark(marks, v) {
+            work_row(&c, v, &mut numbers);
+            rows = rows + 1;
+        }
     }
-    t
+    RowPass { numbers, rows }
 }
 
 pub(crate) fn column_pass(t: [i64; 64]) -> [i16; 64]

@@ -3,6 +3,7 @@ pub mod QuarterLaws
 pub mod LocationLaws
 pub mod CompensationLaws
 pub mod RunLaws
+pub mod RowLaws
 pub mod BlocksLaws
 pub mod CopyLaws
 pub mod LumaLaws

@@ -4,6 +4,7 @@ pub mod Compensation
 pub mod Fit
 pub mod Block
 pub mod Macroblock
+pub mod Rows
 pub mod Owner
 pub mod Byte
 pub mod Requires

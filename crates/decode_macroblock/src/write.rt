@@ -8,6 +8,7 @@ ghost use Rattle.symbols.specs.Size.{pictureBytes};
 ghost use Rattle.symbols.specs.Pattern.{isCoded};
 ghost use Rattle.decode_coefficients.specs.Requires.{BlocksInRange};
 ghost use Rattle.decode_coefficients.specs.BlockArray.{sixBlocks};
+ghost use Rattle.decode_coefficients.specs.Marks.{BlocksMarked};
 ghost use Rattle.decode_idct.specs.Transform.{inverseTransform, residuesBy};
 ghost use Rattle.decode_macroblock.specs.Pel.{reconstructedBlock};
 ghost use Rattle.decode_macroblock.specs.Location.{blockLocation, readAt, putAt};
@@ -15,6 +16,7 @@ ghost use Rattle.decode_macroblock.specs.Requires.{Inside, Readable, Blo
 ghost use Rattle.decode_macroblock.specs.Compensation.{references, isWholePel, predictedFrom, pointedBlock};
 ghost use Rattle.decode_macroblock.specs.Block.{coefficientsAt, withResidue, pelsOf};
 ghost use Rattle.decode_macroblock.specs.Macroblock.{predictedOnly, predictedOnlyFrom, withBlocks, withMacroblock, withMacroblocks};
+ghost use Rattle.decode_macroblock.specs.Rows.{blockRows, macroblockRows};
 use crate::compensation;
 use crate::compensation::Motion;
 use crate::compensation::Vector;
@@ -133,27 +135,31 @@ fn predict_blocks(
     }
 }
 
-// Adds the residue of a coded block to the pels at its location; leaves any other block as it is.
+// Adds the residue of a coded block to the pels at its location; leaves any other block as it is. Answers the rows worked.
 fn add_residue_at(
     output: &mut [u8],
     position: MacroblockPosition,
     pattern: u8,
     coefficients: &[i16; 384],
+    marks: &[u16; 6],
     block: usize,
-)
-    requires { ⌜ Inside position × (length (now output) ≡ pictureBytes (position .size)) × BlocksInRange (sixBlocks (now coefficients)) × (block < 6) ⌝ }
+) -> usize
+    requires { ⌜ Inside position × (length (now output) ≡ pictureBytes (position .size)) × BlocksInRange (sixBlocks (now coefficients)) × BlocksMarked (now coefficients) (now marks) × (block < 6) ⌝ }
     ensures { λ _. ⌜ now (output .exit) ≡ cond (isCoded pattern block) (putAt (blockLocation position block) (reconstructedBlock (readAt (blockLocation position block) (now (output .entry))) (residuesBy inverseTransform (coefficientsAt (sixBlocks (now (coefficients .entry))) block))) (now (output .entry))) (now (output .entry)) ⌝ }
+    ensures { λ r. ⌜ r ≡ blockRows pattern (sixBlocks (now (coefficients .entry))) block ⌝ }
 {
     if !pattern::is_coded(pattern, block) {
-        return;
+        return 0;
     }
     let location = location::block_location(position, block);
     let predicted = location::read(output, location);
-    let reconstructed = residue::reconstruct_coded_block(predicted, coefficients, block);
-    location::put(output, location, reconstructed);
+    let reconstructed = residue::reconstruct_coded_block(predicted, coefficients, marks, block);
+    let pels = reconstructed.pels;
+    location::put(output, location, pels);
+    reconstructed.rows
 }
 
-// Writes a predicted macroblock: the predictions of all six blocks, then the residues of the coded ones.
+// Writes a predicted macroblock: the predictions of all six blocks, then the residues of the coded ones. Answers the rows worked.
 fn write_inter(
     output: &mut [u8],
     forward: &[u8],
@@ -162,48 +168,60 @@ fn write_inter(
     motion: Motion,
     pattern: u8,
     coefficients: &[i16; 384],
-)
-    requires { ⌜ BlocksWritable position motion (now forward) (now backward) (now output) × BlocksInRange (sixBlocks (now coefficients)) ⌝ }
+    marks: &[u16; 6],
+) -> usize
+    requires { ⌜ BlocksWritable position motion (now forward) (now backward) (now output) × BlocksInRange (sixBlocks (now coefficients)) × BlocksMarked (now coefficients) (now marks) ⌝ }
     ensures { λ _. ⌜ now (output .exit) ≡ withBlocks position (pelsOf inverseTransform (references (now (forward .entry)) (now (backward .entry))) position motion pattern (sixBlocks (now (coefficients .entry)))) 6 (now (output .entry)) ⌝ }
+    ensures { λ r. ⌜ r ≡ macroblockRows pattern (sixBlocks (now (coefficients .entry))) ⌝ }
 {
     predict_blocks(output, forward, backward, position, motion);
+    let mut rows: usize = 0;
     for block in 0..6 {
-        add_residue_at(output, position, pattern, coefficients, block);
+        rows = rows + add_residue_at(output, position, pattern, coefficients, marks, block);
     }
+    rows
 }
 
-// Writes a block of an intra macroblock: its residue, or zeros if it is not coded.
+// Writes a block of an intra macroblock: its residue, or zeros if it is not coded. Answers the rows worked.
 fn write_intra_block(
     output: &mut [u8],
     position: MacroblockPosition,
     pattern: u8,
     coefficients: &[i16; 384],
+    marks: &[u16; 6],
     block: usize,
-)
-    requires { ⌜ Inside position × (length (now output) ≡ pictureBytes (position .size)) × BlocksInRange (sixBlocks (now coefficients)) × (block < 6) ⌝ }
+) -> usize
+    requires { ⌜ Inside position × (length (now output) ≡ pictureBytes (position .size)) × BlocksInRange (sixBlocks (now coefficients)) × BlocksMarked (now coefficients) (now marks) × (block < 6) ⌝ }
     ensures { λ _. ⌜ now (output .exit) ≡ putAt (blockLocation position block) (withResidue inverseTransform pattern (sixBlocks (now (coefficients .entry))) block (replicate 64 0)) (now (output .entry)) ⌝ }
+    ensures { λ r. ⌜ r ≡ blockRows pattern (sixBlocks (now (coefficients .entry))) block ⌝ }
 {
     let location = location::block_location(position, block);
-    let pels = residue::add_residue([0u8; 64], pattern, coefficients, block);
+    let reconstructed = residue::add_residue([0u8; 64], pattern, coefficients, marks, block);
+    let pels = reconstructed.pels;
     location::put(output, location, pels);
+    reconstructed.rows
 }
 
-// Writes the six blocks of an intra macroblock.
+// Writes the six blocks of an intra macroblock. Answers the rows worked.
 fn write_intra(
     output: &mut [u8],
     position: MacroblockPosition,
     pattern: u8,
     coefficients: &[i16; 384],
-)
-    requires { ⌜ Inside position × (length (now output) ≡ pictureBytes (position .size)) × BlocksInRange (sixBlocks (now coefficients)) ⌝ }
+    marks: &[u16; 6],
+) -> usize
+    requires { ⌜ Inside position × (length (now output) ≡ pictureBytes (position .size)) × BlocksInRange (sixBlocks (now coefficients)) × BlocksMarked (now coefficients) (now marks) ⌝ }
     ensures { λ _. ⌜ now (output .exit) ≡ withBlocks position (λ block. withResidue inverseTransform pattern (sixBlocks (now (coefficients .entry))) block (replicate 64 0)) 6 (now (output .entry)) ⌝ }
+    ensures { λ r. ⌜ r ≡ macroblockRows pattern (sixBlocks (now (coefficients .entry))) ⌝ }
 {
+    let mut rows: usize = 0;
     for block in 0..6 {
-        write_intra_block(output, position, pattern, coefficients, block);
+        rows = rows + write_intra_block(output, position, pattern, coefficients, marks, block);
     }
+    rows
 }
 
-// Writes the macroblock at an address, with coded blocks.
+// Writes the macroblock at an address, with coded blocks. Answers the rows worked, the total over these blocks.
 pub fn write_macroblock(
     output: &mut [u8],
     forward: &[u8],
@@ -213,15 +231,16 @@ pub fn write_macroblock(
     motion: Motion,
     pattern: u8,
     coefficients: &[i16; 384],
-)
-    requires { ⌜ Writable size address motion (now forward) (now backward) (now output) × BlocksInRange (sixBlocks (now coefficients)) ⌝ }
+    marks: &[u16; 6],
+) -> usize
+    requires { ⌜ Writable size address motion (now forward) (now backward) (now output) × BlocksInRange (sixBlocks (now coefficients)) × BlocksMarked (now coefficients) (now marks) ⌝ }
     ensures { λ _. ⌜ now (output .exit) ≡ withMacroblock inverseTransform (references (now (forward .entry)) (now (backward .entry))) size (record { address = address; motion = motion; pattern = pattern; coefficients = sixBlocks (now (coefficients .entry)) }) (now (output .entry)) ⌝ }
+    ensures { λ r. ⌜ r ≡ macroblockRows pattern (sixBlocks (now (coefficients .entry))) ⌝ }
 {
     let position = location::macroblock_position(size, address);
     if !motion.forward {
         if !motion.backward {
-            write_intra(output, position, pattern, coefficients);
-            return;
+            return write_intra(output, position, pattern, coefficients, marks);
         }
     }
     write_inter(
@@ -232,7 +251,8 @@ pub fn write_macroblock(
         motion,
         pattern,
         coefficients,
-    );
+        marks,
+    )
 }
 
 // Writes the macroblock at an address, without coded blocks.

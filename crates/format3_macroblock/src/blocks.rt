@@ -5,6 +5,7 @@ ghost use lib.IntN.{pos};
 ghost use lib.ListN.{replicate};
 ghost use Rattle.tables.specs.Tables.{zigzag};
 ghost use Rattle.symbols.specs.Parsed.{ParsesAs};
+ghost use Rattle.decode_coefficients.specs.Marks.{BlocksMarked};
 ghost use Rattle.format3_macroblock.specs.Requires.{LegalDcPasts, BlocksCodingWithin};
 ghost use Rattle.format3_macroblock.specs.Decoding.{blockInto, progressResult, decodedBlocksOf, decodedBlocksResult, blocksRefusal};
 use crate::difference;
@@ -16,6 +17,7 @@ use decode_coefficients::block;
 use decode_coefficients::block::BlockCoding;
 use decode_coefficients::dc;
 use decode_coefficients::dc::DcPasts;
+use decode_coefficients::marks;
 use format3_records::field;
 use format3_records::field::Cursor;
 use refusals::Refusal;
@@ -34,7 +36,7 @@ pub struct BlocksCoding {
     pub scale: u8,
 }
 
-// Reads a block if it is coded, and stores it once it is whole.
+// Reads a block if it is coded, and stores it and its marks once it is whole.
 fn read_block(
     rest: &[u8],
     block: usize,
@@ -43,9 +45,11 @@ fn read_block(
     order: &[u8; 64],
     matrix: &[u8; 64],
     coefficients: &mut [i16; 384],
+    marks: &mut [u16; 6],
 ) -> BlocksAnswer
-    requires { ⌜ (block < 6) × LegalDcPasts pasts × BlocksCodingWithin coding × (now order ≡ zigzag) ⌝ }
+    requires { ⌜ (block < 6) × LegalDcPasts pasts × BlocksCodingWithin coding × (now order ≡ zigzag) × BlocksMarked (now coefficients) (now marks) ⌝ }
     ensures { λ r. ⌜ ParsesAs (blockInto coding (now (matrix .entry)) block (record { pasts = pasts; coefficients = now (coefficients .entry) })) (now (rest .entry)) (progressResult r (now (coefficients .exit))) ⌝ }
+    ensures { λ _. ⌜ BlocksMarked (now (coefficients .exit)) (now (marks .exit)) ⌝ }
 {
     if !pattern::is_coded(coding.pattern, block) {
         return BlocksAnswer::Legal(pasts, Cursor { at: 0 });
@@ -60,27 +64,37 @@ fn read_block(
         scale: coding.scale,
     };
     let left = field::after(rest, after_dc.at);
-    let read = levels::read_levels(left, one, order, matrix, block::dc_block(dc));
+    let read = levels::read_levels(
+        left,
+        one,
+        order,
+        matrix,
+        block::dc_block(dc),
+        marks::dc_marks(dc),
+    );
     let answer = read.answer;
     let PairsAnswer::Legal(end) = answer else {
         return BlocksAnswer::Refused(pairs::pairs_refusal(answer));
     };
     let values = read.block;
     block::store_block(coefficients, block, values);
+    marks[block] = read.marks;
     let at = after_dc.at + end.at;
     BlocksAnswer::Legal(dc::dc_pasts_with(intra, pasts, block, dc), Cursor { at })
 }
 
-// Reads the six blocks into an array of zeros.
+// Reads the six blocks into an array of zeros, and their marks.
 pub(crate) fn read_blocks(
     rest: &[u8],
     pasts: DcPasts,
     coding: BlocksCoding,
     matrix: &[u8; 64],
     coefficients: &mut [i16; 384],
+    marks: &mut [u16; 6],
 ) -> BlocksAnswer
-    requires { ⌜ LegalDcPasts pasts × BlocksCodingWithin coding × (now coefficients ≡ replicate (6 * 64) (pos 0)) ⌝ }
+    requires { ⌜ LegalDcPasts pasts × BlocksCodingWithin coding × (now coefficients ≡ replicate (6 * 64) (pos 0)) × (now marks ≡ replicate 6 0) ⌝ }
     ensures { λ r. ⌜ ParsesAs (decodedBlocksOf coding (now (matrix .entry)) pasts) (now (rest .entry)) (decodedBlocksResult r (now (coefficients .exit))) ⌝ }
+    ensures { λ _. ⌜ BlocksMarked (now (coefficients .exit)) (now (marks .exit)) ⌝ }
 {
     let order = tables::zigzag_table();
     let mut running = pasts;
@@ -94,6 +108,7 @@ pub(crate) fn read_blocks(
             &order,
             matrix,
             coefficients,
+            marks,
         );
         let BlocksAnswer::Legal(next, cursor) = answer else {
             return answer;

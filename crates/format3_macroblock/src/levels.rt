@@ -3,6 +3,7 @@ ghost use mathlib.Core.Path.{_≡_};
 ghost use Rattle.tables.specs.Tables.{zigzag};
 ghost use Rattle.symbols.specs.Parsed.{ParsesAs};
 ghost use Rattle.decode_coefficients.specs.Requires.{BlockCodingWithin};
+ghost use Rattle.decode_coefficients.specs.Marks.{Marked};
 ghost use Rattle.format3_records.specs.Field.{testedResult};
 ghost use Rattle.format3_macroblock.specs.Requires.{BeforePairs};
 ghost use Rattle.format3_macroblock.specs.Landing.{pairsResult};
@@ -54,19 +55,22 @@ pub(crate) fn read_levels(
     order: &[u8; 64],
     matrix: &[u8; 64],
     block: [i16; 64],
+    marks: u16,
 ) -> PairsRead
-    requires { ⌜ BlockCodingWithin coding × (now order ≡ zigzag) × BeforePairs coding block ⌝ }
+    requires { ⌜ BlockCodingWithin coding × (now order ≡ zigzag) × BeforePairs coding block × Marked block marks ⌝ }
     ensures { λ r. ⌜ ParsesAs (levelsInto coding (now (matrix .entry)) block) (now (rest .entry)) (pairsResult (r .answer) (r .block)) ⌝ }
+    ensures { λ r. ⌜ Marked (r .block) (r .marks) ⌝ }
 {
     let first = read_count(rest, coding.intra);
     let TestedByte::Legal(count, cursor) = first else {
         return PairsRead {
             answer: PairsAnswer::Refused(field::tested_refusal(first)),
             block,
+            marks,
         };
     };
     let left = field::after(rest, cursor.at);
-    let read = pairs::read_pairs(left, count, coding, order, matrix, block);
+    let read = pairs::read_pairs(left, count, coding, order, matrix, block, marks);
     let answer = read.answer;
     let PairsAnswer::Legal(end) = answer else {
         return read;
@@ -76,5 +80,6 @@ pub(crate) fn read_levels(
     PairsRead {
         answer: PairsAnswer::Legal(Cursor { at }),
         block: stored,
+        marks: read.marks,
     }
 }

@@ -5,6 +5,7 @@ ghost use lib.IntN.{pos};
 ghost use lib.ListN.{replicate};
 ghost use Rattle.symbols.specs.Parsed.{ParsesAs};
 ghost use Rattle.decode_coefficients.specs.Matrices.{matricesOf};
+ghost use Rattle.decode_coefficients.specs.Marks.{BlocksMarked};
 ghost use Rattle.format3_records.specs.Field.{testedResult};
 ghost use Rattle.format3_macroblock.specs.Requires.{LegalDcPasts};
 ghost use Rattle.format3_macroblock.specs.Decoding.{decodedBlocksResult, decodedToEndOf};
@@ -128,7 +129,7 @@ pub fn symbols_refusal(answer: SymbolsAnswer) -> Refusal
     }
 }
 
-// Reads the blocks of a macroblock into an array of zeros; no byte may be left (6). `scale` and `dc` are those that apply to it.
+// Reads the blocks of a macroblock into an array of zeros, and their marks; no byte may be left (6). `scale` and `dc` are those that apply to it.
 pub fn read_blocks_to_end<'m>(
     rest: &[u8],
     symbols: MacroblockSymbols,
@@ -137,9 +138,11 @@ pub fn read_blocks_to_end<'m>(
     intra: &'m [u8; 64],
     non_intra: &'m [u8; 64],
     coefficients: &mut [i16; 384],
+    marks: &mut [u16; 6],
 ) -> BlocksAnswer
-    requires { ⌜ LegalDcPasts dc × (scale ≤ 31) × (now coefficients ≡ replicate (6 * 64) (pos 0)) ⌝ }
+    requires { ⌜ LegalDcPasts dc × (scale ≤ 31) × (now coefficients ≡ replicate (6 * 64) (pos 0)) × (now marks ≡ replicate 6 0) ⌝ }
     ensures { λ r. ⌜ ParsesAs (decodedToEndOf symbols scale (matricesOf (now (intra .entry)) (now («non_intra» .entry))) dc) (now (rest .entry)) (decodedBlocksResult r (now (coefficients .exit))) ⌝ }
+    ensures { λ _. ⌜ BlocksMarked (now (coefficients .exit)) (now (marks .exit)) ⌝ }
 {
     let is_intra = macroblock_type::has_part(symbols.macroblock_type, INTRA);
     let coding = BlocksCoding {
@@ -148,7 +151,7 @@ pub fn read_blocks_to_end<'m>(
         scale,
     };
     let matrix = matrices::matrix_for(is_intra, intra, non_intra);
-    let answer = blocks::read_blocks(rest, dc, coding, matrix, coefficients);
+    let answer = blocks::read_blocks(rest, dc, coding, matrix, coefficients, marks);
     let BlocksAnswer::Legal(_, end) = answer else {
         return answer;
     };

@@ -5,6 +5,7 @@ ghost use Rattle.tables.specs.Tables.{zigzag};
 ghost use Rattle.symbols.specs.Parsed.{ParsesAs};
 ghost use Rattle.symbols.specs.Pair.{firstPosition};
 ghost use Rattle.decode_coefficients.specs.Requires.{BlockCodingWithin};
+ghost use Rattle.decode_coefficients.specs.Marks.{Marked};
 ghost use Rattle.format3_macroblock.specs.Requires.{BeforePairs};
 ghost use Rattle.format3_macroblock.specs.Pairs.{legalLevel, pairOf, pairsOf, pairsBeforeRefusal, pairResult, pairRefusal};
 ghost use Rattle.format3_macroblock.specs.Landing.{blockRead, pairsResult, pairsRefusal};
@@ -38,6 +39,7 @@ pub enum PairsAnswer {
 pub struct PairsRead {
     pub answer: PairsAnswer,
     pub block: [i16; 64],
+    pub marks: u16,
 }
 
 fn legal_level(level: i16) -> bool
@@ -84,7 +86,7 @@ fn pair_refusal(answer: PairAnswer) -> Refusal
     }
 }
 
-// Reads the pairs of a block, and stores each level in it as it comes. `order` is the zigzag order.
+// Reads the pairs of a block, stores each level in it as it comes, and marks its row. `order` is the zigzag order.
 pub(crate) fn read_pairs(
     rest: &[u8],
     count: u8,
@@ -92,11 +94,14 @@ pub(crate) fn read_pairs(
     order: &[u8; 64],
     matrix: &[u8; 64],
     block: [i16; 64],
+    marks: u16,
 ) -> PairsRead
-    requires { ⌜ BlockCodingWithin coding × (now order ≡ zigzag) × BeforePairs coding block ⌝ }
+    requires { ⌜ BlockCodingWithin coding × (now order ≡ zigzag) × BeforePairs coding block × Marked block marks ⌝ }
     ensures { λ r. ⌜ ParsesAs (pairsOf count (firstPosition (coding .intra))) (now (rest .entry)) (pairsResult (r .answer) (pairsBeforeRefusal count (firstPosition (coding .intra)) (now (rest .entry)))) × (r .block ≡ blockRead coding (now (matrix .entry)) count (now (rest .entry)) block) ⌝ }
+    ensures { λ r. ⌜ Marked (r .block) (r .marks) ⌝ }
 {
     let mut block = block;
+    let mut marks = marks;
     let mut left = count;
     let mut next = pair::first_position(coding.intra);
     let mut at: usize = 0;
@@ -106,10 +111,13 @@ pub(crate) fn read_pairs(
             return PairsRead {
                 answer: PairsAnswer::Refused(pair_refusal(answer)),
                 block,
+                marks,
             };
         };
         let position = next + pair.run as usize;
-        block::store_level(&mut block, position, pair.level, coding, order, matrix);
+        marks = block::store_level(
+            &mut block, marks, position, pair.level, coding, order, matrix,
+        );
         next = position + 1;
         at = at + cursor.at;
         left = left - 1;
@@ -117,6 +125,7 @@ pub(crate) fn read_pairs(
     PairsRead {
         answer: PairsAnswer::Legal(Cursor { at }),
         block,
+        marks,
     }
 }
 

@@ -4,7 +4,7 @@ use Prim.Native.Nat.{ℕ, zero, suc, _+_, _*_, _<_, zero-le}
 use native.Mathlib.Nat.{le-suc, le-refl, le-trans}
 use native.Mathlib.Omega.{arith}
 use native.Mathlib.Numerals.{add-one}
-use lib.IntN.{ℤ, pos, _+ℤ_, _*ℤ_, zero-*ℤ, *ℤ-zero}
+use lib.IntN.{ℤ, pos, _+ℤ_, _*ℤ_, zero-*ℤ, *ℤ-zero, +ℤ-idl, +ℤ-idr}
 use Rattle.math.specs.Bound.{Within}
 use Rattle.math.specs.Sum.{sumTo}
 use Rattle.math.proofs.Difference.{subs, as-sub}
@@ -47,6 +47,12 @@ pub sum-zero : (n : ℕ) → sumTo (λ k. pos 0) n ≡ pos 0
 unfolding sumTo
 sum-zero zero = refl
 sum-zero (suc n) = ap (λ (s : ℤ). s +ℤ pos 0) (sum-zero n)
+
+-- a sum of which only the first number may be other than 0
+pub sum-first : (f : ℕ → ℤ) (n : ℕ) → ((k : ℕ) → k < n → f (suc k) ≡ pos 0) → sumTo f (suc n) ≡ f 0
+unfolding sumTo
+sum-first f zero h = +ℤ-idl (f 0)
+sum-first f (suc n) h = (λ i. sum-first f n (λ k p. h k (le-trans p (le-suc n))) i +ℤ h n (le-refl (suc n)) i) ∙ +ℤ-idr (f 0)
 
 pub sum-swap : (f : ℕ → ℕ → ℤ) (n m : ℕ) → sumTo (λ j. sumTo (λ k. f j k) m) n ≡ sumTo (λ k. sumTo (λ j. f j k) n) m
 unfolding sumTo

@@ -1,12 +1,13 @@
--- Laws of tests, none of which both passes and fails, and of `allBelow`: from one computed test to each number, and back. Assumes nothing.
+-- Laws of tests, none of which both passes and fails; of `allBelow`, from one computed test to each number and back; and of `countBelow`.
+-- Assumes nothing.
 use mathlib.Core.Path.{_≡_, refl, ap₂, subst, sym, _∙_}
-use mathlib.Core.Bool.{Bool, true, false, _&&_}
-use Prim.Native.Nat.{ℕ, zero, suc, _+_, _<_}
+use mathlib.Core.Bool.{Bool, true, false, cond, _&&_}
+use Prim.Native.Nat.{ℕ, zero, suc, _+_, _<_, _≤_}
 use native.Mathlib.Decide.{ℕ-discrete}
 use native.Mathlib.Numerals.{add-one}
 use native.Mathlib.Omega.{arith}
 use lib.Dec.{T}
-use Rattle.math.specs.Test.{allBelow}
+use Rattle.math.specs.Test.{allBelow, countBelow}
 
 pub clash : {A : Type 0} {b : Bool} → b ≡ true → b ≡ false → A
 clash {A} {b} p q = absurd (subst T (sym p ∙ q) tt)
@@ -56,3 +57,31 @@ all-passed n test e k h = truth (test k) (at-below n test (subst T (sym e) tt) k
 
 pub one-fails : (n : ℕ) (test : ℕ → Bool) (k : ℕ) → k < n → test k ≡ false → allBelow n test ≡ false
 one-fails n test k h e = refuted (λ passed. clash (all-passed n test passed k h) e)
+
+pub all-ext : (n : ℕ) (test other : ℕ → Bool) → ((k : ℕ) → k < n → test k ≡ other k) → allBelow n test ≡ allBelow n other
+unfolding allBelow
+all-ext zero test other h = refl
+all-ext (suc n) test other h = ap₂ _&&_ (h n (omega arith)) (all-ext n test other (λ k b. h k (omega arith)))
+
+-- ---- counting
+pub count-none : (test : ℕ → Bool) → countBelow 0 test ≡ 0
+unfolding countBelow
+count-none test = refl
+
+pub count-more : (n : ℕ) (test : ℕ → Bool) → countBelow (n + 1) test ≡ countBelow n test + cond (test n) 1 0
+unfolding countBelow
+count-more n test = let e : n + 1 ≡ suc n = omega arith in rw e (let swapped : cond (test n) 1 0 + countBelow n test ≡ countBelow n test + cond (test n) 1 0 = omega arith in swapped)
+
+pub count-most : (n : ℕ) (test : ℕ → Bool) → countBelow n test ≤ n
+unfolding countBelow
+count-most zero test = omega arith
+count-most (suc n) test = go (test n) (count-most n test)
+  where
+    go : (b : Bool) → countBelow n test ≤ n → cond b 1 0 + countBelow n test ≤ suc n
+    go true h = omega arith
+    go false h = omega arith
+
+pub count-ext : (n : ℕ) (test other : ℕ → Bool) → ((k : ℕ) → k < n → test k ≡ other k) → countBelow n test ≡ countBelow n other
+unfolding countBelow
+count-ext zero test other h = refl
+count-ext (suc n) test other h = ap₂ (λ (b : Bool) (m : ℕ). cond b 1 0 + m) (h n (omega arith)) (count-ext n test other (λ k b. h k (omega arith)))

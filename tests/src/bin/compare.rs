@@ -12,6 +12,7 @@ use format3_tests::compare_blocks::blocks;
 use format3_tests::compare_cases::Compared;
 use format3_tests::compare_misfits::misfits;
 use format3_tests::compare_room_slices::room_slices;
+use format3_tests::compare_rows::{row_masks, rows};
 use format3_tests::compare_slices::{
     changed_slices, ended_slices, long_slices, slices, stream_slices, SLICE_ANSWERS,
 };
@@ -53,6 +54,8 @@ fn compare_entries(count: u64, seed: u64) -> Result<(), String> {
     println!("{} coefficients", coefficients(&ENTRIES)?);
     println!("{} vectors", vectors(&ENTRIES)?);
     println!("{} blocks", transforms(&ENTRIES, seed, 20_000)?);
+    let sets = row_masks(&ENTRIES, seed)?.len();
+    println!("{sets} sets of rows of blocks in range and out of it");
     let counts = headers(&ENTRIES)?;
     println!("headers, by answer: {counts:?}");
     require_every_answer(&counts, header_answers())?;
@@ -68,6 +71,9 @@ fn compare_entries(count: u64, seed: u64) -> Result<(), String> {
     let Compared { answers, kinds } = blocks(&ENTRIES, seed)?;
     let occurred = kinds.len();
     println!("{occurred} stages of blocks, pair by pair, by answer: {answers:?}");
+    let Compared { answers, kinds } = rows(&ENTRIES, seed)?;
+    let occurred = kinds.len();
+    println!("{occurred} cases of rows worked or not, by answer: {answers:?}");
     compare_slices(10 * count, seed)
 }
 

@@ -4,7 +4,7 @@ use super::coefficients::{intra_ac, non_intra};
 use super::file::{first_header, record};
 use super::refusals::{Answer, Refusal};
 use super::slice::ReadSlice;
-use super::transform::inverse_transform;
+use super::transform::{inverse_transform, rows_worked};
 use super::vectors::{code_legal, decoded, f_of, residual_legal};
 
 /// What a file's header says of its picture, with width and height in macroblocks, and the offset of the records after it.
@@ -24,14 +24,21 @@ pub struct Shown {
     pub length: usize,
 }
 
+/// The residues of a block, row by row, and how many rows of its coefficients the transform worked.
+#[derive(Clone, Copy, Debug, PartialEq, Eq)]
+pub struct Transformed {
+    pub residues: [i16; 64],
+    pub rows: usize,
+}
+
 /// Reads the header of a file.
 pub type ReadHeader = fn(&[u8]) -> (u32, FileStart);
 
 /// Makes a picture in the output from a file, a forward and a backward reference.
 pub type Reconstruct = fn(&[u8], &[u8], &[u8], &mut [u8]) -> Answer;
 
-/// Turns 64 coefficients into 64 residues, row by row.
-pub type Transform = fn(&[i16; 64]) -> (u32, [i16; 64]);
+/// Transforms 64 coefficients, row by row.
+pub type Transform = fn(&[i16; 64]) -> (u32, Transformed);
 
 /// The entries of an implementation. A number beside a value is 0 or a refusal's.
 #[derive(Clone, Copy)]
@@ -64,12 +71,21 @@ fn refused<T>(zeros: T) -> (u32, T) {
     (Refusal::NumberOutOfRange.number(), zeros)
 }
 
-fn transform(coefficients: &[i16; 64]) -> (u32, [i16; 64]) {
+/// Request No. 6: "With 22 it is 0."
+fn transform(coefficients: &[i16; 64]) -> (u32, Transformed) {
     if coefficients.iter().any(|c| !(-2048..=2047).contains(c)) {
-        return refused([0; 64]);
+        return refused(Transformed {
+            residues: [0; 64],
+            rows: 0,
+        });
     }
-    let residues = inverse_transform(&coefficients.map(i64::from));
-    (0, residues.map(|residue| residue as i16))
+    let coefficients = coefficients.map(i64::from);
+    let residues = inverse_transform(&coefficients);
+    let transformed = Transformed {
+        residues: residues.map(|residue| residue as i16),
+        rows: rows_worked(&coefficients),
+    };
+    (0, transformed)
 }
 
 /// "A level of 0 is in range there, and a weight is 1..255."

@@ -91,6 +91,16 @@ pub struct Macroblock {
     pub after: SliceState,
 }
 
+impl Macroblock {
+    /// The coefficients of each coded block. The matrices are intra, then non-intra, if given.
+    pub fn coefficients(&self, matrices: [Option<Block>; 2]) -> [Option<Block>; 6] {
+        self.blocks.each_ref().map(|block| {
+            let block = block.as_ref()?;
+            Some(block.coefficients(matrices, self.after.scale))
+        })
+    }
+}
+
 pub struct CodedBlock {
     /// Only for intra blocks.
     pub dc: Option<i64>,
@@ -119,7 +129,7 @@ impl CodedBlock {
 }
 
 /// The unread part of the body. "A field that isn't wholly inside its record is refused by 6."
-struct Fields<'a>(&'a [u8]);
+pub struct Fields<'a>(pub &'a [u8]);
 
 impl Fields<'_> {
     fn take<const LENGTH: usize>(&mut self) -> Result<[u8; LENGTH], Refusal> {
@@ -291,7 +301,11 @@ pub fn component(block: usize) -> usize {
 }
 
 /// "A block is: intra only, a 2-byte DC difference; a count of pairs (intra 0..63, else 1..64); the pairs".
-fn coded_block(fields: &mut Fields, intra: bool, past: &mut i64) -> Result<CodedBlock, Refusal> {
+pub fn coded_block(
+    fields: &mut Fields,
+    intra: bool,
+    past: &mut i64,
+) -> Result<CodedBlock, Refusal> {
     let (dc, counts, first) = if intra {
         *past = dc(fields, *past)?;
         (Some(*past), 0..=63, 1)

@@ -1,5 +1,5 @@
-//! A second decoder of Format 3, to compare with: written for clarity, not speed, from document 01 and request No. 1 alone, and
-//! for raw slices from request No. 2 and Annex B. Each module follows one heading, and each function one sentence, which its
+//! A second decoder of Format 3, to compare with: written for clarity, not speed, from document 01 and requests No. 1 and 6 alone,
+//! and for raw slices from request No. 2 and Annex B. Each module follows one heading, and each function one sentence, which its
 //! comment quotes.
 
 pub mod annex_b;
@@ -16,7 +16,7 @@ pub mod slice;
 pub mod transform;
 pub mod vectors;
 
-pub use entries::{Entries, FileStart, ReadHeader, Reconstruct, Transform, ENTRIES};
+pub use entries::{Entries, FileStart, ReadHeader, Reconstruct, Transform, Transformed, ENTRIES};
 pub use picture::reconstruct;
 pub use refusals::Answer;
 pub use slice::{Given, ReadSlice, SliceAnswer};

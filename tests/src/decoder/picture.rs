@@ -4,7 +4,7 @@ use super::coefficients::Block;
 use super::file::{self, Header, PictureType};
 use super::macroblock::{component, macroblock, Last, Macroblock, SliceState};
 use super::refusals::{require, Answer, Refusal};
-use super::transform::inverse_transform;
+use super::transform::{inverse_transform, rows_worked};
 use super::vectors::{fits, prediction, Vector, Vectors};
 
 /// Makes the picture of a file. "Order: 1, 2; in each record 3, 4, 5", then the tests of its kind.
@@ -17,6 +17,7 @@ pub fn reconstruct(file: &[u8], forward: &[u8], backward: &[u8], output: &mut [u
         matrices: [None; 2],
         slice: None,
         made: 0,
+        rows: 0,
     };
     // "Place is the offset of the refused record's length (0 for 1 and 2; file length for 7 ..)."
     let mut place = 0;
@@ -24,11 +25,11 @@ pub fn reconstruct(file: &[u8], forward: &[u8], backward: &[u8], output: &mut [u
         Ok(()) => 0,
         Err(refusal) => refusal.number(),
     };
-    let made = picture.made;
     Answer {
         number,
         place,
-        made,
+        made: picture.made,
+        rows: picture.rows,
     }
 }
 
@@ -42,6 +43,9 @@ struct Picture<'a> {
     slice: Option<SliceState>,
     /// "Made is the count of macroblocks written"; it is also the next address.
     made: usize,
+    /// ".. the picture's answer, carries the total over its coded blocks .. On a refused picture it is the total over the macroblocks
+    /// made."
+    rows: usize,
 }
 
 impl Picture<'_> {
@@ -144,11 +148,10 @@ impl Picture<'_> {
         for address in skipped {
             self.write(header, address, skip, &[const { None }; 6]);
         }
-        let residues = read.blocks.map(|block| {
-            let coefficients = block?.coefficients(self.matrices, read.after.scale);
-            Some(inverse_transform(&coefficients))
-        });
+        let blocks = read.coefficients(self.matrices);
+        let residues = blocks.map(|block| Some(inverse_transform(&block?)));
         self.write(header, own, read.vectors, &residues);
+        self.rows += blocks.iter().flatten().map(rows_worked).sum::<usize>();
         self.slice = Some(read.after);
         self.made = own + 1;
         Ok(())

@@ -45,10 +45,11 @@ pub fn require(holds: bool, refusal: Refusal) -> Result<(), Refusal> {
     }
 }
 
-/// "The answer is number, place, made." 0 is an acceptance.
+/// "The answer is number, place, made." 0 is an acceptance. Request No. 6 adds the rows that the transform worked.
 #[derive(Clone, Copy, Debug, PartialEq, Eq)]
 pub struct Answer {
     pub number: u32,
     pub place: usize,
     pub made: usize,
+    pub rows: usize,
 }

@@ -1,4 +1,4 @@
-//! "Inverse transform": the exact sum, without rounding in between.
+//! "Inverse transform": the exact sum, without rounding in between; and how many rows it works.
 
 use super::coefficients::Block;
 
@@ -37,6 +37,13 @@ fn sum(coefficients: &Block, factors: &[[i64; 8]; 8], column: usize, row: usize)
         }
     }
     sum
+}
+
+/// Request No. 6: "tell how many rows it worked. That number equals the rows with a coefficient not zero, so at most 8."
+pub fn rows_worked(coefficients: &Block) -> usize {
+    let rows = coefficients.chunks(8);
+    rows.filter(|row| row.iter().any(|coefficient| *coefficient != 0))
+        .count()
 }
 
 /// ".. plus 2^41, divided by 2^42 downwards, then limited to -256..255."

@@ -1,11 +1,9 @@
 //! Makes blocks pair by pair: for each count n, a block with exactly the first n pairs of a list, and blocks in which the next pair
 //! is refused.
 
-use super::cases::{lent, Case};
-use super::file::File;
-use super::picture::{random_header, Style, Writer};
-use crate::decoder::file::{PictureType, INTRA, MACROBLOCK, MATRIX, NON_INTRA, SLICE};
-use crate::decoder::size::Size;
+use super::cases::Case;
+use super::strip::{pair, Strip};
+use crate::decoder::file::{PictureType, INTRA, NON_INTRA};
 use crate::random::Random;
 
 /// The first pairs of a list whose pairs all have the same run.
@@ -315,20 +313,14 @@ impl Lists {
         } else {
             (PictureType::P, NON_INTRA, &[8, 0, 1, 63])
         };
-        let size = Size {
+        let strip = Strip {
+            picture_type,
             width: macroblocks.len(),
-            height: 1,
+            matrices: vec![(matrix, self.weights)],
+            scale: self.scale,
         };
-        let header = random_header(random, picture_type, size);
-        let mut file = Writer::new(random, header, Style::SMALL).file;
-        let matrix = [&[matrix as u8], &self.weights[..]].concat();
-        record(&mut file, MATRIX, &matrix);
-        record(&mut file, SLICE, &[self.scale, 0, 0]);
-        for blocks in macroblocks {
-            let body = [fields, &blocks.concat()].concat();
-            record(&mut file, MACROBLOCK, &body);
-        }
-        lent(random, header, &file)
+        let body = |blocks: &Vec<Vec<u8>>| [fields, &blocks.concat()].concat();
+        strip.case(random, macroblocks.iter().map(body))
     }
 
     /// A block with these pairs and perhaps, after them, one with a fault.
@@ -355,11 +347,6 @@ impl Lists {
     }
 }
 
-fn pair(run: usize, level: i64) -> [u8; 3] {
-    let [high, low] = (level as i16).to_be_bytes();
-    [run as u8, high, low]
-}
-
 /// A pair with this fault, or the part of it that is left, where the block has room for `left` more positions.
 fn refused_pair(random: &mut Random, left: usize, fault: Fault) -> Vec<u8> {
     let run = random.below(left.max(1));
@@ -370,12 +357,4 @@ fn refused_pair(random: &mut Random, left: usize, fault: Fault) -> Vec<u8> {
         Fault::HighLevel => pair(run, random.pick(&[256, 32767])).to_vec(),
         Fault::Cut(length) => pair(run, 1)[..length].to_vec(),
     }
-}
-
-fn record(file: &mut File, kind: u8, body: &[u8]) {
-    file.record(kind, |file| {
-        for byte in body {
-            file.byte("body", (*byte).into(), &[]);
-        }
-    });
 }

@@ -9,9 +9,12 @@ mod misfits;
 mod picture;
 mod reels;
 mod room_slices;
+mod row_blocks;
+mod rows;
 mod slice_damage;
 mod slice_edges;
 mod slices;
+mod strip;
 
 pub use blocks::{all_stages, stage_cases, Fault, Next, Pairs, Scaled, Stage};
 pub use cases::{case, small_cases, Case};
@@ -21,6 +24,8 @@ pub use reels::{reel, Reel};
 pub use room_slices::{
     reach, record_ends, room_slices, RoomCase, RoomSlice, RoomTrial, ROOM, TRIALS,
 };
+pub use row_blocks::{all_row_masks, row_mask_blocks, Row, RowMask, Shape};
+pub use rows::{all_row_kinds, row_cases, End, RowKind};
 pub use slice_damage::damaged_bytes;
 pub use slice_edges::edge_slices;
 pub use slices::{long_slice_cases, slice_case, small_slice_cases, SliceCase};

@@ -10,6 +10,7 @@ use notation::Unread;
 pub mod notation;
 mod reconstruct;
 mod report;
+mod transform;
 
 pub use report::{run, Report};
 
@@ -30,6 +31,21 @@ pub const LANDED: &[Landed] = &[
     Landed {
         request: 3,
         files: &[],
+    },
+    Landed {
+        request: 6,
+        files: &[
+            RequestFile {
+                name: "no06.txt",
+                programs: &[],
+                check: reconstruct::check_with_rows,
+            },
+            RequestFile {
+                name: "no06-transform.txt",
+                programs: &[],
+                check: transform::check,
+            },
+        ],
     },
 ];
 

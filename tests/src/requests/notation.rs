@@ -1,5 +1,5 @@
-//! How the cases of requests are written: a line a case, with fields separated by tabs. Numbers are decimal, bytes lower-case
-//! hexadecimal digits. `-` stands for no bytes.
+//! How the cases of requests are written: a line a case, with fields separated by tabs. Numbers are decimal, and those of a list
+//! are separated by commas; bytes are lower-case hexadecimal digits. `-` stands for an empty list or no bytes.
 
 use std::fmt;
 
@@ -25,10 +25,14 @@ impl fmt::Display for Unread {
 
 /// The fields of a line, which has just so many.
 pub fn fields<const COUNT: usize>(line: &str) -> Result<[&str; COUNT], Unread> {
-    let fields: Vec<&str> = line.split('\t').collect();
-    let found = fields.len();
-    let malformed = |_| Unread::Malformed(format!("{found} fields, not {COUNT}"));
-    fields.try_into().map_err(malformed)
+    counted("fields", line.split('\t').collect())
+}
+
+/// The items, if there are just so many.
+fn counted<T, const COUNT: usize>(what: &str, items: Vec<T>) -> Result<[T; COUNT], Unread> {
+    let found = items.len();
+    let malformed = |_| Unread::Malformed(format!("{found} {what}, not {COUNT}"));
+    items.try_into().map_err(malformed)
 }
 
 /// A decimal number, without needless zeros or signs.
@@ -39,6 +43,23 @@ pub fn number<N: TryFrom<i128>>(text: &str) -> Result<N, Unread> {
     };
     let no_such_number = |_| Unread::NoSuchNumber(text.into());
     number.try_into().map_err(no_such_number)
+}
+
+/// A list of just so many numbers.
+pub fn numbers<N: TryFrom<i128>, const COUNT: usize>(text: &str) -> Result<[N; COUNT], Unread> {
+    // What is malformed is told first: a wide case is left out only if it is written well.
+    let written: [&str; COUNT] = counted("numbers", written_numbers(text)?)?;
+    let numbers: Result<Vec<N>, Unread> = written.into_iter().map(number).collect();
+    counted("numbers", numbers?)
+}
+
+/// The numbers of a list as they are written, of any size.
+fn written_numbers(text: &str) -> Result<Vec<&str>, Unread> {
+    if text == "-" {
+        return Ok(Vec::new());
+    }
+    let written = |item| number::<i128>(item).map(|_| item);
+    text.split(',').map(written).collect()
 }
 
 /// The bytes written as two hexadecimal digits each.
@@ -164,6 +185,21 @@ mod tests {
         for text in ["", "-", "+1", "01", "-0", "1 ", "0x1", "1.0"] {
             assert!(malformed(number::<i32>(text)), "{text}");
         }
+    }
+
+    #[test]
+    fn lists_have_commas_and_are_counted() {
+        assert_eq!(numbers("0,-1,255"), Ok([0_i16, -1, 255]));
+        assert_eq!(numbers("7"), Ok([7_u8]));
+        assert_eq!(numbers::<u8, 0>("-"), Ok([]));
+        for text in [
+            "", "-", ",", "1", "1,2", "1,2,3,4", "1,2,", ",1,2", "1,,2", "1, 2,3", "1;2;3",
+            "1,-,2", "256,2", "256,x,2",
+        ] {
+            assert!(malformed(numbers::<u8, 3>(text)), "{text}");
+        }
+        let no_such_number = Err(Unread::NoSuchNumber("256".into()));
+        assert_eq!(numbers::<u8, 3>("1,256,2"), no_such_number);
     }
 
     #[test]

@@ -6,15 +6,18 @@ use native.Mathlib.Omega.{arith}
 use lib.IntN.{ℤ}
 use lib.ListN.{length, drop, length-drop, length-append}
 use lib.Seq.{drop-drop}
+use Rattle.tables.proofs.Zigzag.{raster-below}
 use Rattle.refusals.specs.declared.Refusal.{Refusal}
 use Rattle.symbols.specs.Parsed.{value, stopped, ParsesAs}
 use Rattle.symbols.specs.declared.pair.Pair.{Pair}
 use Rattle.symbols.specs.Pair.{firstPosition, pairPosition, afterPair, afterPairs}
 use Rattle.symbols.proofs.Parsed.{all-at, after, nothing-after, after-after}
 use Rattle.decode_coefficients.specs.declared.block.BlockCoding.{BlockCoding}
-use Rattle.decode_coefficients.specs.Block.{withLevel, withPairs, blockCoefficients}
+use Rattle.decode_coefficients.specs.Block.{PositionedLevel, rasterIndex, scaledLevel, withLevel, withPairs, blockCoefficients}
+use Rattle.decode_coefficients.specs.Marks.{Marked, withCoefficient}
+use Rattle.decode_coefficients.proofs.RowMarks.{marked-set}
 use Rattle.decode_coefficients.specs.SoFar.{HoldsSoFar}
-use Rattle.decode_coefficients.proofs.SoFar.{after-append, none-read, one-more as one-pair-more, one-block, holds-so-far, first-inside}
+use Rattle.decode_coefficients.proofs.SoFar.{after-append, none-read, one-more as one-pair-more, next-zero, one-block, holds-so-far, first-inside}
 use Rattle.format3_macroblock.specs.Pairs.{pairOf, pairsOf, pairsBeforeRefusal}
 use Rattle.format3_macroblock.specs.Landing.{blockRead}
 use Rattle.format3_macroblock.specs.Requires.{BeforePairs}
@@ -22,9 +25,9 @@ use Rattle.format3_macroblock.proofs.Laws.Pairs.{pair-legal, none-left,
 use Rattle.format3_macroblock.proofs.Laws.Blocks.{first-near}
 
 module _ (c : BlockCoding) (matrix : List ℕ) (count : ℕ) (body : List ℕ) (start : List ℤ) where
-  -- before each pair and after the last: the block holds the scaled levels of the pairs read so far, and these pairs plus those still to be read are
-  -- all pairs
-  pub record BetweenPairs (block : List ℤ) (left next at : ℕ) : Type 0 where
+  -- before each pair and after the last: the block holds the scaled levels of the pairs read so far, its rows are marked, and these pairs plus those
+  -- still to be read are all pairs
+  pub record BetweenPairs (block : List ℤ) (marks left next at : ℕ) : Type 0 where
     pub near : next ≤ 64
     pub inside : at ≤ length body
     pub begun : BeforePairs c start
@@ -32,12 +35,13 @@ module _ (c : BlockCoding) (matrix : List ℕ) (count : ℕ) (body : List ℕ) (
     pub counted : length pairs + left ≡ count
     pub next-is : next ≡ afterPairs (firstPosition (c .intra)) pairs
     pub holds : HoldsSoFar c matrix (begun .dc) pairs block
+    pub marked : Marked block marks
     pub goes-on : pairsOf count (firstPosition (c .intra)) body ≡ after pairs (pairsOf left next (drop at body))
     pub before : pairsBeforeRefusal count (firstPosition (c .intra)) body ≡ pairs ++ pairsBeforeRefusal left next (drop at body)
 
-  pub at-start : BeforePairs c start → BetweenPairs start count (firstPosition (c .intra)) 0
+  pub at-start : {marks : ℕ} → BeforePairs c start → Marked start marks → BetweenPairs start marks count (firstPosition (c .intra)) 0
   unfolding afterPairs
-  at-start b = record {
+  at-start b m = record {
     near = first-near (c .intra);
     inside = omega arith;
     begun = b;
@@ -45,11 +49,12 @@ module _ (c : BlockCoding) (matrix : List ℕ) (count : ℕ) (body : List ℕ) (
     counted = omega arith;
     next-is = refl;
     holds = rw (b .is) (none-read (b .fits));
+    marked = m;
     goes-on = sym (nothing-after (pairsOf count (firstPosition (c .intra)) body));
     before = refl;
   }
 
-  module _ {block : List ℤ} {left next at : ℕ} (p : BetweenPairs block left next at) where
+  module _ {block : List ℤ} {marks left next at : ℕ} (p : BetweenPairs block marks left next at) where
     -- what it holds, as an equation
     block-is : block ≡ withPairs c matrix (p .pairs) start
     unfolding blockCoefficients
@@ -67,7 +72,8 @@ module _ (c : BlockCoding) (matrix : List ℕ) (count : ℕ) (body : List ℕ) (
         ((rw (p .goes-on, p .before, none-left left next (drop at body) h, none), p .inside), rw (p .before, none, append-nil) block-is)
 
     pub one-more : {pair : Pair} {n : ℕ} → 0 < left → ParsesAs (pairOf next) (drop at body) (value pair n)
-        → BetweenPairs (withLevel c matrix (record { position = pairPosition next pair; level = pair .level }) block) (left - 1) (afterPair next pair) (at + n)
+        → let level : PositionedLevel = record { position = pairPosition next pair; level = pair .level } in
+        BetweenPairs (withLevel c matrix level block) (withCoefficient marks (rasterIndex (pairPosition next pair)) (scaledLevel c matrix level)) (left - 1) (afterPair next pair) (at + n)
     unfolding afterPairs
     one-more {pair} {n} h r =
         let low : pairPosition next pair ≤ 63 = all-at (pair-legal next (drop at body)) (r .0) .low in
@@ -79,6 +85,7 @@ module _ (c : BlockCoding) (matrix : List ℕ) (count : ℕ) (body : List ℕ) (
           counted = simp length-append (omega (arith, p .counted));
           next-is = rw (after-append (firstPosition (c .intra)) (p .pairs) (pair ∷ []), ← p .next-is);
           holds = rw (p .next-is) (one-pair-more (p .pairs) pair (p .holds) (rw (← p .next-is) low));
+          marked = marked-set (p .marked) (p .holds .full) (rasterIndex (pairPosition next pair)) (raster-below (pairPosition next pair) (omega arith)) (rw (p .next-is) (next-zero (p .pairs) pair (p .holds) (rw (← p .next-is) low))) _;
           goes-on = rw (p .goes-on, one-read left next (drop at body) h (r .0), drop-drop n at body) (after-after (p .pairs) (pair ∷ []) (pairsOf (left - 1) (afterPair next pair) (drop (at + n) body)));
           before = rw (p .before, one-before left next (drop at body) h (r .0), drop-drop n at body) (sym (append-assoc (p .pairs) (pair ∷ []) (pairsBeforeRefusal (left - 1) (afterPair next pair) (drop (at + n) body))));
         }

@@ -49,7 +49,7 @@ loop-again c =
     )
 
 returns : tie.Need-returns Inv-loop μ-loop
-returns c = columns-all (c .before .loop .inv .0) (λ u w a b h. absurd (omega arith))
+returns c = columns-all (c .before .loop .inv .0) (omega arith)
 
 pub column-pass-spec : {M : Type 1} → statement M
 column-pass-spec =

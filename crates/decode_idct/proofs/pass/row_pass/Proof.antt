@@ -1,58 +1,80 @@
 -- `pass::row_pass` meets its contract: before row v, the first v columns hold the transformed rows, and the others zeros. Assumes nothing.
--- The lines of the skipped rows are zeros as well.
-use Prim.Native.Nat.{_+_, _-_, _≤_, _<_}
-use mathlib.Core.Path.{sym, subst}
+-- The line of a row that is not marked is zeros as well.
+use Prim.Native.Nat.{ℕ, _+_, _-_, _≤_}
+use mathlib.Core.Path.{_≡_, refl, sym, ap, _∙_}
+use mathlib.Core.Bool.{not}
+use mathlib.Core.Logic.{⊎-elim}
+use native.Mathlib.Nat.{add-zero}
 use native.Mathlib.Omega.{arith}
-use lib.Dec.{lit≤}
+use borrow.Author.Tests.{not-false}
 use lib.IntN.{pos}
-use Rattle.math.proofs.Bound.{all-more}
-use Rattle.math.specs.Bound.{AllWithin}
-use Rattle.decode_idct.proofs.Columns.{Columns, columns-none, columns-more, columns-all}
-use Rattle.decode_idct.proofs.Passes.{row-within, line-at, zero-row, used-below, unused-zero}
+use Rattle.math.specs.Test.{countBelow}
+use Rattle.math.proofs.Test.{count-none, count-more, count-most}
+use Rattle.decode_coefficients.specs.Rows.{isZeroRow, rowsWorked}
+use Rattle.decode_idct.proofs.Columns.{Columns, columns-none, columns-more, columns-skip, columns-all}
+use Rattle.decode_idct.proofs.Passes.{zero-row}
 use Rattle.decode_idct.specs.Line.{passResult}
 use Rattle.decode_idct.proofs.pass.row_pass.Statement.{statement}
 use Rattle.decode_idct.proofs.pass.row_pass.Tie as tie
 
 abbrev Inv-loop : tie.InvT-loop
-Inv-loop c t₀ rows v₀ t v = Columns (passResult c) (pos 0) v t × (v ≤ rows) × (rows ≤ 8)
+Inv-loop marks c numbers₀ rows₀ v₀ numbers rows v = Columns (passResult c) (pos 0) v numbers × (rows ≡ countBelow v (λ w. not (isZeroRow c w))) × (v ≤ 8)
 
 abbrev μ-loop : tie.MeasureT-loop
-μ-loop c t₀ rows v₀ t v = rows - v
+μ-loop marks c numbers₀ rows₀ v₀ numbers rows v = 8 - v
 
-used-rows-requires : tie.Need-used-rows-requires Inv-loop μ-loop
-used-rows-requires c κs = tt
+-- the test of row v, and both ways on from it
+tested : (c : tie.After-has-mark Inv-loop μ-loop) → c .has-mark .result ≡ not (isZeroRow (c .before .before .before .args .t1) (c .before .before .loop .v))
+tested c =
+    let s = c .before .before in
+    c .has-mark .ensures ∙ s .before .pre .1 .rows (s .loop .v) (c .before .loop-test .taken)
+
+numbers-after : (c : tie.Joined1 Inv-loop μ-loop) → Columns (passResult (c .before .before .before .before .args .t1)) (pos 0) (c .before .before .before .loop .v + 1) (c .if1 .numbers)
+numbers-after c =
+    let s = c .before .before .before in
+    let low = c .before .before .loop-test .taken in
+    ⊎-elim
+    (λ w. rw (w .4 ∙ w .3 .ensures) (columns-more (s .loop .inv .0) low (λ u b. refl)))
+    (λ w. rw (w .1) (columns-skip (s .loop .inv .0) (λ u b. zero-row (s .before .args .t1) (s .loop .v) low (not-false _ (sym (tested (c .before)) ∙ w .0 .left)) u)))
+    (c .if1 .came)
+
+rows-after : (c : tie.Joined1 Inv-loop μ-loop) → c .if1 .rows ≡ countBelow (c .before .before .before .loop .v + 1) (λ w. not (isZeroRow (c .before .before .before .before .args .t1) w))
+rows-after c =
+    let s = c .before .before .before in
+    let counted = count-more (s .loop .v) (λ w. not (isZeroRow (s .before .args .t1) w)) in
+    ⊎-elim
+    (λ w. w .5 ∙ ap (λ (n : ℕ). n + 1) (s .loop .inv .1) ∙ sym (rw (sym (tested (c .before)) ∙ w .0 .taken) at counted))
+    (λ w. w .2 ∙ s .loop .inv .1 ∙ sym (rw (sym (tested (c .before)) ∙ w .0 .left) at counted ∙ add-zero _))
+    (c .if1 .came)
 
 loop-holds : tie.Need-loop-holds Inv-loop μ-loop
-loop-holds c = (columns-none, omega arith, rw (c .used-rows .ensures) (used-below 8 _))
+loop-holds c = (columns-none, sym (count-none _), omega arith)
 
-coefficient-row-requires : tie.Need-coefficient-row-requires Inv-loop μ-loop
-coefficient-row-requires c κs = omega (arith, c .before .before .loop .inv .2, c .before .loop-test .taken)
+has-mark-requires : tie.Need-has-mark-requires Inv-loop μ-loop
+has-mark-requires c κs = omega arith
 
-transform-line-requires : tie.Need-transform-line-requires Inv-loop μ-loop
-transform-line-requires c κs = all-more (subst (AllWithin 2048) (sym (c .coefficient-row .ensures)) (row-within (c .before .before .before .before .before .before .args .t1) (c .before .before .before .loop .v) (c .before .before .before .before .before .before .pre))) (lit≤ tt)
+work-row-requires : tie.Need-work-row-requires Inv-loop μ-loop
+work-row-requires c κs = (omega arith, c .before .before .before .before .before .before .pre .0)
 
-put-column-requires : tie.Need-put-column-requires Inv-loop μ-loop
-put-column-requires c κs = omega (arith, c .before .before .before .before .before .loop .inv .2, c .before .before .before .before .loop-test .taken)
+add-rows : tie.Need-add-rows Inv-loop μ-loop
+add-rows c =
+    let s = c .before .before .before .before .before .before in
+    omega (arith, s .loop .inv .1, count-most (s .loop .v) (λ w. not (isZeroRow (s .before .args .t1) w)))
 
 add-v : tie.Need-add-v Inv-loop μ-loop
-add-v c = omega (arith, c .before .before .before .before .before .before .loop .inv .2, c .before .before .before .before .before .loop-test .taken)
+add-v c = omega arith
 
 loop-less : tie.Need-loop-less Inv-loop μ-loop
-loop-less c = omega (arith, c .before .before .before .before .before .loop-test .taken)
+loop-less c = omega arith
 
 loop-again : tie.Need-loop-again Inv-loop μ-loop
-loop-again c =
-    let h : c .before .before .before .before .before .before .loop .v < 8 = omega (arith, c .before .before .before .before .before .before .loop .inv .2, c .before .before .before .before .before .loop-test .taken) in (
-      subst (Columns (passResult (c .before .before .before .before .before .before .before .before .before .args .t1)) (pos 0) (c .before .before .before .before .before .before .loop .v + 1)) (sym (c .put-column .ensures))
-          (columns-more (c .before .before .before .before .before .before .loop .inv .0) h (line-at (c .before .before .before .before .before .before .before .before .before .args .t1) (c .before .before .before .coefficient-row .result) (c .before .before .transform-line .result) (c .before .before .before .before .before .before .loop .v) h (c .before .before .before .coefficient-row .ensures) (c .before .before .transform-line .ensures))),
-      omega (arith, c .before .before .before .before .before .loop-test .taken),
-      c .before .before .before .before .before .before .loop .inv .2,
-    )
+loop-again c = (numbers-after c, rows-after c, omega arith)
 
 returns : tie.Need-returns Inv-loop μ-loop
+unfolding rowsWorked
 returns c =
-    let l = c .before .before .before .before .args .t1 in
-    columns-all (c .before .loop .inv .0) (λ u w a b h. zero-row l w b (unused-zero 8 l w b (omega (arith, c .before .before .used-rows .ensures, c .loop-test .left))) u)
+    let all : c .before .loop .v ≡ 8 = omega arith in
+    (columns-all (c .before .loop .inv .0) (omega arith), rw all at (c .before .loop .inv .1))
 
 pub row-pass-spec : {M : Type 1} → statement M
 row-pass-spec =
@@ -60,11 +82,10 @@ row-pass-spec =
     (tie.spec
     Inv-loop
     μ-loop
-    used-rows-requires
     loop-holds
-    coefficient-row-requires
-    transform-line-requires
-    put-column-requires
+    has-mark-requires
+    work-row-requires
+    add-rows
     add-v
     loop-less
     loop-again

@@ -11,7 +11,9 @@ is-coded-requires : tie.Need-is-coded-requires
 is-coded-requires c κs = search needs
 
 returns : tie.Need-returns
-returns c = rw (sym (c .before .is-coded .ensures) ∙ not-true _ (c .if1 .taken))
+returns c =
+    let e = sym (c .before .is-coded .ensures) ∙ not-true _ (c .if1 .taken) in
+    (rw e, rw e)
 
 block-location-requires : tie.Need-block-location-requires
 block-location-requires c κs = search needs
@@ -19,27 +21,28 @@ block-location-requires c κs = search needs
 read-requires : tie.Need-read-requires
 read-requires c κs =
     let s = c .before .before .before .before .before in
-    rw (c .before .block-location .ensures, s .pre .1) (location-inside (s .args .position) (s .args .block) (s .pre .0) (s .pre .3))
+    rw (c .before .block-location .ensures, s .pre .1) (location-inside (s .args .position) (s .args .block) (s .pre .0) (s .pre .4))
 
 reconstruct-coded-block-requires : tie.Need-reconstruct-coded-block-requires
 reconstruct-coded-block-requires c κs = search needs
 
 put-requires : tie.Need-put-requires
 put-requires c κs =
-    let at-location = c .before .before .before .before in
+    let at-location = c .before .before .before .before .before in
     let s = at-location .before .before .before .before in
-    rw (at-location .block-location .ensures, s .pre .1) (location-inside (s .args .position) (s .args .block) (s .pre .0) (s .pre .3))
+    rw (at-location .block-location .ensures, s .pre .1) (location-inside (s .args .position) (s .args .block) (s .pre .0) (s .pre .4))
 
 same-length : tie.Need-same-length
 same-length c = search needs
 
 returns-2 : tie.Need-returns-2
 returns-2 c =
-    let added = c .before .before .before .before in
+    let added = c .before .before .before .before .before in
     let stood = added .before in
     let at-location = stood .before .before in
-    rw (sym (at-location .before .before .is-coded .ensures) ∙ not-false _ (at-location .before .if1 .left))
-    (c .before .before .put .ensures ∙ rw (added .reconstruct-coded-block .ensures, stood .read .ensures, at-location .block-location .ensures))
+    let e = sym (at-location .before .before .is-coded .ensures) ∙ not-false _ (at-location .before .if1 .left) in
+    (rw e (c .before .before .put .ensures ∙ rw (added .reconstruct-coded-block .ensures .0, stood .read .ensures, at-location .block-location .ensures)),
+    rw e (added .reconstruct-coded-block .ensures .1))
 
 pub add-residue-at-spec : {M : Type 1} → statement M
 add-residue-at-spec =

@@ -13,17 +13,17 @@ add-residue-requires c κs = search needs
 
 put-requires : tie.Need-put-requires
 put-requires c κs =
-    let at-location = c .before .before in
+    let at-location = c .before .before .before in
     let s = at-location .before .before in
-    rw (at-location .block-location .ensures, s .pre .1) (location-inside (s .args .position) (s .args .block) (s .pre .0) (s .pre .3))
+    rw (at-location .block-location .ensures, s .pre .1) (location-inside (s .args .position) (s .args .block) (s .pre .0) (s .pre .4))
 
 same-length : tie.Need-same-length
 same-length c = search needs
 
 returns : tie.Need-returns
 returns c =
-    let residue = c .before .before .before .before in
-    c .before .before .put .ensures ∙ rw (residue .add-residue .ensures, residue .before .block-location .ensures)
+    let residue = c .before .before .before .before .before in
+    (c .before .before .put .ensures ∙ rw (residue .add-residue .ensures .0, residue .before .block-location .ensures), residue .add-residue .ensures .1)
 
 pub write-intra-block-spec : {M : Type 1} → statement M
 write-intra-block-spec =

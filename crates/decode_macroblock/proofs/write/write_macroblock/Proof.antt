@@ -18,7 +18,7 @@ write-intra-requires : tie.Need-write-intra-requires
 write-intra-requires c κs =
     let at-position = c .before .before .before .before .before in
     let s = at-position .before .before .before .before in
-    rw (at-position .macroblock-position .ensures) (position-inside (s .args .address) (s .pre .0 .size) (s .pre .0 .inside), s .pre .0 .lent .output-whole, s .pre .1)
+    rw (at-position .macroblock-position .ensures) (position-inside (s .args .address) (s .pre .0 .size) (s .pre .0 .inside), s .pre .0 .lent .output-whole, s .pre .1, s .pre .2)
 
 same-length : tie.Need-same-length
 same-length c = c .before .before .write-intra .kept .0
@@ -29,15 +29,15 @@ returns c =
     let forward = neither .before .before in
     let at-position = forward .before .before in
     let a = at-position .before .before .before .before .args in
-    c .before .before .write-intra .ensures ∙ rw (at-position .macroblock-position .ensures)
+    (c .before .before .write-intra .ensures .0 ∙ rw (at-position .macroblock-position .ensures)
     (intra-blocks inverseTransform (references (a .forward .now) (a .backward .now)) (macroblockPosition (a .size) (a .address)) (a .motion) (a .pattern) (sixBlocks (a .coefficients .now)) (a .output .now)
-    (not-true _ (forward .if1 .taken)) (not-true _ (neither .if2 .taken)))
+    (not-true _ (forward .if1 .taken)) (not-true _ (neither .if2 .taken))), c .before .before .write-intra .ensures .1)
 
 write-inter-requires : tie.Need-write-inter-requires
 write-inter-requires c κs =
     let at-position = c .before .before .before in
     let s = at-position .before .before .before .before in
-    (rw (at-position .macroblock-position .ensures) (blocks-drawable (s .pre .0)), s .pre .1)
+    (rw (at-position .macroblock-position .ensures) (blocks-drawable (s .pre .0)), s .pre .1, s .pre .2)
 
 same-length-2 : tie.Need-same-length-2
 same-length-2 c = c .before .before .write-inter .kept .0
@@ -45,7 +45,7 @@ same-length-2 c = c .before .before .write-inter .kept .0
 returns-2 : tie.Need-returns-2
 returns-2 c =
     let inter = c .before .before in
-    inter .write-inter .ensures ∙ rw (inter .before .before .before .before .macroblock-position .ensures)
+    (inter .write-inter .ensures .0 ∙ rw (inter .before .before .before .before .macroblock-position .ensures), inter .write-inter .ensures .1)
 
 pub write-macroblock-spec : {M : Type 1} → statement M
 write-macroblock-spec =

@@ -5,6 +5,8 @@ use native.Mathlib.Omega.{arith}
 use borrow.Author.Needs.{needs}
 use lib.ListN.{drop, length-drop}
 use Rattle.symbols.specs.Parsed.{value, ParsesAs}
+use Rattle.decode_coefficients.specs.Marks.{BlocksMarked}
+use Rattle.decode_coefficients.proofs.RowMarks.{none-stored}
 use Rattle.format3_records.proofs.Laws.Field.{rest-from}
 use Rattle.format3_macroblock.specs.Decoding.{blockInto, progressResult}
 use Rattle.format3_macroblock.proofs.Laws.BlockArray.{BetweenBlocks, at-start, ends, stops, one-more}
@@ -12,25 +14,25 @@ use Rattle.format3_macroblock.proofs.blocks.read_blocks.Statement.{stat
 use Rattle.format3_macroblock.proofs.blocks.read_blocks.Tie as tie
 
 abbrev Inv-loop : tie.InvT-loop
-Inv-loop rest coding matrix coefficients₀ order running₀ at₀ block₀ coefficients running at block =
-    BetweenBlocks coding matrix (record { pasts = running₀; coefficients = coefficients₀ }) rest block at (record { pasts = running; coefficients = coefficients })
+Inv-loop rest coding matrix coefficients₀ marks₀ order running₀ at₀ block₀ coefficients marks running at block =
+    BetweenBlocks coding matrix (record { pasts = running₀; coefficients = coefficients₀ }) rest block at (record { pasts = running; coefficients = coefficients }) × BlocksMarked coefficients marks
 
 abbrev μ-loop : tie.MeasureT-loop
-μ-loop rest coding matrix coefficients₀ order running₀ at₀ block₀ coefficients running at block =
+μ-loop rest coding matrix coefficients₀ marks₀ order running₀ at₀ block₀ coefficients marks running at block =
     6 - block
 
 -- what the reader of a block found, in the definition's terms
-found : (c : tie.After-read-block Inv-loop μ-loop) → ParsesAs (blockInto (c .before .before .before .before .before .before .before .before .args .coding) (c .before .before .before .before .before .before .before .before .args .matrix .now) (c .before .before .before .before .before .loop .block) (record { pasts = c .before .before .before .before .before .loop .running; coefficients = c .before .before .before .before .before .loop .coefficients })) (drop (c .before .before .before .before .before .loop .at) (c .before .before .before .before .before .before .before .before .args .rest .now)) (progressResult (c .read-block .result) (c .read-block .last .1 .1 .1 .1 .1 .1 .0))
-found c = rw rest-from at (c .read-block .ensures)
+found : (c : tie.After-read-block Inv-loop μ-loop) → ParsesAs (blockInto (c .before .before .before .before .before .before .before .before .before .args .coding) (c .before .before .before .before .before .before .before .before .before .args .matrix .now) (c .before .before .before .before .before .before .loop .block) (record { pasts = c .before .before .before .before .before .before .loop .running; coefficients = c .before .before .before .before .before .before .loop .coefficients })) (drop (c .before .before .before .before .before .before .loop .at) (c .before .before .before .before .before .before .before .before .before .args .rest .now)) (progressResult (c .read-block .result) (c .read-block .last .1 .1 .1 .1 .1 .1 .0))
+found c = rw rest-from at (c .read-block .ensures .0)
 
-got : (c : tie.After-answer Inv-loop μ-loop) → ParsesAs (blockInto (c .before .before .before .before .before .before .before .before .before .before .args .coding) (c .before .before .before .before .before .before .before .before .before .before .args .matrix .now) (c .before .before .before .before .before .before .before .loop .block) (record { pasts = c .before .before .before .before .before .before .before .loop .running; coefficients = c .before .before .before .before .before .before .before .loop .coefficients })) (drop (c .before .before .before .before .before .before .before .loop .at) (c .before .before .before .before .before .before .before .before .before .before .args .rest .now)) (value (record { pasts = c .answer .given .0 .0; coefficients = c .before .before .read-block .last .1 .1 .1 .1 .1 .1 .0 }) (c .answer .given .0 .1 .0 .at))
+got : (c : tie.After-answer Inv-loop μ-loop) → ParsesAs (blockInto (c .before .before .before .before .before .before .before .before .before .before .before .args .coding) (c .before .before .before .before .before .before .before .before .before .before .before .args .matrix .now) (c .before .before .before .before .before .before .before .before .loop .block) (record { pasts = c .before .before .before .before .before .before .before .before .loop .running; coefficients = c .before .before .before .before .before .before .before .before .loop .coefficients })) (drop (c .before .before .before .before .before .before .before .before .loop .at) (c .before .before .before .before .before .before .before .before .before .before .before .args .rest .now)) (value (record { pasts = c .answer .given .0 .0; coefficients = c .before .before .read-block .last .1 .1 .1 .1 .1 .1 .0 }) (c .answer .given .0 .1 .0 .at))
 got c = rw (c .answer .given .1) at (found (c .before .before))
 
 zigzag-table-requires : tie.Need-zigzag-table-requires Inv-loop μ-loop
 zigzag-table-requires c κs = search needs
 
 loop-holds : tie.Need-loop-holds Inv-loop μ-loop
-loop-holds c = at-start _ _ _ _ (c .before .before .pre .0)
+loop-holds c = (at-start _ _ _ _ (c .before .before .pre .0), rw (c .before .before .pre .2, c .before .before .pre .3) none-stored)
 
 sub-read-block : tie.Need-sub-read-block Inv-loop μ-loop
 sub-read-block c = search needs
@@ -42,7 +44,7 @@ part-read-block-end : tie.Need-part-read-block-end Inv-loop μ-loop
 part-read-block-end c = search needs
 
 read-block-requires : tie.Need-read-block-requires Inv-loop μ-loop
-read-block-requires c κs = (c .before .before .before .loop-test .taken, c .before .before .before .before .loop .inv .legal, c .before .before .before .before .before .before .before .pre .1, c .before .before .before .before .before .zigzag-table .ensures)
+read-block-requires c κs = (c .before .before .before .before .loop-test .taken, c .before .before .before .before .before .loop .inv .0 .legal, c .before .before .before .before .before .before .before .before .pre .1, c .before .before .before .before .before .before .zigzag-table .ensures, c .before .before .before .before .before .loop .inv .1)
 
 enum-known-answer : tie.Need-enum-known-answer Inv-loop μ-loop
 enum-known-answer c = search needs
@@ -53,10 +55,10 @@ enum-told c = search needs
 returns : tie.Need-returns Inv-loop μ-loop
 returns c =
     let e = c .enum-told .given .1 in
-    rw e (stops _ _ _ _ (c .before .before .before .before .before .before .before .loop .inv) (c .before .before .before .before .before .before .loop-test .taken) (rw e at (found (c .before .before))))
+    (rw e (stops _ _ _ _ (c .before .before .before .before .before .before .before .before .loop .inv .0) (c .before .before .before .before .before .before .before .loop-test .taken) (rw e at (found (c .before .before)))), c .before .before .read-block .ensures .1)
 
 add-at : tie.Need-add-at Inv-loop μ-loop
-add-at c = omega (arith, c .before .before .before .before .before .before .before .before .before .loop .inv .inside, got (c .before .before) .1, length-drop (c .before .before .before .before .before .before .before .before .before .loop .at) (c .before .before .before .before .before .before .before .before .before .before .before .before .args .rest .now), c .before .before .before .before .before .before .before .before .before .before .before .before .good)
+add-at c = omega (arith, c .before .before .before .before .before .before .before .before .before .before .loop .inv .0 .inside, got (c .before .before) .1, length-drop (c .before .before .before .before .before .before .before .before .before .before .loop .at) (c .before .before .before .before .before .before .before .before .before .before .before .before .before .args .rest .now), c .before .before .before .before .before .before .before .before .before .before .before .before .before .good)
 
 add-block : tie.Need-add-block Inv-loop μ-loop
 add-block c = search needs
@@ -65,10 +67,10 @@ loop-less : tie.Need-loop-less Inv-loop μ-loop
 loop-less c = search needs
 
 loop-again : tie.Need-loop-again Inv-loop μ-loop
-loop-again c = one-more _ _ _ _ (c .before .before .before .before .before .before .before .before .before .loop .inv) (c .before .before .before .before .before .before .before .before .loop-test .taken) (got (c .before .before))
+loop-again c = (one-more _ _ _ _ (c .before .before .before .before .before .before .before .before .before .before .loop .inv .0) (c .before .before .before .before .before .before .before .before .before .loop-test .taken) (got (c .before .before)), c .before .before .before .before .read-block .ensures .1)
 
 returns-2 : tie.Need-returns-2 Inv-loop μ-loop
-returns-2 c = ends _ _ _ _ (c .before .loop .inv) (omega arith) (c .before .before .before .before .pre .2)
+returns-2 c = (ends _ _ _ _ (c .before .loop .inv .0) (omega arith) (c .before .before .before .before .pre .2), c .before .loop .inv .1)
 
 pub read-blocks-spec : {M : Type 1} → statement M
 read-blocks-spec =

@@ -20,10 +20,10 @@ counted : (c : tie.After-first) → ParsesAs (countOf (c .before .before .before
 counted c = rw (c .first .given .1) at (c .before .before .read-count .ensures)
 
 landing : (c : tie.After-read-pairs) → ParsesAs (pairsOf (c .before .before .before .first .given .0 .0) (firstPosition (c .before .before .before .before .before .before .before .args .coding .intra))) (drop (c .before .before .before .first .given .0 .1 .0 .at) (c .before .before .before .before .before .before .before .args .rest .now)) (pairsResult (c .read-pairs .result .answer) (pairsBeforeRefusal (c .before .before .before .first .given .0 .0) (firstPosition (c .before .before .before .before .before .before .before .args .coding .intra)) (drop (c .before .before .before .first .given .0 .1 .0 .at) (c .before .before .before .before .before .before .before .args .rest .now))))
-landing c = rw (c .before .after .ensures) at (c .read-pairs .ensures .0)
+landing c = rw (c .before .after .ensures) at (c .read-pairs .ensures .0 .0)
 
 stored : (c : tie.After-read-pairs) → c .read-pairs .result .block ≡ blockRead (c .before .before .before .before .before .before .before .args .coding) (c .before .before .before .before .before .before .before .args .matrix .now) (c .before .before .before .first .given .0 .0) (drop (c .before .before .before .first .given .0 .1 .0 .at) (c .before .before .before .before .before .before .before .args .rest .now)) (c .before .before .before .before .before .before .before .args .block)
-stored c = rw (c .before .after .ensures) at (c .read-pairs .ensures .1)
+stored c = rw (c .before .after .ensures) at (c .read-pairs .ensures .0 .1)
 
 got : (c : tie.After-answer) → ParsesAs (pairsOf (c .before .before .before .before .before .first .given .0 .0) (firstPosition (c .before .before .before .before .before .before .before .before .before .args .coding .intra))) (drop (c .before .before .before .before .before .first .given .0 .1 .0 .at) (c .before .before .before .before .before .before .before .before .before .args .rest .now)) (value (pairsBeforeRefusal (c .before .before .before .before .before .first .given .0 .0) (firstPosition (c .before .before .before .before .before .before .before .before .before .args .coding .intra)) (drop (c .before .before .before .before .before .first .given .0 .1 .0 .at) (c .before .before .before .before .before .before .before .before .before .args .rest .now))) (c .answer .given .0 .0 .at))
 got c = rw (c .answer .given .1) at (landing (c .before .before))
@@ -47,7 +47,7 @@ returns : tie.Need-returns
 unfolding levelsOf
 returns c =
     let e = c .before .enum-told .given .1 in
-    rw (rw e at (c .before .before .before .read-count .ensures), c .tested-refusal .ensures, e)
+    (rw (rw e at (c .before .before .before .read-count .ensures), c .tested-refusal .ensures, e), c .before .before .before .before .before .pre .3)
 
 after-requires : tie.Need-after-requires
 after-requires c κs = search needs
@@ -63,7 +63,8 @@ enum-told-2 c = search needs
 
 returns-2 : tie.Need-returns-2
 unfolding levelsOf
-returns-2 c = rw (c .enum-told2 .given .1, counted (c .before .before .before .before .before) .0, rw (c .enum-told2 .given .1) at (landing (c .before .before)))
+returns-2 c =
+    (rw (c .enum-told2 .given .1, counted (c .before .before .before .before .before) .0, rw (c .enum-told2 .given .1) at (landing (c .before .before))), c .before .before .read-pairs .ensures .1)
 
 add-at : tie.Need-add-at
 add-at c = omega (arith, inside (c .before .before .before .before), c .before .before .before .before .before .before .before .before .before .before .before .before .before .good)
@@ -73,7 +74,8 @@ unfolding levelsOf
 returns-3 c =
     let end = c .before .before .before .before .before .before .before .before .before .first .given .0 .1 .0 .at + c .before .before .before .before .answer .given .0 .0 .at in
     let left = drop end (c .before .before .before .before .before .before .before .before .before .before .before .before .before .args .rest .now) in
-    (rw (counted (c .before .before .before .before .before .before .before .before .before) .0, got (c .before .before .before .before) .0, drop-drop) (ap (λ (block : List ℤ). parsed block left) (sym (stored (c .before .before .before .before .before .before)))), inside (c .before .before .before .before))
+    let read = c .before .before .before .before .before .before in
+    ((rw (counted (c .before .before .before .before .before .before .before .before .before) .0, got (c .before .before .before .before) .0, drop-drop) (ap (λ (block : List ℤ). parsed block left) (sym (stored read))), inside (c .before .before .before .before)), read .read-pairs .ensures .1)
 
 pub read-levels-spec : {M : Type 1} → statement M
 read-levels-spec =

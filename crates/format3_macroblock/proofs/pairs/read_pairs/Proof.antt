@@ -18,10 +18,10 @@ use Rattle.format3_macroblock.proofs.pairs.read_pairs.Statement.{statem
 use Rattle.format3_macroblock.proofs.pairs.read_pairs.Tie as tie
 
 abbrev Inv-loop : tie.InvT-loop
-Inv-loop rest count coding order matrix block₀ left₀ next₀ at₀ block left next at = BetweenPairs coding matrix count rest block₀ block left next at
+Inv-loop rest count coding order matrix marks block₀ marks₀ left₀ next₀ at₀ block marks' left next at = BetweenPairs coding matrix count rest block₀ block marks' left next at
 
 abbrev μ-loop : tie.MeasureT-loop
-μ-loop rest count coding order matrix block₀ left₀ next₀ at₀ block left next at = left
+μ-loop rest count coding order matrix marks block₀ marks₀ left₀ next₀ at₀ block marks' left next at = left
 
 -- the pair that was read, in the definition's terms
 found : (c : tie.After-read-pair Inv-loop μ-loop) → ParsesAs (pairOf (c .before .before .before .loop .next)) (drop (c .before .before .before .loop .at) (c .before .before .before .before .before .before .args .rest .now)) (pairResult (c .read-pair .result))
@@ -38,7 +38,7 @@ first-position-requires c κs = search needs
 
 loop-holds : tie.Need-loop-holds Inv-loop μ-loop
 loop-holds c =
-    rw (c .first-position .ensures) (at-start _ _ _ _ _ (c .before .before .pre .2))
+    rw (c .first-position .ensures) (at-start _ _ _ _ _ (c .before .before .pre .2) (c .before .before .pre .3))
 
 sub-read-pair : tie.Need-sub-read-pair Inv-loop μ-loop
 sub-read-pair c = search needs
@@ -65,7 +65,7 @@ returns : tie.Need-returns Inv-loop μ-loop
 returns c =
     let head = c .before .before .before .before .before .before in
     let e = c .before .enum-told .given .1 in
-    rw (c .pair-refusal .ensures, e) (stops _ _ _ _ _ (head .loop .inv) (c .before .before .before .before .before .loop-test .taken) (rw e at (found (c .before .before .before))))
+    (rw (c .pair-refusal .ensures, e) (stops _ _ _ _ _ (head .loop .inv) (c .before .before .before .before .before .loop-test .taken) (rw e at (found (c .before .before .before)))), head .loop .inv .marked)
 
 cast-position : tie.Need-cast-position Inv-loop μ-loop
 cast-position c = search needs
@@ -101,10 +101,10 @@ loop-again : tie.Need-loop-again Inv-loop μ-loop
 loop-again c =
     let head = c .before .before .before .before .before .before .before .before .before .before .before in
     let stored = rw (same-level (c .before .before)) at (c .before .store-level .ensures) in
-    rw stored (one-more _ _ _ _ _ (head .loop .inv) (c .before .before .before .before .before .before .before .before .before .before .loop-test .taken) (got (c .before .before .before .before .before .before)))
+    rw (stored .0, stored .1) (one-more _ _ _ _ _ (head .loop .inv) (c .before .before .before .before .before .before .before .before .before .before .loop-test .taken) (got (c .before .before .before .before .before .before)))
 
 returns-2 : tie.Need-returns-2 Inv-loop μ-loop
-returns-2 c = ends _ _ _ _ _ (c .before .loop .inv) (omega arith)
+returns-2 c = (ends _ _ _ _ _ (c .before .loop .inv) (omega arith), c .before .loop .inv .marked)
 
 pub read-pairs-spec : {M : Type 1} → statement M
 read-pairs-spec =
