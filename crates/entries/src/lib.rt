@@ -9,7 +9,7 @@ ghost use lib.ListN.{length, drop};
 ghost use Rattle.io.specs.Counts.{Counts};
 ghost use Rattle.decode_coefficients.specs.Answer.{coefficientNumber, coefficientValue};
 ghost use Rattle.decode_idct.specs.Transform.{inverseTransform};
-ghost use Rattle.decode_idct.specs.Answer.{transformNumber, transformResidues};
+ghost use Rattle.decode_idct.specs.Answer.{transformNumber, transformResidues, transformRows};
 ghost use Rattle.decode_vectors.specs.Vector.{vectorNumber, vectorValue};
 ghost use Rattle.format3_records.specs.Record.{recordOf, recordNumber, kindOf, bodyStartOf, bodyLengthOf, bodyOf};
 ghost use Rattle.format3_header.specs.FileStart.{firstHeader, fileHeaderOf};
@@ -49,13 +49,14 @@ pub struct ShownRecord {
 
 // The picture of a Format 3 file.
 // Takes the file, the forward and the backward reference (empty where the picture has none), and the output, 384 bytes a macroblock.
-// Answers number, place (the byte offset of the refused record; 0 for 1 and 2; the file's length if accepted and for 7) and made,
-// the count of macroblocks written.
+// Answers number, place (the byte offset of the refused record; 0 for 1 and 2; the file's length if accepted and for 7), made, the count
+// of macroblocks written, and rows, the total of the rows that the transform worked for these.
 // Leaves exactly these macroblocks in the output; every other byte is what it was.
 pub fn reconstruct(file: &[u8], forward: &[u8], backward: &[u8], output: &mut [u8]) -> Answer
     ensures number { λ r. ⌜ r .number ≡ pictureOf inverseTransform (now (file .entry)) (now (forward .entry)) (now (backward .entry)) (now (output .entry)) .number ⌝ }
     ensures place { λ r. ⌜ r .place ≡ pictureOf inverseTransform (now (file .entry)) (now (forward .entry)) (now (backward .entry)) (now (output .entry)) .place ⌝ }
     ensures made { λ r. ⌜ r .made ≡ pictureOf inverseTransform (now (file .entry)) (now (forward .entry)) (now (backward .entry)) (now (output .entry)) .made ⌝ }
+    ensures rows { λ r. ⌜ r .rows ≡ pictureOf inverseTransform (now (file .entry)) (now (forward .entry)) (now (backward .entry)) (now (output .entry)) .rows ⌝ }
     ensures output { λ _. ⌜ now (output .exit) ≡ pictureOf inverseTransform (now (file .entry)) (now (forward .entry)) (now (backward .entry)) (now (output .entry)) .output ⌝ }
 {
     reader::reconstruct(file, forward, backward, output)
@@ -73,10 +74,12 @@ pub fn read_header(file: &[u8]) -> FileHeader
 
 // The inverse transform.
 // Takes any sixty-four numbers, row by row.
-// Answers 0 and the residues; 22 and zeros if a number is outside -2048..2047.
+// Answers 0, the residues, and the rows worked: how many of the eight rows hold a number other than 0. 22 and zeros if a number is outside
+// -2048..2047.
 pub fn transform(coefficients: [i16; 64]) -> TransformAnswer
     ensures number { λ r. ⌜ r .number ≡ transformNumber coefficients ⌝ }
     ensures residues { λ r. ⌜ r .residues ≡ transformResidues coefficients ⌝ }
+    ensures rows { λ r. ⌜ r .rows ≡ transformRows coefficients ⌝ }
 {
     decode_idct::transform(coefficients)
 }

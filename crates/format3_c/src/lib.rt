@@ -5,7 +5,7 @@ ghost use mathlib.Core.Path.{_≡_};
 ghost use mathlib.Core.Bool.{true, false};
 ghost use Rattle.decode_coefficients.specs.Answer.{coefficientNumber, coefficientValue};
 ghost use Rattle.decode_idct.specs.Transform.{inverseTransform};
-ghost use Rattle.decode_idct.specs.Answer.{transformNumber, transformResidues};
+ghost use Rattle.decode_idct.specs.Answer.{transformNumber, transformResidues, transformRows};
 ghost use Rattle.decode_vectors.specs.Vector.{vectorNumber, vectorValue};
 ghost use Rattle.format3_records.specs.Record.{recordOf, recordNumber, kindOf, bodyStartOf, bodyLengthOf};
 ghost use Rattle.format3_header.specs.FileStart.{firstHeader, fileHeaderOf};
@@ -14,13 +14,14 @@ ghost use Rattle.mpeg1_reader.specs.Answer.{givenFields, rawSliceOutcome};
 use entries::PictureParameters;
 
 // The version of these functions and structs. It increases when one of them changes or goes.
-pub const API_VERSION: u32 = 1;
+pub const API_VERSION: u32 = 2;
 
 // What `format3_reconstruct` answers besides the number.
 #[repr(C)]
 pub struct PictureResult {
     pub place: usize,
     pub made: usize,
+    pub rows: usize,
 }
 
 // What `format3_show_record` answers besides the number.
@@ -51,7 +52,7 @@ pub struct SliceResult {
 // The version that the library was built with.
 #[no_mangle]
 pub extern "C" fn format3_api_version() -> u32
-    ensures { λ r. ⌜ r ≡ 1 ⌝ }
+    ensures { λ r. ⌜ r ≡ 2 ⌝ }
 {
     API_VERSION
 }
@@ -73,7 +74,7 @@ pub extern "C" fn format3_read_header(file: &[u8], header: &mut Header) -> u32
     found.number
 }
 
-// The picture of a Format 3 file, from its references into the lent output: number, place, made.
+// The picture of a Format 3 file, from its references into the lent output: number, place, made, rows worked.
 #[no_mangle]
 pub extern "C" fn format3_reconstruct(
     file: &[u8],
@@ -85,23 +86,31 @@ pub extern "C" fn format3_reconstruct(
     ensures number { λ r. ⌜ r ≡ pictureOf inverseTransform (now (file .entry)) (now (forward .entry)) (now (backward .entry)) (now (output .entry)) .number ⌝ }
     ensures place { λ _. ⌜ now (result .exit) .place ≡ pictureOf inverseTransform (now (file .entry)) (now (forward .entry)) (now (backward .entry)) (now (output .entry)) .place ⌝ }
     ensures made { λ _. ⌜ now (result .exit) .made ≡ pictureOf inverseTransform (now (file .entry)) (now (forward .entry)) (now (backward .entry)) (now (output .entry)) .made ⌝ }
+    ensures rows { λ _. ⌜ now (result .exit) .rows ≡ pictureOf inverseTransform (now (file .entry)) (now (forward .entry)) (now (backward .entry)) (now (output .entry)) .rows ⌝ }
     ensures output { λ _. ⌜ now (output .exit) ≡ pictureOf inverseTransform (now (file .entry)) (now (forward .entry)) (now (backward .entry)) (now (output .entry)) .output ⌝ }
 {
     let answer = entries::reconstruct(file, forward, backward, output);
     result.place = answer.place;
     result.made = answer.made;
+    result.rows = answer.rows;
     answer.number
 }
 
-// The residues of any sixty-four numbers, row by row.
+// The residues of any sixty-four numbers, row by row, and the rows worked.
 #[no_mangle]
-pub extern "C" fn format3_transform(coefficients: &[i16; 64], residues: &mut [i16; 64]) -> u32
+pub extern "C" fn format3_transform(
+    coefficients: &[i16; 64],
+    residues: &mut [i16; 64],
+    rows: &mut usize,
+) -> u32
     ensures number { λ r. ⌜ r ≡ transformNumber (now (coefficients .entry)) ⌝ }
     ensures residues { λ _. ⌜ now (residues .exit) ≡ transformResidues (now (coefficients .entry)) ⌝ }
+    ensures rows { λ _. ⌜ now (rows .exit) ≡ transformRows (now (coefficients .entry)) ⌝ }
 {
     let answer = entries::transform(*coefficients);
     let values = answer.residues;
     *residues = values;
+    *rows = answer.rows;
     answer.number
 }
 

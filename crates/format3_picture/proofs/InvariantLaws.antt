@@ -4,7 +4,7 @@ use Prim.Native.Nat.{ℕ, _+_, _-_, _≤_, _<_, zero-le}
 use mathlib.Core.Bool.{Bool, true, false}
 use mathlib.Core.List.{List, [], _∷_}
 use mathlib.Core.Path.{_≡_, refl, sym, _∙_, subst}
-use native.Mathlib.Nat.{mul-pos}
+use native.Mathlib.Nat.{add-zero, mul-pos}
 use native.Mathlib.Omega.{arith}
 use borrow.Author.Tests.{ne-eqb}
 use lib.Dec.{T, eqb}
@@ -27,6 +27,7 @@ use Rattle.decode_coefficients.specs.declared.macroblock.SymbolsWithDc.{Symbols
 use Rattle.decode_vectors.proofs.VectorLaws.{factor-least}
 use Rattle.decode_macroblock.specs.Requires.{VectorWithin}
 use Rattle.decode_macroblock.specs.Macroblock.{MadeMacroblock, predictedOnlyFrom, InOrder}
+use Rattle.decode_macroblock.specs.Rows.{rowsOf}
 use Rattle.decode_macroblock.proofs.OrderLaws.{order-both, uncoded-order, uncoded-each}
 use Rattle.decode_state.specs.Plan.{skipMotion, planOf, ownMacroblock, macroblocksOfPlan}
 use Rattle.decode_state.specs.Requires.{Plannable, CodesWithin}
@@ -53,6 +54,7 @@ use Rattle.format3_picture.specs.Picture.{isComplete}
 use Rattle.format3_picture.specs.Requires.{LentLengths, StateWithin, PlanWithin, PlanLent, PlanWritable, SymbolsRead}
 use Rattle.format3_picture.specs.Step.{withMatrix, withSlice, RecordStep, stepAt, stepAtRefusing}
 use Rattle.format3_picture.specs.Symbols.{Symbol}
+use Rattle.format3_picture.proofs.WriteLaws.{plan-rows-most}
 use Rattle.format3_picture.proofs.RecordLaws.{madeRecord, StepCases, refuses, matrix-passes, slice-starts, macroblocks-made, step-cases, found-after}
 
 -- ---- symbols of a macroblock that were read can be planned and written
@@ -111,7 +113,7 @@ module _ (s : PictureState) (m : SymbolsWithDc) (w : StateWithin s) (l : Symbols
   makeable lent = record {
     planned = can-plan;
     lent = plan-lent lent;
-    follows = record { size = w .header .size; follows = refl; inside = can-plan .inside; counted = omega (arith, w .counted) };
+    follows = record { size = w .header .size; follows = refl; inside = can-plan .inside; counted = omega (arith, w .counted); worked = w .worked };
   }
 
 -- ---- what a record that passes preserves
@@ -119,6 +121,7 @@ pub record KeepsInvariant (s : PictureState) (a : Applied) : Type 0 where
   pub within : StateWithin (a .state)
   pub header : a .state .header ≡ s .header
   pub order : InOrder (s .next) (a .macroblocks) (a .state .next)
+  pub rows : a .state .rows ≡ s .rows + rowsOf (a .macroblocks)
   pub in-range : Each (λ m. BlocksInRange (m .coefficients)) (a .macroblocks)
 
 -- a record is in turn only if the picture is not complete
@@ -150,6 +153,7 @@ module _ (q : Matrices) (s : PictureState) (w : StateWithin s) where
     backward-used = w .backward-used;
     inside = w .inside;
     counted = w .counted;
+    worked = w .worked;
     complete = sym (missing kind turn);
   }
 
@@ -165,6 +169,7 @@ module _ (q : Matrices) (s : PictureState) (w : StateWithin s) where
     backward-used = λ f. absurd (subst T (sym f) tt);
     inside = w .inside;
     counted = w .counted;
+    worked = w .worked;
     complete = sym (missing kind turn);
   }
     where
@@ -187,6 +192,7 @@ module _ (q : Matrices) (s : PictureState) (w : StateWithin s) where
           backward-used = λ e. own-backward-used (s .header .«coding_type») (m .symbols .«macroblock_type») (w .header .first-type) (w .header .last-type) (l .type-legal) e;
           inside = omega (arith, l .address-inside, l .increment-some);
           counted = omega (arith, w .counted, l .increment-some);
+          worked = omega (arith, w .worked, plan-rows-most (planFor (s .header) (s .next) (s .slice) m) (coefficientsFor q (s .slice) m));
           complete = after-last _;
         }
 
@@ -208,10 +214,11 @@ module _ (q : Matrices) (s : PictureState) (w : StateWithin s) where
         (coefficients-in-range q _ _ m (legal .blocks), tt)
 
   pub kept : {symbol : Symbol} {t : RecordStep} → StepCases q s symbol t → t .applied .verdict ≡ Passed → KeepsInvariant s (t .applied)
+  unfolding rowsOf
   kept (refuses refusal) e = let z : _≡_ {A = ℕ} 0 1 = cc in absurd (omega arith)
-  kept (matrix-passes turn body) e = record { within = matrix-within matrixKind turn body; header = refl; order = refl; in-range = tt }
-  kept (slice-starts turn header legal start) e = record { within = slice-within sliceKind turn (header .scale) legal; header = refl; order = refl; in-range = tt }
-  kept (macroblocks-made begun m legal) e = record { within = advanced-within m legal; header = refl; order = made-order m legal; in-range = made-in-range m legal }
+  kept (matrix-passes turn body) e = record { within = matrix-within matrixKind turn body; header = refl; order = refl; rows = sym (add-zero (s .rows)); in-range = tt }
+  kept (slice-starts turn header legal start) e = record { within = slice-within sliceKind turn (header .scale) legal; header = refl; order = refl; rows = sym (add-zero (s .rows)); in-range = tt }
+  kept (macroblocks-made begun m legal) e = record { within = advanced-within m legal; header = refl; order = made-order m legal; rows = refl; in-range = made-in-range m legal }
 
   pub step-keeps : (file : List ℕ) (at : ℕ) → stepAt file at s q .applied .verdict ≡ Passed → KeepsInvariant s (stepAt file at s q .applied)
   step-keeps file at = kept (step-cases file at s q)
@@ -245,6 +252,7 @@ start-within h w = record {
   backward-used = λ f. absurd (subst T (sym f) tt);
   inside = zero-le;
   counted = refl;
+  worked = zero-le;
   complete = sym (ne-eqb 0 (macroblockCount (h .size)) (λ none. let some = mul-pos (w .size .wide) (w .size .high) in omega arith));
 }
 

@@ -81,7 +81,7 @@ module _ (transform : List ℤ → ℕ → ℤ) (file forward backward output : 
   abbrev picture : Picture
   picture = pictureOf transform file forward backward output
 
-  pub no-header : {refusal : Refusal} {place : ℕ} → fileStartOf file (length output) (length forward) (length backward) ≡ FileStart.Refused refusal place → picture ≡ withOutput (refusedAt refusal place 0) output
+  pub no-header : {refusal : Refusal} {place : ℕ} → fileStartOf file (length output) (length forward) (length backward) ≡ FileStart.Refused refusal place → picture ≡ withOutput (refusedAt refusal place 0 0) output
   unfolding pictureRefusing
   no-header e = rw e
 

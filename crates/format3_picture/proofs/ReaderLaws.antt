@@ -37,12 +37,12 @@ module _ (file : List ℕ) (at : ℕ) (s : PictureState) (q : Matrices) where
   none-left (suc n) h = rw (le-leb (length file) at h)
 
   one-step : (n : ℕ) → at < length file → let t = stepAt file at s q in
-      recordsFrom file (suc n) at s q ≡ followed (t .applied .verdict) (λ refusal. answeredBy (refusedAt refusal at (s .made)) q) (symbolAt file at s) (recordsFrom file n (t .end) (t .applied .state) (t .matrices))
+      recordsFrom file (suc n) at s q ≡ followed (t .applied .verdict) (λ refusal. answeredBy (refusedAt refusal at (s .made) (s .rows)) q) (symbolAt file at s) (recordsFrom file n (t .end) (t .applied .state) (t .matrices))
   unfolding recordsFromRefusing
   one-step n h = rw (lt-leb (length file) at h)
 
   pub first-refused : {refusal : Refusal} (n : ℕ) → length file - at ≤ n → at < length file → stepAt file at s q .applied .verdict ≡ Refused refusal
-      → recordsFrom file n at s q ≡ answeredBy (refusedAt refusal at (s .made)) q
+      → recordsFrom file n at s q ≡ answeredBy (refusedAt refusal at (s .made) (s .rows)) q
   first-refused zero b h v = absurd (omega arith)
   first-refused (suc n) b h v = one-step n h ∙ rw v
 
@@ -112,7 +112,7 @@ module _ (transform : List ℤ → ℕ → ℤ) (r : References) (file : List �
     whole-done past = stopped (none-left file at s q (w .fuel) past)
 
     pub whole-refused : {refusal : Refusal} → at < length file → stepAt file at s q .applied .verdict ≡ Refused refusal
-        → (recordsAfter file h start .answer ≡ refusedAt refusal at (s .made)) × (output ≡ reconstruction transform r h (symbolsOf file h start) output₀)
+        → (recordsAfter file h start .answer ≡ refusedAt refusal at (s .made) (s .rows)) × (output ≡ reconstruction transform r h (symbolsOf file h start) output₀)
     whole-refused inside v = stopped (first-refused file at s q (w .fuel) (w .enough) inside v)
 
     pub whole-next : at < length file → stepAt file at s q .applied .verdict ≡ Passed → (next : List ℕ) → next ≡ withApplied transform r s (stepAt file at s q .applied) output → length next ≡ length output

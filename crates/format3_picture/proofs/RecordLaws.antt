@@ -17,6 +17,7 @@ use Rattle.symbols.proofs.Parsed.{All, here}
 use Rattle.decode_coefficients.specs.declared.matrices.Matrices.{Matrices}
 use Rattle.decode_macroblock.specs.declared.fit.Fit.{Fit}
 use Rattle.decode_macroblock.specs.declared.fit.Fit.the-variants.{Fits, Forward, Backward}
+use Rattle.decode_macroblock.specs.Rows.{rowsOf}
 use Rattle.decode_state.specs.Plan.{macroblocksOfPlan}
 use Rattle.format3_records.specs.Record.{matrixKind, sliceKind, recordOf}
 use Rattle.format3_records.specs.Turn.{inTurn}
@@ -62,11 +63,8 @@ module _ (q : Matrices) (s : PictureState) (kind : ℕ) (body : List ℕ) where
 abbrev pub madeRecord : Matrices → PictureState → Macroblock → Applied
 madeRecord q s m =
     let p = planFor (s .header) (s .next) (s .slice) m in
-    record {
-      verdict = Passed;
-      state = stateAfter s p;
-      macroblocks = macroblocksOfPlan p (coefficientsFor q (s .slice) m);
-    }
+    let macroblocks = macroblocksOfPlan p (coefficientsFor q (s .slice) m) in
+    record { verdict = Passed; state = stateAfter s p (rowsOf macroblocks); macroblocks = macroblocks }
 
 -- the outcomes of a record: the symbol that it gives, and its result
 pub data StepCases (q : Matrices) (s : PictureState) : Symbol → RecordStep → Type 0 where

@@ -44,7 +44,7 @@ module _ (file : List ℕ) where
   -- induction over the records: at the file's end, at a refused record, and at a record that passes with the records after it
   pub by-records : (P : PictureState → Matrices → Answered → Type 0)
       → ((s : PictureState) (q : Matrices) → P s q (answeredBy (endAnswer (length file) s) q))
-      → ((s : PictureState) (q : Matrices) (refusal : Refusal) (at : ℕ) → P s q (answeredBy (refusedAt refusal at (s .made)) q))
+      → ((s : PictureState) (q : Matrices) (refusal : Refusal) (at : ℕ) → P s q (answeredBy (refusedAt refusal at (s .made) (s .rows)) q))
       → ((s : PictureState) (q : Matrices) (symbol : Symbol) (t : RecordStep) → StepCases q s symbol t → t .applied .verdict ≡ Passed
       → (rest : Answered) → P (t .applied .state) (t .matrices) rest → P s q (record { answer = rest .answer; gathered = putInFront symbol (rest .gathered) }))
       → (n at : ℕ) (s : PictureState) (q : Matrices) → P s q (recordsFrom file n at s q)
@@ -56,12 +56,12 @@ module _ (file : List ℕ) where
       rest = let t = stepAt file at s q in recordsFrom file n (t .end) (t .applied .state) (t .matrices)
 
       by-verdict : P (stepAt file at s q .applied .state) (stepAt file at s q .matrices) rest → (v : Verdict) → stepAt file at s q .applied .verdict ≡ v
-          → P s q (followed v (λ refusal. answeredBy (refusedAt refusal at (s .made)) q) (symbolAt file at s) rest)
+          → P s q (followed v (λ refusal. answeredBy (refusedAt refusal at (s .made) (s .rows)) q) (symbolAt file at s) rest)
       by-verdict later (Refused refusal) e = stops s q refusal at
       by-verdict later Passed e = passes s q _ _ (step-cases file at s q) e rest later
 
       over : (b : Bool) → P (stepAt file at s q .applied .state) (stepAt file at s q .matrices) rest
-          → P s q (cond b (answeredBy (endAnswer (length file) s) q) (followed (stepAt file at s q .applied .verdict) (λ refusal. answeredBy (refusedAt refusal at (s .made)) q) (symbolAt file at s) rest))
+          → P s q (cond b (answeredBy (endAnswer (length file) s) q) (followed (stepAt file at s q .applied .verdict) (λ refusal. answeredBy (refusedAt refusal at (s .made) (s .rows)) q) (symbolAt file at s) rest))
       over true later = ends s q
       over false later = by-verdict later (stepAt file at s q .applied .verdict) refl
 

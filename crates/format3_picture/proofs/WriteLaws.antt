@@ -1,7 +1,7 @@
 -- Laws of a record's macroblocks: the test that they fit, and writing them. Assumes nothing.
-use mathlib.Core.List.{List, []}
+use mathlib.Core.List.{List, [], _∷_}
 use mathlib.Core.Path.{_≡_, refl, _∙_, sym}
-use Prim.Native.Nat.{ℕ}
+use Prim.Native.Nat.{ℕ, _+_, _≤_}
 use native.Mathlib.Omega.{arith}
 use lib.IntN.{ℤ}
 use Rattle.refusals.specs.declared.Refusal.{Refusal}
@@ -17,7 +17,9 @@ use Rattle.decode_macroblock.specs.Macroblock.{predictedOnly, predictedOnlyFrom
 use Rattle.decode_macroblock.specs.Location.{macroblockPosition}
 use Rattle.decode_macroblock.specs.declared.fit.Fit.{Fit}
 use Rattle.decode_macroblock.specs.declared.fit.Fit.the-variants.{Fits, Forward, Backward}
+use Rattle.decode_macroblock.specs.Rows.{macroblockRows, rowsOf}
 use Rattle.decode_macroblock.proofs.BlocksLaws.{block-uncoded, macroblocks-last}
+use Rattle.decode_macroblock.proofs.RowLaws.{macroblock-rows-most, rows-append, none-coded-rows, predicted-rows}
 use Rattle.decode_state.specs.Plan.{planOf, withDc, ownMacroblock, macroblocksOfPlan}
 use Rattle.decode_state.specs.declared.plan.Plan.{Plan}
 use Rattle.format3_records.specs.declared.verdict.Verdict.{Verdict}
@@ -45,13 +47,26 @@ module _ (size : PictureSize) (p : Plan) where
   unfolding recordFit
   each-fits e = both-fit _ _ e
 
+-- ---- the rows worked for a record's macroblocks: those of its own
+pub plan-rows : (p : Plan) (c : List (List ℤ)) → rowsOf (macroblocksOfPlan p c) ≡ macroblockRows (p .pattern) c
+unfolding macroblocksOfPlan rowsOf
+plan-rows p c =
+    let skipped = predictedOnlyFrom (p .first) (p .skipped) (p .«skip_motion») in
+    rows-append skipped (ownMacroblock p c ∷ []) ∙ own (predicted-rows (p .first) (p .skipped) (p .«skip_motion»))
+  where
+    own : rowsOf (predictedOnlyFrom (p .first) (p .skipped) (p .«skip_motion»)) ≡ 0 → rowsOf (predictedOnlyFrom (p .first) (p .skipped) (p .«skip_motion»)) + (macroblockRows (p .pattern) c + 0) ≡ macroblockRows (p .pattern) c
+    own none = omega (arith, none)
+
+pub plan-rows-most : (p : Plan) (c : List (List ℤ)) → rowsOf (macroblocksOfPlan p c) ≤ 48
+plan-rows-most p c = omega (arith, plan-rows p c, macroblock-rows-most (p .pattern) c)
+
 module _ (s : PictureState) (p : Plan) where
   module _ (c : List (List ℤ)) where
     pub misfit : {refusal : Refusal} → fitVerdict (recordFit (s .header .size) p) ≡ Refused refusal → planApplied s p c ≡ refusedRecord refusal s
     unfolding planAppliedRefusing
     misfit e = rw e
 
-    pub made : fitVerdict (recordFit (s .header .size) p) ≡ Passed → planApplied s p c ≡ record { verdict = Passed; state = stateAfter s p; macroblocks = macroblocksOfPlan p c }
+    pub made : fitVerdict (recordFit (s .header .size) p) ≡ Passed → planApplied s p c ≡ record { verdict = Passed; state = stateAfter s p (rowsOf (macroblocksOfPlan p c)); macroblocks = macroblocksOfPlan p c }
     unfolding planAppliedRefusing
     made e = rw e
 
@@ -78,13 +93,18 @@ module _ (s : PictureState) (p : Plan) where
           go Passed e = rw e (sym (own-last c picture) ∙ own-uncoded c _ ∙ sym (own-uncoded [] _) ∙ own-last [] picture)
           go (Refused refusal) e = rw e
 
-  pub same-outcome : (c : List (List ℤ)) → outcomeOf (planApplied s p c) ≡ outcomeOf (planApplied s p [])
-  unfolding planAppliedRefusing
-  same-outcome c = go (fitVerdict (recordFit (s .header .size) p)) refl
-    where
-      go : (v : Verdict) → fitVerdict (recordFit (s .header .size) p) ≡ v → outcomeOf (planApplied s p c) ≡ outcomeOf (planApplied s p [])
-      go Passed e = rw e
-      go (Refused refusal) e = rw e
+  -- nor do they for the answer
+  module _ (none-coded : p .pattern ≡ 0) where
+    pub no-rows : (c : List (List ℤ)) → rowsOf (macroblocksOfPlan p c) ≡ 0
+    no-rows c = plan-rows p c ∙ rw none-coded (none-coded-rows c)
+
+    pub same-outcome : (c : List (List ℤ)) → outcomeOf (planApplied s p c) ≡ outcomeOf (planApplied s p [])
+    unfolding planAppliedRefusing
+    same-outcome c = go (fitVerdict (recordFit (s .header .size) p)) refl
+      where
+        go : (v : Verdict) → fitVerdict (recordFit (s .header .size) p) ≡ v → outcomeOf (planApplied s p c) ≡ outcomeOf (planApplied s p [])
+        go Passed e = rw (e, no-rows c, no-rows [])
+        go (Refused refusal) e = rw e
 
 -- ---- the fit doesn't depend on the DC pasts, so those that the blocks leave can be added later
 pub same-fit : (size : PictureSize) (p : Plan) (dc : DcPasts) → recordFit size (withDc p dc) ≡ recordFit size p

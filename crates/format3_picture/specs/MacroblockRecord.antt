@@ -1,4 +1,4 @@
--- What a macroblock record does (document 01, kind 4 and refusal 18; request No. 1, refusal 23).
+-- What a macroblock record does (document 01, kind 4 and refusal 18; request No. 1, refusal 23; request No. 6, rows worked).
 use mathlib.Core.List.{List, []}
 use Prim.Native.Nat.{ℕ, _+_}
 use lib.Dec.{eqb}
@@ -14,6 +14,7 @@ use Rattle.decode_vectors.specs.Vector.{fOf}
 use Rattle.decode_macroblock.specs.Compensation.{References}
 use Rattle.decode_macroblock.specs.Fit.{fitOf, firstMisfit, orElse}
 use Rattle.decode_macroblock.specs.Macroblock.{MadeMacroblock, withMacroblocks}
+use Rattle.decode_macroblock.specs.Rows.{rowsOf}
 use Rattle.decode_macroblock.specs.declared.fit.Fit.{Fit}
 use Rattle.decode_macroblock.specs.declared.fit.Fit.the-variants.{Fits, Forward, Backward}
 use Rattle.decode_state.specs.Plan.{macroblocksOfPlan}
@@ -57,14 +58,15 @@ refusedRecord refusal s = record { verdict = Refused refusal; state = s; macrobl
 unfoldable pub recordFit : PictureSize → Plan → Fit
 recordFit size p = orElse (firstMisfit size (p .first) (p .skipped) (p .«skip_motion»)) (fitOf size (p .address) (p .motion))
 
--- the state after the record's macroblocks are made
-abbrev pub stateAfter : PictureState → Plan → PictureState
-stateAfter s p = record {
+-- the state after the record's macroblocks are made, with the rows worked for them
+abbrev pub stateAfter : PictureState → Plan → ℕ → PictureState
+stateAfter s p rows = record {
   header = s .header;
   loaded = s .loaded;
   turn = turnAfter macroblockKind (eqb (p .address + 1) (macroblockCount (s .header .size)));
   next = p .address + 1;
   made = s .made + (p .skipped + 1);
+  rows = s .rows + rows;
   slice = p .slice;
 }
 
@@ -81,7 +83,9 @@ module _ (backwardRefusal : Refusal) where
   planAppliedRefusing s p coefficients = go (fitVerdictRefusing (recordFit (s .header .size) p))
     where
       go : Verdict → Applied
-      go Passed = record { verdict = Passed; state = stateAfter s p; macroblocks = macroblocksOfPlan p coefficients }
+      go Passed =
+          let macroblocks = macroblocksOfPlan p coefficients in
+          record { verdict = Passed; state = stateAfter s p (rowsOf macroblocks); macroblocks = macroblocks }
       go (Refused refusal) = refusedRecord refusal s
 
   -- what a macroblock's symbols do: test that the vectors fit (18 and 23), then make the macroblocks

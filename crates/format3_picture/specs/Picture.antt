@@ -26,9 +26,10 @@ use Rattle.format3_picture.specs.Step.{stepAtRefusing}
 use Rattle.format3_picture.specs.Symbols.{Symbol, symbolAt, Gathered, noneGathered, putInFront}
 use Rattle.format3_picture.specs.declared.reader.Answer.{Answer}
 
--- "The answer is number, place, made": place is a byte offset in the file, made the count of macroblocks written
-abbrev pub refusedAt : Refusal → ℕ → ℕ → Answer
-refusedAt refusal place made = record { number = numberOf refusal; place = place; made = made }
+-- "The answer is number, place, made": place is a byte offset in the file, made the count of macroblocks written.
+-- Request No. 6: "On a refused picture it is the total over the macroblocks made": rows
+abbrev pub refusedAt : Refusal → ℕ → ℕ → ℕ → Answer
+refusedAt refusal place made rows = record { number = numberOf refusal; place = place; made = made; rows = rows }
 
 -- whether every macroblock has been made
 abbrev pub isComplete : Turn → Bool
@@ -40,7 +41,7 @@ isComplete Turn.Complete = true
 
 -- the file's end: "7 file ends with macroblocks or the header missing"; "Accepted is 0, file length, N"; a missing header is in `fileStartOf`
 abbrev pub endAnswer : ℕ → PictureState → Answer
-endAnswer fileLength s = record { number = cond (isComplete (s .turn)) accepted (numberOf FileEnds); place = fileLength; made = s .made }
+endAnswer fileLength s = record { number = cond (isComplete (s .turn)) accepted (numberOf FileEnds); place = fileLength; made = s .made; rows = s .rows }
 
 -- the answer to some records, and the symbols of those that pass
 pub record Answered : Type 0 where
@@ -66,10 +67,11 @@ pub record Picture : Type 0 where
   pub number : ℕ
   pub place : ℕ
   pub made : ℕ
+  pub rows : ℕ
   pub output : List ℕ
 
 abbrev pub withOutput : Answer → List ℕ → Picture
-withOutput a output = record { number = a .number; place = a .place; made = a .made; output = output }
+withOutput a output = record { number = a .number; place = a .place; made = a .made; rows = a .rows; output = output }
 
 -- ---- `Refusing`: with any refusal for a backward misfit. The reader's own follow, with 23
 module _ (backwardRefusal : Refusal) where
@@ -79,7 +81,7 @@ module _ (backwardRefusal : Refusal) where
   recordsFromRefusing file (suc n) at s q =
       cond (leb (length file) at) (answeredBy (endAnswer (length file) s) q)
       (let t = stepAtRefusing backwardRefusal file at s q in
-      followed (t .applied .verdict) (λ refusal. answeredBy (refusedAt refusal at (s .made)) q) (symbolAt file at s)
+      followed (t .applied .verdict) (λ refusal. answeredBy (refusedAt refusal at (s .made) (s .rows)) q) (symbolAt file at s)
       (recordsFromRefusing file n (t .end) (t .applied .state) (t .matrices)))
 
   -- all records after a header that ends at this offset
@@ -91,7 +93,7 @@ module _ (backwardRefusal : Refusal) where
   pictureRefusing transform file forward backward output = go (fileStartOf file (length output) (length forward) (length backward))
     where
       go : FileStart → Picture
-      go (FileStart.Refused refusal place) = withOutput (refusedAt refusal place 0) output
+      go (FileStart.Refused refusal place) = withOutput (refusedAt refusal place 0 0) output
       go (FileStart.HeaderRead h end) =
           let a = recordsAfterRefusing file h end in
           withOutput (a .answer) (reconstruction transform (references forward backward) h (symbolsIn a) output)
@@ -110,4 +112,4 @@ pictureOf = pictureRefusing BackwardVectorOutside
 
 -- the answer without the output, as the code gives it
 abbrev pub answerOf : Picture → Answer
-answerOf p = record { number = p .number; place = p .place; made = p .made }
+answerOf p = record { number = p .number; place = p .place; made = p .made; rows = p .rows }

@@ -2,7 +2,7 @@
 use mathlib.Core.Bool.{true}
 use mathlib.Core.List.{List}
 use mathlib.Core.Path.{_≡_}
-use Prim.Native.Nat.{ℕ, _+_, _≤_, _<_}
+use Prim.Native.Nat.{ℕ, _+_, _*_, _≤_, _<_}
 use lib.Dec.{eqb}
 use lib.ListN.{length}
 use Rattle.symbols.specs.Parsed.{parsed}
@@ -42,6 +42,7 @@ pub record StateWithin (s : PictureState) : Type 0 where
   pub backward-used : s .slice .motion .backward ≡ true → usesBackward (s .header .«coding_type») ≡ true
   pub inside : s .next ≤ macroblockCount (s .header .size)
   pub counted : s .made ≡ s .next
+  pub worked : s .rows ≤ 48 * s .made
   pub complete : isComplete (s .turn) ≡ eqb (s .next) (macroblockCount (s .header .size))
 
 -- the invariant: the state is in range and the lent buffers have the right lengths, so a record may be read
@@ -55,6 +56,7 @@ pub record PlanFollows (s : PictureState) (p : Plan) : Type 0 where
   pub follows : p .address ≡ s .next + p .skipped
   pub inside : p .address < macroblockCount (s .header .size)
   pub counted : s .made ≤ s .next
+  pub worked : s .rows ≤ 48 * s .made
 
 -- a plan whose fit can be tested
 pub record PlanWithin (size : PictureSize) (p : Plan) : Type 0 where

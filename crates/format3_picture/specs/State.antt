@@ -13,5 +13,6 @@ startState header = record {
   turn = Turn.Header;
   next = 0;
   made = 0;
+  rows = 0;
   slice = resetSlice 1;
 }

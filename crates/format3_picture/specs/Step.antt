@@ -34,6 +34,7 @@ withMatrix s body = record {
   turn = turnAfter matrixKind false;
   next = s .next;
   made = s .made;
+  rows = s .rows;
   slice = s .slice;
 }
 
@@ -52,6 +53,7 @@ withSlice s scale = record {
   turn = turnAfter sliceKind false;
   next = s .next;
   made = s .made;
+  rows = s .rows;
   slice = resetSlice scale;
 }
 

@@ -1,8 +1,10 @@
 // What a macroblock record does: reads and tests all its symbols, tests that its vectors fit, then writes its macroblocks.
 ghost use mathlib.Core.Path.{_≡_};
 ghost use mathlib.Core.List.{[]};
+ghost use Prim.Native.Nat.{_≤_};
 ghost use Rattle.decode_coefficients.specs.Matrices.{matricesOf};
 ghost use Rattle.decode_coefficients.specs.Requires.{BlocksInRange};
+ghost use Rattle.decode_coefficients.specs.Marks.{BlocksMarked};
 ghost use Rattle.decode_coefficients.specs.BlockArray.{sixBlocks};
 ghost use Rattle.decode_idct.specs.Transform.{inverseTransform};
 ghost use Rattle.decode_macroblock.specs.Compensation.{references};
@@ -102,10 +104,10 @@ fn fit_verdict(fit: Fit) -> Verdict
     }
 }
 
-// The state after the record's macroblocks are written.
-fn state_after(picture: PictureState, plan: Plan) -> PictureState
-    requires { ⌜ PlanFollows picture plan ⌝ }
-    ensures { λ r. ⌜ r ≡ stateAfter picture plan ⌝ }
+// The state after the record's macroblocks are written, with the rows worked for them.
+fn state_after(picture: PictureState, plan: Plan, rows: usize) -> PictureState
+    requires { ⌜ PlanFollows picture plan × (rows ≤ 48) ⌝ }
+    ensures { λ r. ⌜ r ≡ stateAfter picture plan rows ⌝ }
 {
     let header = picture.header;
     let loaded = picture.loaded;
@@ -114,12 +116,15 @@ fn state_after(picture: PictureState, plan: Plan) -> PictureState
     let next = plan.address + 1;
     let complete = next == size.macroblocks();
     let turn = turn::turn_after(MACROBLOCK_KIND, complete);
+    let made = picture.made + (plan.skipped + 1);
+    let rows = picture.rows + rows;
     PictureState {
         header,
         loaded,
         turn,
         next,
-        made: picture.made + (plan.skipped + 1),
+        made,
+        rows,
         slice,
     }
 }
@@ -147,11 +152,12 @@ fn write_coded(
     plan: Plan,
     verdict: Verdict,
     coefficients: &[i16; 384],
+    marks: &[u16; 6],
     forward: &[u8],
     backward: &[u8],
     output: &mut [u8],
 ) -> RecordOutcome
-    requires { ⌜ PlanWritable picture plan (now forward) (now backward) (now output) × (verdict ≡ fitVerdict (recordFit (picture .header .size) plan)) × BlocksInRange (sixBlocks (now coefficients)) ⌝ }
+    requires { ⌜ PlanWritable picture plan (now forward) (now backward) (now output) × (verdict ≡ fitVerdict (recordFit (picture .header .size) plan)) × BlocksInRange (sixBlocks (now coefficients)) × BlocksMarked (now coefficients) (now marks) ⌝ }
     ensures { λ r. ⌜ r ≡ outcomeOf (planApplied picture plan (sixBlocks (now (coefficients .entry)))) ⌝ }
     ensures { λ _. ⌜ now (output .exit) ≡ withApplied inverseTransform (references (now (forward .entry)) (now (backward .entry))) picture (planApplied picture plan (sixBlocks (now (coefficients .entry)))) (now (output .entry)) ⌝ }
 {
@@ -165,7 +171,7 @@ fn write_coded(
     let size = header.size;
     let motion = plan.motion;
     write_skipped(size, plan, forward, backward, output);
-    write::write_macroblock(
+    let rows = write::write_macroblock(
         output,
         forward,
         backward,
@@ -174,8 +180,9 @@ fn write_coded(
         motion,
         plan.pattern,
         coefficients,
+        marks,
     );
-    let state = state_after(picture, plan);
+    let state = state_after(picture, plan, rows);
     RecordOutcome { verdict, state }
 }
 
@@ -203,7 +210,7 @@ fn write_predicted(
     let motion = plan.motion;
     write_skipped(size, plan, forward, backward, output);
     write::write_prediction(output, forward, backward, size, plan.address, motion);
-    let state = state_after(picture, plan);
+    let state = state_after(picture, plan, 0);
     RecordOutcome { verdict, state }
 }
 
@@ -230,6 +237,7 @@ fn apply_coded<'m>(
     let scale = decode_coefficients::macroblock::scale_after(slice.scale, symbols);
     let pasts = dc::starting_dc_pasts(dc, symbols.increment);
     let mut coefficients = [0i16; 384];
+    let mut marks = [0u16; 6];
     let blocks = format3_macroblock::macroblock::read_blocks_to_end(
         rest,
         symbols,
@@ -238,6 +246,7 @@ fn apply_coded<'m>(
         intra,
         non_intra,
         &mut coefficients,
+        &mut marks,
     );
     let BlocksAnswer::Legal(running, _) = blocks else {
         return refused_record(picture, blocks::blocks_refusal(blocks));
@@ -249,6 +258,7 @@ fn apply_coded<'m>(
         plan,
         verdict,
         &coefficients,
+        &marks,
         forward,
         backward,
         output,

@@ -22,11 +22,13 @@ use format3_records::verdict::Verdict;
 use refusals::Refusal;
 use symbols::header::Header;
 
-// The answer: 0 or a refusal's number, the place (a byte offset in the file), and how many macroblocks were made (written).
+// The answer: 0 or a refusal's number, the place (a byte offset in the file), how many macroblocks were made (written), and the rows
+// that the transform worked for them.
 pub struct Answer {
     pub number: u32,
     pub place: usize,
     pub made: usize,
+    pub rows: usize,
 }
 
 // Whether every macroblock has been made.
@@ -52,6 +54,7 @@ fn answer_at_end(file_length: usize, picture: PictureState) -> Answer
             number: refusals::ACCEPTED,
             place: file_length,
             made: picture.made,
+            rows: picture.rows,
         };
     }
     let number = refusals::number(Refusal::FileEnds);
@@ -59,18 +62,20 @@ fn answer_at_end(file_length: usize, picture: PictureState) -> Answer
         number,
         place: file_length,
         made: picture.made,
+        rows: picture.rows,
     }
 }
 
 // The answer for a refusal.
-fn refused_at(refusal: Refusal, place: usize, made: usize) -> Answer
-    ensures { λ r. ⌜ r ≡ refusedAt refusal place made ⌝ }
+fn refused_at(refusal: Refusal, place: usize, made: usize, rows: usize) -> Answer
+    ensures { λ r. ⌜ r ≡ refusedAt refusal place made rows ⌝ }
 {
     let number = refusals::number(refusal);
     Answer {
         number,
         place,
         made,
+        rows,
     }
 }
 
@@ -98,7 +103,12 @@ fn read_records(
             length,
         } = found
         else {
-            return refused_at(records::record_refusal(found), at, picture.made);
+            return refused_at(
+                records::record_refusal(found),
+                at,
+                picture.made,
+                picture.rows,
+            );
         };
         let end = from + length;
         let body = &file[from..end];
@@ -114,7 +124,12 @@ fn read_records(
         );
         let verdict = outcome.verdict;
         let Verdict::Passed = verdict else {
-            return refused_at(records::verdict_refusal(verdict), at, picture.made);
+            return refused_at(
+                records::verdict_refusal(verdict),
+                at,
+                picture.made,
+                picture.rows,
+            );
         };
         if kind == MATRIX_KIND {
             matrices = format3_matrices::load_matrix(body, matrices);
@@ -131,7 +146,7 @@ pub fn reconstruct(file: &[u8], forward: &[u8], backward: &[u8], output: &mut [u
     ensures { λ _. ⌜ now (output .exit) ≡ pictureOf inverseTransform (now (file .entry)) (now (forward .entry)) (now (backward .entry)) (now (output .entry)) .output ⌝ }
 {
     match file_start::read_file_start(file, output.len(), forward.len(), backward.len()) {
-        FileStart::Refused(refusal, place) => refused_at(refusal, place, 0),
+        FileStart::Refused(refusal, place) => refused_at(refusal, place, 0, 0),
         FileStart::HeaderRead(header, end) => {
             read_records(file, end, header, forward, backward, output)
         }

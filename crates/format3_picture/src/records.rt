@@ -66,6 +66,7 @@ fn apply_matrix(picture: PictureState, body: &[u8]) -> RecordOutcome
             turn,
             next: picture.next,
             made: picture.made,
+            rows: picture.rows,
             slice,
         },
     }
@@ -91,6 +92,7 @@ fn start_slice(picture: PictureState, start: SliceHeader) -> RecordOutcome
             turn,
             next: picture.next,
             made: picture.made,
+            rows: picture.rows,
             slice,
         },
     }

@@ -13,9 +13,10 @@ pub struct PictureState {
     // Which quantizer matrices have been loaded.
     pub loaded: Loaded,
     pub turn: Turn,
-    // The address after the last macroblock's, and the number of macroblocks written.
+    // The address after the last macroblock's, the number of macroblocks written, and the rows that the transform worked for them.
     pub next: usize,
     pub made: usize,
+    pub rows: usize,
     pub slice: SliceState,
 }
 
@@ -33,6 +34,7 @@ pub(crate) fn start_state(header: Header) -> PictureState
         turn: Turn::Header,
         next: 0,
         made: 0,
+        rows: 0,
         slice,
     }
 }

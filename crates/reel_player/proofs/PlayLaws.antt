@@ -73,7 +73,7 @@ module _ (number : ℕ) (start : FileStart) (kept : Kept) (older newer : List �
 
       go : (b : Bool) → eqb (p .number) accepted ≡ b → playedAs number start p kept older newer ≡ playedAs number start q kept older newer
       go true e =
-          let same : p ≡ q = λ i. record { number = a .answer i .number; place = a .answer i .place; made = a .answer i .made; output = a .bytes (eqb-true (p .number) accepted e) i } in
+          let same : p ≡ q = λ i. record { number = a .answer i .number; place = a .answer i .place; made = a .answer i .made; rows = a .answer i .rows; output = a .bytes (eqb-true (p .number) accepted e) i } in
           ap (λ (x : Picture). playedAs number start x kept older newer) same
       go false e =
           let other : eqb (q .number) accepted ≡ false = ap (λ (m : ℕ). eqb m accepted) (sym same-number) ∙ e in

@@ -12,7 +12,7 @@ same-length c = search needs
 returns : tie.Need-returns
 returns c =
     let e = c .before .before .reconstruct .ensures in
-    ((λ i. e .0 i .number), ((λ i. e .0 i .place), ((λ i. e .0 i .made), e .1)))
+    ((λ i. e .0 i .number), ((λ i. e .0 i .place), ((λ i. e .0 i .made), ((λ i. e .0 i .rows), e .1))))
 
 pub reconstruct-spec : {M : Type 1} → statement M
 reconstruct-spec = tie.close (tie.spec reconstruct-requires same-length returns)

@@ -1,5 +1,5 @@
 -- `format3_reconstruct` meets its contract: a walk through its MIR by hand, since it writes a struct behind a reference. Assumes nothing.
--- It passes the borrow of the output on to the entry for good, opens the borrow of `result`, writes both fields, and closes it.
+-- It passes the borrow of the output on to the entry for good, opens the borrow of `result`, writes its fields, and closes it.
 use mathlib.Core.Path.{_≡_, refl, ap}
 use Prim.Native.Nat.{ℕ, _<_, _^_}
 use mathlib.Core.List.{List, [], _∷_}
@@ -134,7 +134,7 @@ module _ {M : Type 1} (𝓤 : URA M) (H : Heap 𝓤) (A : Atoms 𝓤) (W : Given
   abbrev Post : Val → SProp 𝓤
   Post = walkOf 𝓤 H A f.ended stayed (f.clauses 𝓤 H A at-mem run) .post ((κs, qs, tt, args, at), tt)
 
-  -- the clauses of both contracts: the number, the place, how many were made, and the output
+  -- the clauses of both contracts: the number, the place, how many were made, the rows, and the output
   abbrev picture : Picture
   picture = pictureOf inverseTransform (now file) (now forward) (now backward) (now output)
 
@@ -142,14 +142,14 @@ module _ {M : Type 1} (𝓤 : URA M) (H : Heap 𝓤) (A : Atoms 𝓤) (W : Given
   IsNumber r = r .number ≡ picture .number
 
   abbrev OthersAre : Answer → List ℕ → List (Type 0)
-  OthersAre r ys = (r .place ≡ picture .place) ∷ (r .made ≡ picture .made) ∷ (ys ≡ picture .output) ∷ []
+  OthersAre r ys = (r .place ≡ picture .place) ∷ (r .made ≡ picture .made) ∷ (r .rows ≡ picture .rows) ∷ (ys ≡ picture .output) ∷ []
 
   abbrev Said : Answer → List ℕ → Type 0
   Said r ys = AllOf (IsNumber r) (OthersAre r ys)
 
   -- what the struct holds at exit
   abbrev last : Answer → PictureResult
-  last r = record { place = r .place; made = r .made }
+  last r = record { place = r .place; made = r .made; rows = r .rows }
 
   asked : ent 𝓤 (sep 𝓤 (sem 𝓤 H A (chain lent)) (sem 𝓤 H A (chain passed))) (Step 𝓤 H A at-mem run .pre to-step)
   asked = qed W (‵ (chain lent) ∷ ‵ (chain passed) ∷ []) ∵ join ! $ frame ! $ done !
@@ -209,6 +209,7 @@ module _ {M : Type 1} (𝓤 : URA M) (H : Heap 𝓤) (A : Atoms 𝓤) (W : Given
         -- [the struct's cell; what it owns; the open borrow; obs; auth; the entry's tokens; the last output; what the shared slices own; _8; …]
         assigns ! (of-opd ! (load ! (from ! (fld ! refl (stop !))) (look-in ! 12 (sub ! 1 refl (whole !))))) (from ! (hop ! (look ! 14 refl) (fld ! refl (stop !)))) (store-in ! 0 (sub ! 0 refl (whole !)) (tt, record { fits = fields .1 .0 .1 })) $
         assigns ! (of-opd ! (load ! (from ! (fld ! refl (stop !))) (look-in ! 12 (sub ! 2 refl (whole !))))) (from ! (hop ! (look ! 14 refl) (fld ! refl (stop !)))) (store-in ! 0 (sub ! 1 refl (whole !)) (tt, record { fits = fields .1 .1 .0 .1 })) $
+        assigns ! (of-opd ! (load ! (from ! (fld ! refl (stop !))) (look-in ! 12 (sub ! 3 refl (whole !))))) (from ! (hop ! (look ! 14 refl) (fld ! refl (stop !)))) (store-in ! 0 (sub ! 2 refl (whole !)) (tt, record { fits = fields .1 .1 .1 .0 .1 })) $
         assigns ! (of-opd ! (load ! (from ! (fld ! refl (stop !))) (look-in ! 12 (sub ! 0 refl (whole !))))) (from ! (stop !)) (init ! 24 refl (tt, record { fits = fields .0 .1 })) $
         move ! (1 ∷ []) $ drop ! $ owned ! T.the-row (Is T.the-row) (LL.makes T.the-type T′.the-plain 𝓤 H A) (last r) _ (LL.owes T.the-type T′.the-laws (last r) (fields .1)) $ move ! (1 ∷ 0 ∷ []) $
         closes ! tt T.the-row (last r) (LL.vals T.the-type T′.the-laws (last r)) b o $

@@ -150,7 +150,7 @@ returns-4 c =
     let plan = c .before .before .before .before .before .before .before .before .before .before .make-plan .result in
     let coefficients = decoding (matricesOf (a .intra .now) (a .«non-intra» .now)) (a .picture) m (behind (c .before .before .before .before .before .before .before .before .before .before .before .before .before .before .before .before)) noneCoded .coefficients in
     let e = applied-as (c .before .before .before .before .before .before .before .before .before .before .before .before .before .before .before .before) ∙ predicted (matricesOf (a .intra .now) (a .«non-intra» .now)) (a .picture) m (behind (c .before .before .before .before .before .before .before .before .before .before .before .before .before .before .before .before)) (c .before .before .before .before .before .if1 .left) (given-legal (given (c .before .before .before .before .before .before .before .before .before .before .before .before .before .before .before .before)) .inter-if-uncoded (c .before .before .before .before .before .if1 .left)) (omega (arith, long (c .before .before .before .before .before .before .before .before .before .before .before .before .before .before .before .before), c .before .before .before .before .if2 .left)) ∙ ap (λ (p : Plan). planApplied (a .picture) p coefficients) (sym (plan-is (c .before .before .before .before .before .before .before .before .before .before))) in (
-      rw e (c .before .before .write-predicted .ensures .0 ∙ sym (same-outcome (a .picture) plan coefficients)),
+      rw e (c .before .before .write-predicted .ensures .0 ∙ sym (same-outcome (a .picture) plan (same-pattern (c .before .before .before .before .before .before .before .before .before .before) ∙ c .before .before .before .before .before .if1 .left) coefficients)),
       rw e (c .before .before .write-predicted .ensures .1 ∙ sym (any-coefficients (a .picture) plan inverseTransform (references (a .forward .now) (a .backward .now)) (same-pattern (c .before .before .before .before .before .before .before .before .before .before) ∙ c .before .before .before .before .before .if1 .left) coefficients (a .output .now))),
     )
 

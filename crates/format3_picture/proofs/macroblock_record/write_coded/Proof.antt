@@ -5,7 +5,8 @@ use Rattle.decode_coefficients.specs.BlockArray.{sixBlocks}
 use Rattle.decode_idct.specs.Transform.{inverseTransform}
 use Rattle.decode_macroblock.specs.Compensation.{references}
 use Rattle.decode_macroblock.proofs.BlocksLaws.{macroblocks-none}
-use Rattle.format3_picture.proofs.WriteLaws.{all-fit, each-fits, misfit, made, own-last}
+use Rattle.decode_macroblock.proofs.RowLaws.{macroblock-rows-most}
+use Rattle.format3_picture.proofs.WriteLaws.{all-fit, each-fits, misfit, plan-rows, made, own-last}
 use Rattle.format3_picture.proofs.macroblock_record.write_coded.Statement.{statement}
 use Rattle.format3_picture.proofs.macroblock_record.write_coded.Tie as tie
 
@@ -38,10 +39,13 @@ write-macroblock-requires c κs =
         lent = record { forward-whole = p .lent .own-lent .forward-whole; backward-whole = p .lent .own-lent .backward-whole; output-whole = c .before .before .before .write-skipped .kept .1 .1 .1 .1 .0 ∙ p .lent .own-lent .output-whole };
       },
       c .before .before .before .before .before .before .before .before .before .before .before .before .before .pre .2,
+      c .before .before .before .before .before .before .before .before .before .before .before .before .before .pre .3,
     )
 
 state-after-requires : tie.Need-state-after-requires
-state-after-requires c κs = c .before .before .before .before .before .before .before .before .before .before .before .before .before .before .before .before .pre .0 .follows
+state-after-requires c κs =
+    let s = c .before .before .before .before .before .before .before .before .before .before .before .before .before .before .before .before in
+    (s .pre .0 .follows, rw (c .before .before .write-macroblock .ensures .1) (macroblock-rows-most (s .args .plan .pattern) (sixBlocks (s .args .coefficients .now))))
 
 same-length : tie.Need-same-length
 same-length c = search needs
@@ -52,8 +56,8 @@ returns-2 c =
     let r = references (a .forward .now) (a .backward .now) in
     let coefficients = sixBlocks (a .coefficients .now) in
     let e = made (a .picture) (a .plan) coefficients (sym (c .before .before .before .before .before .before .before .before .before .before .before .before .before .before .before .before .before .pre .1) ∙ c .before .before .before .before .before .before .before .before .before .before .before .before .enum-told .given .1) in (
-      rw (e, c .state-after .ensures, c .before .before .before .before .before .before .before .before .before .before .before .before .enum-told .given .1),
-      rw e (c .before .before .before .write-macroblock .ensures ∙ rw (c .before .before .before .before .before .before .before .write-skipped .ensures) (own-last (a .picture) (a .plan) inverseTransform r coefficients (a .output .now))),
+      rw (e, c .state-after .ensures, c .before .before .before .before .before .before .before .before .before .before .before .before .enum-told .given .1, c .before .before .before .write-macroblock .ensures .1, plan-rows (a .plan) coefficients),
+      rw e (c .before .before .before .write-macroblock .ensures .0 ∙ rw (c .before .before .before .before .before .before .before .write-skipped .ensures) (own-last (a .picture) (a .plan) inverseTransform r coefficients (a .output .now))),
     )
 
 pub write-coded-spec : {M : Type 1} → statement M

@@ -1,11 +1,12 @@
 -- `macroblock_record::write_predicted` meets its contract: if all fit, it writes the skipped macroblocks, then its own. Assumes nothing.
 use mathlib.Core.Path.{sym, _∙_}
 use mathlib.Core.List.{[]}
+use native.Mathlib.Omega.{arith}
 use borrow.Author.Needs.{needs}
 use Rattle.decode_idct.specs.Transform.{inverseTransform}
 use Rattle.decode_macroblock.specs.Compensation.{references}
 use Rattle.decode_macroblock.proofs.BlocksLaws.{macroblocks-none}
-use Rattle.format3_picture.proofs.WriteLaws.{all-fit, each-fits, misfit, made, own-last, own-uncoded}
+use Rattle.format3_picture.proofs.WriteLaws.{all-fit, each-fits, misfit, made, own-last, own-uncoded, no-rows}
 use Rattle.format3_picture.proofs.macroblock_record.write_predicted.Statement.{statement}
 use Rattle.format3_picture.proofs.macroblock_record.write_predicted.Tie as tie
 
@@ -39,7 +40,7 @@ write-prediction-requires c κs =
     }
 
 state-after-requires : tie.Need-state-after-requires
-state-after-requires c κs = c .before .before .before .before .before .before .before .before .before .before .before .before .before .before .before .before .pre .0 .follows
+state-after-requires c κs = (c .before .before .before .before .before .before .before .before .before .before .before .before .before .before .before .before .pre .0 .follows, omega arith)
 
 same-length : tie.Need-same-length
 same-length c = search needs
@@ -49,7 +50,7 @@ returns-2 c =
     let a = c .before .before .before .before .before .before .before .before .before .before .before .before .before .before .before .before .before .args in
     let r = references (a .forward .now) (a .backward .now) in
     let e = made (a .picture) (a .plan) [] (sym (c .before .before .before .before .before .before .before .before .before .before .before .before .before .before .before .before .before .pre .1) ∙ c .before .before .before .before .before .before .before .before .before .before .before .before .enum-told .given .1) in (
-      rw (e, c .state-after .ensures, c .before .before .before .before .before .before .before .before .before .before .before .before .enum-told .given .1),
+      rw (e, c .state-after .ensures, c .before .before .before .before .before .before .before .before .before .before .before .before .enum-told .given .1, no-rows (a .picture) (a .plan) (c .before .before .before .before .before .before .before .before .before .before .before .before .before .before .before .before .before .pre .2) []),
       rw e (c .before .before .before .write-prediction .ensures ∙ rw (c .before .before .before .before .before .before .before .write-skipped .ensures) (sym (own-uncoded (a .picture) (a .plan) inverseTransform r (c .before .before .before .before .before .before .before .before .before .before .before .before .before .before .before .before .before .pre .2) [] _) ∙ own-last (a .picture) (a .plan) inverseTransform r [] (a .output .now))),
     )
 
