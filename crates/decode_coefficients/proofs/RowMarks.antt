@@ -8,7 +8,7 @@ use native.Mathlib.Nat.{zero-mul}
 use native.Mathlib.Decide.{ℕ-discrete, decLt}
 use native.Mathlib.Omega.{arith}
 use borrow.Author.Tests.{lt-ltb, le-ltb, eq-eqb, ne-eqb}
-use lib.Bits.{bitOr, or-shr, or-mod}
+use lib.Bits.{bitOr, and-le-l, and-le-r, or-lt, or-add-and, or-shr, or-mod}
 use lib.Dec.{T, eqb, ltb}
 use lib.IntN.{ℤ, pos}
 use lib.Pow.{shl-shr}
@@ -22,41 +22,41 @@ use Rattle.math.proofs.Scatter.{scatter-length, scatter-at, scatter-other}
 use Rattle.math.specs.Tab.{tab}
 use Rattle.math.proofs.Tab.{tab-length, tab-at}
 use Rattle.math.specs.Test.{allBelow, countBelow}
-use Rattle.math.proofs.Test.{at-below₂, all-pass, one-fails, all-ext, count-ext}
+use Rattle.math.proofs.Test.{at-below, at-below₂, all-pass, one-fails, all-ext, count-ext}
 use Rattle.decode_coefficients.specs.BlockArray.{blockIn, putBlock}
 use Rattle.decode_coefficients.specs.Rows.{isZeroRow, rowsWorked}
-use Rattle.decode_coefficients.specs.Marks.{isDcAlone, hasMark, acBit, Marked, marksAt, withCoefficient, BlocksMarked}
+use Rattle.decode_coefficients.specs.Marks.{isDcAlone, hasRow, hasAc, Marked, marksAt, withCoefficient, BlocksMarked}
 
--- ---- the bits for one raster index, by a computed test of all
+-- ---- the marks of one raster index, by a computed test of all
 agree : (a b : Bool) → T (cond a b (not b)) → a ≡ b
 agree true true t = refl
 agree true false t = absurd t
 agree false true t = absurd t
 agree false false t = refl
 
-expected : ℕ → ℕ → Bool
-expected raster bit = cond (eqb bit acBit) (not (eqb raster 0)) (eqb bit (raster / 8))
+right-row : ℕ → ℕ → Bool
+right-row raster v = cond (hasRow (marksAt raster) v) (eqb v (raster / 8)) (not (eqb v (raster / 8)))
 
-right : ℕ → ℕ → Bool
-right raster bit = cond (hasMark (marksAt raster) bit) (expected raster bit) (not (expected raster bit))
+rows-right : T (allBelow 64 (λ raster. allBelow 8 (right-row raster)))
+unfolding allBelow right-row hasRow marksAt
+rows-right = tt
 
-all-right : T (allBelow 64 (λ raster. allBelow 9 (right raster)))
-unfolding allBelow right expected hasMark marksAt
-all-right = tt
+row-at : (raster v : ℕ) → raster < 64 → v < 8 → hasRow (marksAt raster) v ≡ eqb v (raster / 8)
+unfolding right-row
+row-at raster v h k = agree _ _ (at-below₂ 64 8 right-row rows-right raster v h k)
 
-bits-at : (raster bit : ℕ) → raster < 64 → bit < 9 → hasMark (marksAt raster) bit ≡ expected raster bit
-unfolding right
-bits-at raster bit h k = agree _ _ (at-below₂ 64 9 right all-right raster bit h k)
+right-ac : ℕ → Bool
+right-ac raster = cond (hasAc (marksAt raster)) (not (eqb raster 0)) (not (not (eqb raster 0)))
 
-row-bit : (raster v : ℕ) → raster < 64 → v < 8 → hasMark (marksAt raster) v ≡ eqb v (raster / 8)
-unfolding expected
-row-bit raster v h k = let other : (v ≡ 8 → ⊥) = (λ e. omega arith) in bits-at raster v h (omega arith) ∙ rw (ne-eqb v 8 other)
+ac-right : T (allBelow 64 right-ac)
+unfolding allBelow right-ac marksAt
+ac-right = tt
 
-ac-bit : (raster : ℕ) → raster < 64 → hasMark (marksAt raster) acBit ≡ not (eqb raster 0)
-unfolding expected
-ac-bit raster h = bits-at raster acBit h (omega arith)
+ac-at : (raster : ℕ) → raster < 64 → hasAc (marksAt raster) ≡ not (eqb raster 0)
+unfolding right-ac
+ac-at raster h = agree _ _ (at-below 64 right-ac ac-right raster h)
 
--- ---- the bits of two marks together
+-- ---- two marks together
 digit : (a b : ℕ) → a < 2 → b < 2 → eqb (bitOr a b) 1 ≡ eqb a 1 || eqb b 1
 digit zero zero h k = refl
 digit zero (suc zero) h k = refl
@@ -66,12 +66,20 @@ digit zero (suc (suc b)) h k = absurd (omega arith)
 digit (suc zero) (suc (suc b)) h k = absurd (omega arith)
 digit (suc (suc a)) b h k = absurd (omega arith)
 
-either : (m n bit : ℕ) → hasMark (bitOr m n) bit ≡ hasMark m bit || hasMark n bit
-unfolding hasMark
-either m n bit =
-    ap (λ (x : ℕ). eqb (x % 2) 1) (or-shr m n bit)
-    ∙ ap (λ (x : ℕ). eqb x 1) (or-mod (m / 2 ^ bit) (n / 2 ^ bit) 1)
-    ∙ digit (m / 2 ^ bit % 2) (n / 2 ^ bit % 2) (omega arith) (omega arith)
+either-row : (m n v : ℕ) → hasRow (bitOr m n) v ≡ hasRow m v || hasRow n v
+unfolding hasRow
+either-row m n v =
+    ap (λ (x : ℕ). eqb (x % 2) 1) (or-shr m n v)
+    ∙ ap (λ (x : ℕ). eqb x 1) (or-mod (m / 2 ^ v) (n / 2 ^ v) 1)
+    ∙ digit (m / 2 ^ v % 2) (n / 2 ^ v % 2) (omega arith) (omega arith)
+
+either-ac : (m n : ℕ) → hasAc (bitOr m n) ≡ hasAc m || hasAc n
+either-ac m n = go (decLt 255 m) (decLt 255 n)
+  where
+    go : Dec (255 < m) → Dec (255 < n) → hasAc (bitOr m n) ≡ hasAc m || hasAc n
+    go (yes p) d = rw (lt-ltb 255 m p) (lt-ltb 255 (bitOr m n) (omega (arith, or-add-and m n, and-le-r m n)))
+    go (no p) (yes q) = rw (le-ltb 255 m (omega arith), lt-ltb 255 n q) (lt-ltb 255 (bitOr m n) (omega (arith, or-add-and m n, and-le-l m n)))
+    go (no p) (no q) = rw (le-ltb 255 m (omega arith), le-ltb 255 n (omega arith)) (le-ltb 255 (bitOr m n) (omega (arith, or-lt 8 m n (omega arith) (omega arith))))
 
 or-true : (a : Bool) {b : Bool} → b ≡ true → a || b ≡ true
 or-true true e = refl
@@ -90,9 +98,9 @@ same-marks {c} {d} e p = record {
 }
 
 -- ---- a block of zeros
-none-set : (bit : ℕ) → hasMark 0 bit ≡ false
-unfolding hasMark
-none-set bit = let none : 0 / 2 ^ bit ≡ 0 = ap (λ (n : ℕ). n / 2 ^ bit) (sym (zero-mul (2 ^ bit))) ∙ shl-shr 0 bit in rw none
+no-row : (v : ℕ) → hasRow 0 v ≡ false
+unfolding hasRow
+no-row v = let none : 0 / 2 ^ v ≡ 0 = ap (λ (n : ℕ). n / 2 ^ v) (sym (zero-mul (2 ^ v))) ∙ shl-shr 0 v in rw none
 
 zero-there : (k : ℕ) → eqZ (at (replicate 64 (pos 0)) k) (pos 0) ≡ true
 zero-there k = ap (λ (z : ℤ). eqZ z (pos 0)) (zeros-at 64 k)
@@ -100,8 +108,8 @@ zero-there k = ap (λ (z : ℤ). eqZ z (pos 0)) (zeros-at 64 k)
 pub none-marked : Marked (replicate 64 (pos 0)) 0
 unfolding isZeroRow isDcAlone
 none-marked = record {
-  rows = λ v h. none-set v ∙ ap not (sym (all-pass 8 _ (λ u b. zero-there (8 * v + u))));
-  ac = none-set acBit ∙ ap not (sym (all-pass 63 _ (λ k b. zero-there (1 + k))));
+  rows = λ v h. no-row v ∙ ap not (sym (all-pass 8 _ (λ u b. zero-there (8 * v + u))));
+  ac = ap not (sym (all-pass 63 _ (λ k b. zero-there (1 + k))));
 }
 
 -- ---- a coefficient stored where a 0 was
@@ -127,34 +135,34 @@ module _ {c : List ℤ} {marks : ℕ} (p : Marked c marks) (long : length c ≡ 
     unfolding withCoefficient
     joined = rw other
 
-    row : (v : ℕ) → v < 8 → hasMark marks v || hasMark (marksAt raster) v ≡ not (isZeroRow after v)
+    row : (v : ℕ) → v < 8 → hasRow marks v || hasRow (marksAt raster) v ≡ not (isZeroRow after v)
     unfolding isZeroRow
     row v low = elim (ℕ-discrete v (raster / 8)) [
       | yes e ↦
           let there : 8 * v + raster % 8 ≡ raster = omega arith in
-          or-true (hasMark marks v) (row-bit raster v h low ∙ eq-eqb v (raster / 8) e)
+          or-true (hasRow marks v) (row-at raster v h low ∙ eq-eqb v (raster / 8) e)
           ∙ ap not (sym (one-fails 8 _ (raster % 8) (omega arith) (ap (λ (k : ℕ). eqZ (at after k) (pos 0)) there ∙ here)))
       | no ne ↦
-          or-false (hasMark marks v) (row-bit raster v h low ∙ ne-eqb v (raster / 8) ne)
+          or-false (hasRow marks v) (row-at raster v h low ∙ ne-eqb v (raster / 8) ne)
           ∙ p .rows v low ∙ ap not (all-ext 8 _ _ (λ u b. elsewhere (8 * v + u) (λ e. ne (omega arith))))
     ]
 
-    after-first : hasMark marks acBit || hasMark (marksAt raster) acBit ≡ not (isDcAlone after)
+    after-first : hasAc marks || hasAc (marksAt raster) ≡ not (isDcAlone after)
     unfolding isDcAlone
     after-first = elim (ℕ-discrete raster 0) [
       | yes e ↦
-          or-false (hasMark marks acBit) (ac-bit raster h ∙ ap not (eq-eqb raster 0 e))
+          or-false (hasAc marks) (ac-at raster h ∙ ap not (eq-eqb raster 0 e))
           ∙ p .ac ∙ ap not (all-ext 63 _ _ (λ k b. elsewhere (1 + k) (λ s. omega arith)))
       | no ne ↦
           let there : 1 + (raster - 1) ≡ raster = omega arith in
-          or-true (hasMark marks acBit) (ac-bit raster h ∙ ap not (ne-eqb raster 0 ne))
+          or-true (hasAc marks) (ac-at raster h ∙ ap not (ne-eqb raster 0 ne))
           ∙ ap not (sym (one-fails 63 _ (raster - 1) (omega arith) (ap (λ (k : ℕ). eqZ (at after k) (pos 0)) there ∙ here)))
     ]
 
     marked-other : Marked after (withCoefficient marks raster z)
     marked-other = record {
-      rows = λ v low. ap (λ (m : ℕ). hasMark m v) joined ∙ either marks (marksAt raster) v ∙ row v low;
-      ac = ap (λ (m : ℕ). hasMark m acBit) joined ∙ either marks (marksAt raster) acBit ∙ after-first;
+      rows = λ v low. ap (λ (m : ℕ). hasRow m v) joined ∙ either-row marks (marksAt raster) v ∙ row v low;
+      ac = ap hasAc joined ∙ either-ac marks (marksAt raster) ∙ after-first;
     }
 
   pub marked-set : (z : ℤ) → Marked (set c raster z) (withCoefficient marks raster z)
@@ -203,9 +211,9 @@ module _ (c : List ℤ) where
   marked-more k h p = rw (one-more-of k h) (marked-set p (tab-length 64 (firstValue k)) k h (zero-next k h) (at c k))
 
 -- ---- the rows worked are the bits set for rows
-pub rows-marked : {c : List ℤ} {marks : ℕ} → Marked c marks → countBelow 8 (hasMark marks) ≡ rowsWorked c
+pub rows-marked : {c : List ℤ} {marks : ℕ} → Marked c marks → countBelow 8 (hasRow marks) ≡ rowsWorked c
 unfolding rowsWorked
-rows-marked {c} {marks} p = count-ext 8 (hasMark marks) _ (p .rows)
+rows-marked {c} {marks} p = count-ext 8 (hasRow marks) _ (p .rows)
 
 -- ---- six blocks in the array
 block-at : (store : List ℤ) (block k : ℕ) → k < 64 → at (blockIn store block) k ≡ at store (64 * block + k)

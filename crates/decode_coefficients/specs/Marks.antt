@@ -4,7 +4,7 @@ use mathlib.Core.List.{List}
 use mathlib.Core.Path.{_≡_}
 use Prim.Native.Nat.{ℕ, _+_, _*_, _/_, _%_, _^_, _<_}
 use lib.Bits.{bitOr}
-use lib.Dec.{eqb}
+use lib.Dec.{eqb, ltb}
 use lib.IntN.{ℤ, pos}
 use lib.ListN.{length, getD}
 use Rattle.math.specs.Test.{allBelow}
@@ -17,22 +17,24 @@ use Rattle.decode_coefficients.specs.Rows.{isZeroRow}
 unfoldable pub isDcAlone : List ℤ → Bool
 isDcAlone c = allBelow 63 (λ k. eqZ (at c (1 + k)) (pos 0))
 
--- whether a bit of the marks is set
-unfoldable pub hasMark : ℕ → ℕ → Bool
-hasMark marks bit = eqb (marks / 2 ^ bit % 2) 1
+-- bit v of the marks is set if row v is marked
+unfoldable pub hasRow : ℕ → ℕ → Bool
+hasRow marks v = eqb (marks / 2 ^ v % 2) 1
 
--- bits 0 to 7 are for the rows; this one is for the AC coefficients
-abbrev pub acBit : ℕ
-acBit = 8
+-- above the eight bits stand the raster indices of the marked coefficients, joined bit by bit: 0 if they are all 0, the index of the DC
+abbrev pub hasAc : ℕ → Bool
+hasAc marks = ltb 255 marks
 
--- the marks of a block: each bit is set exactly when a coefficient that it stands for is not 0
+-- the marks of a block
 pub record Marked (c : List ℤ) (marks : ℕ) : Type 0 where
-  pub rows : (v : ℕ) → v < 8 → hasMark marks v ≡ not (isZeroRow c v)
-  pub ac : hasMark marks acBit ≡ not (isDcAlone c)
+  -- bit v is set exactly when row v holds a coefficient that is not 0
+  pub rows : (v : ℕ) → v < 8 → hasRow marks v ≡ not (isZeroRow c v)
+  -- there is more than these bits exactly when an AC coefficient is not 0
+  pub ac : hasAc marks ≡ not (isDcAlone c)
 
--- the bits that stand for the coefficient at a raster index
+-- the marks of the coefficient at a raster index
 unfoldable pub marksAt : ℕ → ℕ
-marksAt raster = cond (eqb raster 0) 1 (2 ^ acBit + 2 ^ (raster / 8))
+marksAt raster = 2 ^ (raster / 8) + 2 ^ 8 * raster
 
 -- the marks after a coefficient is stored: they change only if it is not 0
 unfoldable pub withCoefficient : ℕ → ℕ → ℤ → ℕ

@@ -13,7 +13,6 @@ ghost use Rattle.decode_idct.specs.Answer.{transformEntryInRange, transf
 ghost use Rattle.decode_coefficients.specs.Rows.{rowsWorked};
 ghost use Rattle.decode_coefficients.specs.Marks.{Marked};
 use decode_coefficients::marks;
-use decode_coefficients::marks::AC_BIT;
 use refusals::Refusal;
 
 // The residues of a block, and the rows worked: how many of its eight rows hold a coefficient other than 0.
@@ -30,12 +29,12 @@ pub struct TransformAnswer {
 }
 
 // The residues of sixty-four coefficients and their marks; the caller has checked their range.
-pub fn inverse_transform(coefficients: [i16; 64], marks: u16) -> Residues
+pub fn inverse_transform(coefficients: [i16; 64], marks: u32) -> Residues
     requires { ⌜ AllWithin (2 ^ 11) coefficients × Marked coefficients marks ⌝ }
     ensures values { λ r. ⌜ r .values ≡ residuesBy inverseTransform coefficients ⌝ }
     ensures rows { λ r. ⌜ r .rows ≡ rowsWorked coefficients ⌝ }
 {
-    if !marks::has_mark(marks, AC_BIT) {
+    if !marks::has_ac(marks) {
         return dc::dc_residues(coefficients[0]);
     }
     let row_pass = pass::row_pass(coefficients, marks);

@@ -106,7 +106,7 @@ pub struct RowPass {
 }
 
 // Works the rows that are marked. The line of any other row is zeros, which the block holds from the start.
-pub(crate) fn row_pass(c: [i16; 64], marks: u16) -> RowPass
+pub(crate) fn row_pass(c: [i16; 64], marks: u32) -> RowPass
     requires { ⌜ AllWithin (2 ^ 11) c × Marked c marks ⌝ }
     ensures { λ r. ⌜ r .numbers ≡ tab 64 (passResult c) ⌝ }
     ensures { λ r. ⌜ r .rows ≡ rowsWorked c ⌝ }
@@ -114,7 +114,7 @@ pub(crate) fn row_pass(c: [i16; 64], marks: u16) -> RowPass
     let mut numbers = [0i64; 64];
     let mut rows: usize = 0;
     for v in 0..8 {
-        if marks::has_mark(marks, v) {
+        if marks::has_row(marks, v) {
             work_row(&c, v, &mut numbers);
             rows = rows + 1;
         }

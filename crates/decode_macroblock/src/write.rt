@@ -141,7 +141,7 @@ fn add_residue_at(
     position: MacroblockPosition,
     pattern: u8,
     coefficients: &[i16; 384],
-    marks: &[u16; 6],
+    marks: &[u32; 6],
     block: usize,
 ) -> usize
     requires { ⌜ Inside position × (length (now output) ≡ pictureBytes (position .size)) × BlocksInRange (sixBlocks (now coefficients)) × BlocksMarked (now coefficients) (now marks) × (block < 6) ⌝ }
@@ -168,7 +168,7 @@ fn write_inter(
     motion: Motion,
     pattern: u8,
     coefficients: &[i16; 384],
-    marks: &[u16; 6],
+    marks: &[u32; 6],
 ) -> usize
     requires { ⌜ BlocksWritable position motion (now forward) (now backward) (now output) × BlocksInRange (sixBlocks (now coefficients)) × BlocksMarked (now coefficients) (now marks) ⌝ }
     ensures { λ _. ⌜ now (output .exit) ≡ withBlocks position (pelsOf inverseTransform (references (now (forward .entry)) (now (backward .entry))) position motion pattern (sixBlocks (now (coefficients .entry)))) 6 (now (output .entry)) ⌝ }
@@ -188,7 +188,7 @@ fn write_intra_block(
     position: MacroblockPosition,
     pattern: u8,
     coefficients: &[i16; 384],
-    marks: &[u16; 6],
+    marks: &[u32; 6],
     block: usize,
 ) -> usize
     requires { ⌜ Inside position × (length (now output) ≡ pictureBytes (position .size)) × BlocksInRange (sixBlocks (now coefficients)) × BlocksMarked (now coefficients) (now marks) × (block < 6) ⌝ }
@@ -208,7 +208,7 @@ fn write_intra(
     position: MacroblockPosition,
     pattern: u8,
     coefficients: &[i16; 384],
-    marks: &[u16; 6],
+    marks: &[u32; 6],
 ) -> usize
     requires { ⌜ Inside position × (length (now output) ≡ pictureBytes (position .size)) × BlocksInRange (sixBlocks (now coefficients)) × BlocksMarked (now coefficients) (now marks) ⌝ }
     ensures { λ _. ⌜ now (output .exit) ≡ withBlocks position (λ block. withResidue inverseTransform pattern (sixBlocks (now (coefficients .entry))) block (replicate 64 0)) 6 (now (output .entry)) ⌝ }
@@ -231,7 +231,7 @@ pub fn write_macroblock(
     motion: Motion,
     pattern: u8,
     coefficients: &[i16; 384],
-    marks: &[u16; 6],
+    marks: &[u32; 6],
 ) -> usize
     requires { ⌜ Writable size address motion (now forward) (now backward) (now output) × BlocksInRange (sixBlocks (now coefficients)) × BlocksMarked (now coefficients) (now marks) ⌝ }
     ensures { λ _. ⌜ now (output .exit) ≡ withMacroblock inverseTransform (references (now (forward .entry)) (now (backward .entry))) size (record { address = address; motion = motion; pattern = pattern; coefficients = sixBlocks (now (coefficients .entry)) }) (now (output .entry)) ⌝ }

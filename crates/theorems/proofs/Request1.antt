@@ -1,7 +1,7 @@
 -- Request No. 1: each theorem cites its law. Assumes nothing.
 use mathlib.Core.Logic.{inl, inr}
 use mathlib.Core.Path.{refl}
-use Rattle.theorems_picture.proofs.AnyRefusalLaws.{picture-alike, counted-alike, number-alike, place-alike, made-alike, output-alike, accepted-alike, alike-accepted}
+use Rattle.theorems_picture.proofs.AnyRefusalLaws.{picture-alike, counted-alike, number-alike, place-alike, made-alike, rows-alike, output-alike, accepted-alike, alike-accepted}
 use Rattle.theorems_picture.proofs.Request1 as Laws
 use Rattle.theorems_picture.proofs.Worked.{worked-files}
 use Rattle.theorems.specs.Request1.{ForwardIs18, BackwardIs23, BackwardOnlyInB, OnlyTheNumber, WorkedMisfits}
@@ -21,6 +21,7 @@ only-the-number backwardRefusal transform file forward backward output =
     record {
       place = place-alike backwardRefusal alike;
       made = made-alike backwardRefusal alike;
+      rows = rows-alike backwardRefusal alike;
       same-output = output-alike backwardRefusal alike;
       same-accepted = (alike-accepted backwardRefusal alike, accepted-alike backwardRefusal alike);
       counted = counted-alike backwardRefusal alike;

@@ -26,6 +26,7 @@ use Rattle.decode_macroblock.specs.Byte.{byteOf}
 use Rattle.decode_macroblock.specs.Compensation.{references}
 use Rattle.decode_macroblock.specs.Macroblock.{MadeMacroblock, InOrder}
 use Rattle.decode_macroblock.specs.Owner.{ownerOf}
+use Rattle.decode_macroblock.specs.Rows.{rowsOf}
 use Rattle.format3_header.specs.declared.file_start.FileStart.the-variants.{HeaderRead}
 use Rattle.format3_picture.specs.Picture.{refusedAt, pictureOf, answerOf}
 use Rattle.theorems_picture.specs.Applies.{fileStart, Applies, AppliesTo}
@@ -43,12 +44,13 @@ WorkOrRefusal =
     (transform : List ℤ → ℕ → ℤ) (file forward backward output : List ℕ)
     → (pictureOf transform file forward backward output .number ≡ accepted) ⊎ AppliesTo file forward backward output
 
--- the refusal that applies is given. "The answer is number, place, made. .. Made is the count of macroblocks written" (document 01)
+-- the refusal that applies is given. "The answer is number, place, made. .. Made is the count of macroblocks written" (document 01), and rows
+-- the total over these (document 02, No. 6)
 abbrev pub RefusalGiven : Type 0
 RefusalGiven =
     (transform : List ℤ → ℕ → ℤ) (file forward backward output : List ℕ) (refusal : Refusal) (place : ℕ) (before : List MadeMacroblock)
     → Applies file forward backward output refusal place before
-    → answerOf (pictureOf transform file forward backward output) ≡ refusedAt refusal place (length before)
+    → answerOf (pictureOf transform file forward backward output) ≡ refusedAt refusal place (length before) (rowsOf before)
 
 -- the reader's numbers are 0, document 01's refusals 1 to 21, and 23; two refusals never share a number, and none has that of acceptance
 abbrev pub NumberListed : Type 0

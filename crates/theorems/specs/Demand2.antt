@@ -23,6 +23,7 @@ use Rattle.decode_macroblock.specs.Byte.{byteOf}
 use Rattle.decode_macroblock.specs.Compensation.{references}
 use Rattle.decode_macroblock.specs.Macroblock.{MadeMacroblock, InOrder}
 use Rattle.decode_macroblock.specs.Owner.{ownerOf}
+use Rattle.decode_macroblock.specs.Rows.{rowsOf}
 use Rattle.format3_header.specs.declared.file_start.FileStart.the-variants.{HeaderRead}
 use Rattle.format3_picture.specs.Picture.{symbolsOf, pictureOf, answerOf}
 use Rattle.format3_picture.specs.Reconstruction.{macroblocksOf, reconstruction}
@@ -54,8 +55,10 @@ pub record AcceptedPicture (transform : List ℤ → ℕ → ℤ) (file forward 
   pub header : Header
   pub end : ℕ
   pub header-read : fileStart file forward backward output ≡ HeaderRead header end
-  -- "Accepted is 0, file length, N"
-  pub answer : answerOf (pictureOf transform file forward backward output) ≡ record { number = accepted; place = length file; made = macroblockCount (header .size) }
+  -- "Accepted is 0, file length, N", and the rows of all macroblocks (document 02, No. 6)
+  pub answer :
+      answerOf (pictureOf transform file forward backward output)
+      ≡ record { number = accepted; place = length file; made = macroblockCount (header .size); rows = rowsOf (macroblocksOf header (symbolsOf file header end)) }
   -- every record passes, up to the file's end, and the macroblocks that the records make are those of the symbols
   pub reached : Reached
   pub passing : Passing file header end reached

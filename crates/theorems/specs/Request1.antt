@@ -44,6 +44,7 @@ BackwardOnlyInB =
 pub record SameButNumber (backwardRefusal : Refusal) (transform : List ℤ → ℕ → ℤ) (file forward backward output : List ℕ) : Type 0 where
   pub place : pictureRefusing backwardRefusal transform file forward backward output .place ≡ pictureOf transform file forward backward output .place
   pub made : pictureRefusing backwardRefusal transform file forward backward output .made ≡ pictureOf transform file forward backward output .made
+  pub rows : pictureRefusing backwardRefusal transform file forward backward output .rows ≡ pictureOf transform file forward backward output .rows
   pub same-output : pictureRefusing backwardRefusal transform file forward backward output .output ≡ pictureOf transform file forward backward output .output
   -- the same files are accepted, and so the same are refused
   pub same-accepted :

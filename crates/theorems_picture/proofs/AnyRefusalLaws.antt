@@ -69,12 +69,13 @@ module _ (other : Refusal) where
   -- ---- the records from an offset on
   data AnsweredAlike : Answered → Answered → Type 0 where
     same : (a : Answered) → (a .answer .number ≡ numberOf BackwardVectorOutside → ⊥) → AnsweredAlike a a
-    differ : (place made : ℕ) (g : Gathered) → AnsweredAlike (record { answer = refusedAt BackwardVectorOutside place made; gathered = g }) (record { answer = refusedAt other place made; gathered = g })
+    differ : (place made rows : ℕ) (g : Gathered)
+        → AnsweredAlike (record { answer = refusedAt BackwardVectorOutside place made rows; gathered = g }) (record { answer = refusedAt other place made rows; gathered = g })
 
   front-alike : (symbol : Symbol) {a b : Answered} → AnsweredAlike a b
       → AnsweredAlike (record { answer = a .answer; gathered = putInFront symbol (a .gathered) }) (record { answer = b .answer; gathered = putInFront symbol (b .gathered) })
   front-alike symbol (same a not) = same _ not
-  front-alike symbol (differ place made g) = differ place made (putInFront symbol g)
+  front-alike symbol (differ place made rows g) = differ place made rows (putInFront symbol g)
 
   end-alike : (n : ℕ) (s : PictureState) (q : Matrices) → AnsweredAlike (answeredBy (endAnswer n s) q) (answeredBy (endAnswer n s) q)
   end-alike n s q = same _ (go (isComplete (s .turn)))
@@ -87,15 +88,15 @@ module _ (other : Refusal) where
   follow-alike : (at : ℕ) (s : PictureState) (q : Matrices) (symbol : Symbol) {t u : RecordStep} → StepAlike s t u
       → (x y : RecordStep → Answered) → ((v : RecordStep) → AnsweredAlike (x v) (y v))
       → AnsweredAlike
-      (followed (t .applied .verdict) (λ refusal. answeredBy (refusedAt refusal at (s .made)) q) symbol (x t))
-      (followed (u .applied .verdict) (λ refusal. answeredBy (refusedAt refusal at (s .made)) q) symbol (y u))
+      (followed (t .applied .verdict) (λ refusal. answeredBy (refusedAt refusal at (s .made) (s .rows)) q) symbol (x t))
+      (followed (u .applied .verdict) (λ refusal. answeredBy (refusedAt refusal at (s .made) (s .rows)) q) symbol (y u))
   follow-alike at s q symbol (same t not) x y later = go (t .applied .verdict) not (later t)
     where
       go : (v : Verdict) → NotBackward v → AnsweredAlike (x t) (y t)
-          → AnsweredAlike (followed v (λ refusal. answeredBy (refusedAt refusal at (s .made)) q) symbol (x t)) (followed v (λ refusal. answeredBy (refusedAt refusal at (s .made)) q) symbol (y t))
+          → AnsweredAlike (followed v (λ refusal. answeredBy (refusedAt refusal at (s .made) (s .rows)) q) symbol (x t)) (followed v (λ refusal. answeredBy (refusedAt refusal at (s .made) (s .rows)) q) symbol (y t))
       go Passed n rest = front-alike symbol rest
       go (Refused refusal) n rest = same _ n
-  follow-alike at s q symbol (differ after end) x y later = differ at (s .made) (noneGathered q)
+  follow-alike at s q symbol (differ after end) x y later = differ at (s .made) (s .rows) (noneGathered q)
 
   records-alike : (file : List ℕ) (n at : ℕ) (s : PictureState) (q : Matrices) → AnsweredAlike (recordsFrom file n at s q) (recordsFromRefusing other file n at s q)
   unfolding recordsFromRefusing
@@ -114,7 +115,8 @@ module _ (other : Refusal) where
   -- ---- the picture
   pub data PictureAlike : Picture → Picture → Type 0 where
     same : (p : Picture) → (p .number ≡ numberOf BackwardVectorOutside → ⊥) → PictureAlike p p
-    differ : (place made : ℕ) (output : List ℕ) → PictureAlike (withOutput (refusedAt BackwardVectorOutside place made) output) (withOutput (refusedAt other place made) output)
+    differ : (place made rows : ℕ) (output : List ℕ)
+        → PictureAlike (withOutput (refusedAt BackwardVectorOutside place made rows) output) (withOutput (refusedAt other place made rows) output)
 
   module _ (transform : List ℤ → ℕ → ℤ) (file forward backward output : List ℕ) where
     abbrev drawn : Header → Answered → Picture
@@ -122,41 +124,45 @@ module _ (other : Refusal) where
 
     drawn-alike : (h : Header) {a b : Answered} → AnsweredAlike a b → PictureAlike (drawn h a) (drawn h b)
     drawn-alike h (same a not) = same _ not
-    drawn-alike h (differ place made g) = differ place made _
+    drawn-alike h (differ place made rows g) = differ place made rows _
 
     pub picture-alike : PictureAlike (pictureOf transform file forward backward output) (pictureRefusing other transform file forward backward output)
     unfolding pictureRefusing
     picture-alike = go (fileStart file forward backward output) refl (start-listed file (length output) (length forward) (length backward))
       where
         go : (x : FileStart) → fileStart file forward backward output ≡ x → StartListed file (fileStart file forward backward output) → PictureAlike (pictureOf transform file forward backward output) (pictureRefusing other transform file forward backward output)
-        go (FileStart.Refused refusal place) e l = let few = rw e at l in rw e (same (withOutput (refusedAt refusal place 0) output) (λ n. omega (arith, few .is-listed)))
+        go (FileStart.Refused refusal place) e l = let few = rw e at l in rw e (same (withOutput (refusedAt refusal place 0 0) output) (λ n. omega (arith, few .is-listed)))
         go (FileStart.HeaderRead h end) e l = rw e (drawn-alike h (records-alike file (length file) end (startState h) defaultMatrices))
 
   -- ---- what that means for each part
   pub counted-alike : {p o : Picture} → PictureAlike p o → p .number ≡ numberOf BackwardVectorOutside → o .number ≡ numberOf other
   counted-alike (same p not) e = absurd (not e)
-  counted-alike (differ place made output) e = refl
+  counted-alike (differ place made rows output) e = refl
 
   pub number-alike : {p o : Picture} → PictureAlike p o → (p .number ≡ numberOf BackwardVectorOutside → ⊥) → o .number ≡ p .number
   number-alike (same p not) e = refl
-  number-alike (differ place made output) e = absurd (e refl)
+  number-alike (differ place made rows output) e = absurd (e refl)
 
   pub place-alike : {p o : Picture} → PictureAlike p o → o .place ≡ p .place
   place-alike (same p not) = refl
-  place-alike (differ place made output) = refl
+  place-alike (differ place made rows output) = refl
 
   pub made-alike : {p o : Picture} → PictureAlike p o → o .made ≡ p .made
   made-alike (same p not) = refl
-  made-alike (differ place made output) = refl
+  made-alike (differ place made rows output) = refl
+
+  pub rows-alike : {p o : Picture} → PictureAlike p o → o .rows ≡ p .rows
+  rows-alike (same p not) = refl
+  rows-alike (differ place made rows output) = refl
 
   pub output-alike : {p o : Picture} → PictureAlike p o → o .output ≡ p .output
   output-alike (same p not) = refl
-  output-alike (differ place made output) = refl
+  output-alike (differ place made rows output) = refl
 
   pub accepted-alike : {p o : Picture} → PictureAlike p o → p .number ≡ accepted → o .number ≡ accepted
   accepted-alike (same p not) e = e
-  accepted-alike (differ place made output) e = absurd (never-accepted BackwardVectorOutside e)
+  accepted-alike (differ place made rows output) e = absurd (never-accepted BackwardVectorOutside e)
 
   pub alike-accepted : {p o : Picture} → PictureAlike p o → o .number ≡ accepted → p .number ≡ accepted
   alike-accepted (same p not) e = e
-  alike-accepted (differ place made output) e = absurd (never-accepted other e)
+  alike-accepted (differ place made rows output) e = absurd (never-accepted other e)

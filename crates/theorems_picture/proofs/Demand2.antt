@@ -1,7 +1,7 @@
 -- Demand 2 of a picture: when it is accepted, which refusal is given, and what an accepted picture is. Assumes nothing.
 use mathlib.Core.List.{List}
 use mathlib.Core.Logic.{_⊎_, inl, inr}
-use mathlib.Core.Path.{_≡_, refl, sym, ap, _∙_, subst}
+use mathlib.Core.Path.{_≡_, refl, sym, ap, ap₂, _∙_, subst}
 use Prim.Native.Nat.{ℕ, _≤_, _<_}
 use native.Mathlib.Decide.{decLt}
 use native.Mathlib.Omega.{arith}
@@ -18,6 +18,7 @@ use Rattle.symbols.specs.declared.header.Header.{Header}
 use Rattle.decode_macroblock.specs.Compensation.{references}
 use Rattle.decode_macroblock.specs.Macroblock.{MadeMacroblock, InOrder}
 use Rattle.decode_macroblock.specs.Owner.{ownerOf}
+use Rattle.decode_macroblock.specs.Rows.{rowsOf}
 use Rattle.decode_macroblock.proofs.OwnerLaws.{owner-below}
 use Rattle.format3_header.specs.declared.file_start.FileStart.{FileStart}
 use Rattle.format3_header.specs.declared.file_start.FileStart.the-variants as FileStart
@@ -50,20 +51,21 @@ module _ (transform : List ℤ → ℕ → ℤ) (file forward backward output : 
       at-end-is : answerOf picture ≡ endAnswer (length file) (r .state)
       at-end-is = ap (λ (p : Picture). answerOf p) (stopped-is transform file forward backward output e passing (at-end past))
 
-      some-missing : r .state .made < macroblockCount (h .size) → answerOf picture ≡ refusedAt FileEnds (length file) (r .state .made)
+      some-missing : r .state .made < macroblockCount (h .size) → answerOf picture ≡ refusedAt FileEnds (length file) (r .state .made) (r .state .rows)
       some-missing fewer = at-end-is ∙ rw (complete-is, ne-eqb (r .state .next) (macroblockCount (h .size)) (λ q. omega (arith, fewer, there .within .counted)))
 
-      none-missing : (r .state .made < macroblockCount (h .size) → ⊥) → answerOf picture ≡ record { number = accepted; place = length file; made = r .state .made }
+      none-missing : (r .state .made < macroblockCount (h .size) → ⊥) → answerOf picture ≡ record { number = accepted; place = length file; made = r .state .made; rows = r .state .rows }
       none-missing all = at-end-is ∙ rw (complete-is, eq-eqb (r .state .next) (macroblockCount (h .size)) (omega (arith, none-less all, there .within .counted)))
 
   -- ---- the refusal that applies is given
-  pub refusal-given : (refusal : Refusal) (place : ℕ) (before : List MadeMacroblock) → Applies file forward backward output refusal place before → answerOf picture ≡ refusedAt refusal place (length before)
+  pub refusal-given : (refusal : Refusal) (place : ℕ) (before : List MadeMacroblock) → Applies file forward backward output refusal place before → answerOf picture ≡ refusedAt refusal place (length before) (rowsOf before)
+  unfolding rowsOf
   refusal-given refusal place before (to-start _ _ e) = ap (λ (p : Picture). answerOf p) (no-header transform file forward backward output e)
   refusal-given refusal place before (to-record h end e r passing inside _ v) =
       ap (λ (p : Picture). answerOf p) (stopped-is transform file forward backward output e passing (at-record inside refusal v))
-      ∙ ap (refusedAt refusal place) (made-count transform file forward backward output e passing)
+      ∙ ap₂ (refusedAt refusal place) (made-count transform file forward backward output e passing) (there e passing .rows)
   refusal-given refusal place before (to-end h end e r passing past missing) =
-      some-missing e passing past missing ∙ ap (refusedAt FileEnds (length file)) (made-count transform file forward backward output e passing)
+      some-missing e passing past missing ∙ ap₂ (refusedAt FileEnds (length file)) (made-count transform file forward backward output e passing) (there e passing .rows)
 
   pub none-applies : picture .number ≡ accepted → (refusal : Refusal) (place : ℕ) (before : List MadeMacroblock) → Applies file forward backward output refusal place before → ⊥
   none-applies number refusal place before a = never-accepted refusal (sym (ap (λ (x : Answer). x .number) (refusal-given refusal place before a)) ∙ number)
@@ -117,7 +119,7 @@ module _ (transform : List ℤ → ℕ → ℤ) (file forward backward output : 
     pub header : Header
     pub end : ℕ
     pub header-read : fileStart file forward backward output ≡ FileStart.HeaderRead header end
-    pub answer : answerOf picture ≡ record { number = accepted; place = length file; made = macroblockCount (header .size) }
+    pub answer : answerOf picture ≡ record { number = accepted; place = length file; made = macroblockCount (header .size); rows = rowsOf (macroblocksOf header (symbolsOf file header end)) }
     pub reached : Reached
     pub passing : Passing file header end reached
     pub none-left : reached .offset ≡ length file
@@ -131,16 +133,17 @@ module _ (transform : List ℤ → ℕ → ℤ) (file forward backward output : 
       go (refused refusal place before a) = absurd (none-applies number refusal place before a)
       go (whole h end e r passing past all) =
           let made = none-less e passing all in
+          let same = sym (stops file h end passing (at-end past) .macroblocks) in
           let counted : length (r .macroblocks) ≡ macroblockCount (h .size) = omega (arith, made, made-count transform file forward backward output e passing) in
           record {
             header = h;
             end = end;
             header-read = e;
-            answer = none-missing e passing past all ∙ ap (λ (n : ℕ). record { number = accepted; place = length file; made = n }) made;
+            answer = none-missing e passing past all ∙ ap₂ (λ (m n : ℕ). record { number = accepted; place = length file; made = m; rows = n }) made (there e passing .rows ∙ ap rowsOf same);
             reached = r;
             passing = passing;
             none-left = omega (arith, past, there e passing .in-file);
-            same = sym (stops file h end passing (at-end past) .macroblocks);
+            same = same;
             order = rw (stops file h end passing (at-end past) .macroblocks) (subst (InOrder 0 (r .macroblocks)) counted (in-order transform file forward backward output e passing));
           }
 

@@ -1,7 +1,7 @@
 -- Laws of records that pass: what holds after them, and that a picture ends where one is refused or none is left. Assumes nothing.
 use mathlib.Core.Bool.{Bool, true, false, cond}
 use mathlib.Core.List.{List, _++_, append-assoc, append-nil}
-use mathlib.Core.Path.{_≡_, refl, ap, _∙_}
+use mathlib.Core.Path.{_≡_, refl, sym, ap, _∙_}
 use Prim.Native.Nat.{ℕ, zero, suc, _+_, _-_, _≤_, _<_}
 use native.Mathlib.Decide.{decLt}
 use native.Mathlib.Omega.{arith}
@@ -16,7 +16,9 @@ use Rattle.symbols.specs.Size.{macroblockCount}
 use Rattle.symbols.specs.declared.header.Header.{Header}
 use Rattle.decode_coefficients.specs.Requires.{BlocksInRange}
 use Rattle.decode_macroblock.specs.Macroblock.{InOrder}
+use Rattle.decode_macroblock.specs.Rows.{rowsOf}
 use Rattle.decode_macroblock.proofs.OrderLaws.{order-both}
+use Rattle.decode_macroblock.proofs.RowLaws.{rows-append}
 use Rattle.format3_records.specs.declared.turn.Turn.the-variants as Turn
 use Rattle.format3_records.specs.declared.verdict.Verdict.{Verdict}
 use Rattle.format3_records.specs.declared.verdict.Verdict.the-variants.{Passed, Refused}
@@ -30,7 +32,7 @@ use Rattle.format3_picture.proofs.RecordLaws.{StepCases, refuses, matrix-passes
 use Rattle.format3_picture.proofs.ReaderLaws.{none-left, first-refused, first-passes}
 use Rattle.format3_picture.proofs.InvariantLaws.{step-keeps, step-ends, start-within}
 use Rattle.format3_picture.proofs.SymbolLaws.{madeOf, made-of-symbols}
-use Rattle.theorems_picture.specs.Applies.{Reached, afterRecord, verdictAt, Passing, none, one-more}
+use Rattle.theorems_picture.specs.Applies.{Reached, nextRecord, afterRecord, verdictAt, Passing, none, one-more}
 
 module _ (file : List ℕ) (h : Header) (end : ℕ) where
   -- ---- what holds after records that passed
@@ -39,10 +41,12 @@ module _ (file : List ℕ) (h : Header) (end : ℕ) where
     pub header : r .state .header ≡ h
     pub in-file : r .offset ≤ length file
     pub order : InOrder 0 (r .macroblocks) (r .state .next)
+    pub rows : r .state .rows ≡ rowsOf (r .macroblocks)
     pub in-range : Each (λ m. BlocksInRange (m .coefficients)) (r .macroblocks)
 
   pub stands : HeaderWithin h → end ≤ length file → {r : Reached} → Passing file h end r → Stands r
-  stands legal inside none = record { within = start-within h legal; header = refl; in-file = inside; order = refl; in-range = tt }
+  unfolding rowsOf
+  stands legal inside none = record { within = start-within h legal; header = refl; in-file = inside; order = refl; rows = refl; in-range = tt }
   stands legal inside (one-more {r} passing v) =
       let before = stands legal inside passing in
       let kept = step-keeps (r .matrices) (r .state) (before .within) file (r .offset) v in
@@ -51,6 +55,7 @@ module _ (file : List ℕ) (h : Header) (end : ℕ) where
         header = kept .header ∙ before .header;
         in-file = step-ends file (r .offset) (r .state) (r .matrices) v .in-file;
         order = order-both 0 (r .state .next) _ (r .macroblocks) _ (before .order) (kept .order);
+        rows = kept .rows ∙ ap (λ (n : ℕ). n + rowsOf (nextRecord file r .applied .macroblocks)) (before .rows) ∙ sym (rows-append (r .macroblocks) _);
         in-range = each-append (λ m. BlocksInRange (m .coefficients)) (r .macroblocks) _ (before .in-range) (kept .in-range);
       }
 
@@ -91,7 +96,7 @@ module _ (file : List ℕ) (h : Header) (end : ℕ) where
     at-end : length file ≤ r .offset → Stop r
 
   abbrev pub answerAt : {r : Reached} → Stop r → Answer
-  answerAt {r} (at-record inside refusal v) = refusedAt refusal (r .offset) (r .state .made)
+  answerAt {r} (at-record inside refusal v) = refusedAt refusal (r .offset) (r .state .made) (r .state .rows)
   answerAt {r} (at-end past) = endAnswer (length file) (r .state)
 
   -- the answer there, and the macroblocks of the symbols

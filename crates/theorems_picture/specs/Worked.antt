@@ -60,14 +60,14 @@ pub record Case : Type 0 where
   pub output : List ℕ
   pub expected : Answer
 
--- number, place and made last
-abbrev example : List ℕ → List ℕ → List ℕ → List ℕ → ℕ → ℕ → ℕ → Case
-example file forward backward output number place made = record {
+-- number, place, made and rows last
+abbrev example : List ℕ → List ℕ → List ℕ → List ℕ → ℕ → ℕ → ℕ → ℕ → Case
+example file forward backward output number place made rows = record {
   file = file;
   forward = forward;
   backward = backward;
   output = output;
-  expected = record { number = number; place = place; made = made };
+  expected = record { number = number; place = place; made = made; rows = rows };
 }
 
 -- ---- a B picture, 2 by 2 macroblocks
@@ -75,89 +75,121 @@ example file forward backward output number place made = record {
 abbrev fourB : ℕ → List ℕ
 fourB flag = 3 ∷ recordWith 1 (2 ∷ 2 ∷ 3 ∷ 0 ∷ 2 ∷ flag ∷ 2 ∷ []) ++ slice
 
-abbrev vectorCase : List ℕ → ℕ → ℕ → ℕ → Case
+abbrev vectorCase : List ℕ → ℕ → ℕ → ℕ → ℕ → Case
 vectorCase file = example file (replicate 1536 9) (replicate 1536 9) (replicate 1536 7)
 
 -- vectors that leave the picture, and one that goes just up to its edge
 abbrev pub vectorCases : List Case
 vectorCases =
     -- backward, left of the picture
-    vectorCase (fourB 0 ++ recordWith 4 (4 ∷ 0 ∷ 1 ∷ 255 ∷ 0 ∷ 0 ∷ 0 ∷ [])) 23 17 0
+    vectorCase (fourB 0 ++ recordWith 4 (4 ∷ 0 ∷ 1 ∷ 255 ∷ 0 ∷ 0 ∷ 0 ∷ [])) 23 17 0 0
     -- forward, above the picture
-    ∷ vectorCase (fourB 0 ++ recordWith 4 (2 ∷ 0 ∷ 1 ∷ 0 ∷ 0 ∷ 255 ∷ 0 ∷ [])) 18 17 0
+    ∷ vectorCase (fourB 0 ++ recordWith 4 (2 ∷ 0 ∷ 1 ∷ 0 ∷ 0 ∷ 255 ∷ 0 ∷ [])) 18 17 0 0
     -- both
-    ∷ vectorCase (fourB 0 ++ recordWith 4 (6 ∷ 0 ∷ 1 ∷ 255 ∷ 0 ∷ 0 ∷ 0 ∷ 255 ∷ 0 ∷ 0 ∷ 0 ∷ [])) 18 17 0
+    ∷ vectorCase (fourB 0 ++ recordWith 4 (6 ∷ 0 ∷ 1 ∷ 255 ∷ 0 ∷ 0 ∷ 0 ∷ 255 ∷ 0 ∷ 0 ∷ 0 ∷ [])) 18 17 0 0
     -- of both, the backward one alone
-    ∷ vectorCase (fourB 0 ++ recordWith 4 (6 ∷ 0 ∷ 1 ∷ 0 ∷ 0 ∷ 0 ∷ 0 ∷ 255 ∷ 0 ∷ 0 ∷ 0 ∷ [])) 23 17 0
+    ∷ vectorCase (fourB 0 ++ recordWith 4 (6 ∷ 0 ∷ 1 ∷ 0 ∷ 0 ∷ 0 ∷ 0 ∷ 255 ∷ 0 ∷ 0 ∷ 0 ∷ [])) 23 17 0 0
     -- a skipped macroblock's backward vector, right of the picture; the record's own forward vector leaves the picture too
-    ∷ vectorCase (fourB 0 ++ recordWith 4 (4 ∷ 0 ∷ 1 ∷ 16 ∷ 0 ∷ 0 ∷ 0 ∷ []) ++ recordWith 4 (2 ∷ 0 ∷ 2 ∷ 255 ∷ 0 ∷ 0 ∷ 0 ∷ [])) 23 27 1
+    ∷ vectorCase (fourB 0 ++ recordWith 4 (4 ∷ 0 ∷ 1 ∷ 16 ∷ 0 ∷ 0 ∷ 0 ∷ []) ++ recordWith 4 (2 ∷ 0 ∷ 2 ∷ 255 ∷ 0 ∷ 0 ∷ 0 ∷ [])) 23 27 1 0
     -- 16 whole pels to the right, up to the edge: three macroblocks are missing
-    ∷ vectorCase (fourB 1 ++ recordWith 4 (4 ∷ 0 ∷ 1 ∷ 8 ∷ 1 ∷ 0 ∷ 0 ∷ [])) 7 27 1
+    ∷ vectorCase (fourB 1 ++ recordWith 4 (4 ∷ 0 ∷ 1 ∷ 8 ∷ 1 ∷ 0 ∷ 0 ∷ [])) 7 27 1 0
     ∷ []
 
 abbrev pub cases : List Case
 cases =
     -- an empty file
-    example [] [] [] [] 1 0 0
+    example [] [] [] [] 1 0 0 0
     -- version 4
-    ∷ example (4 ∷ []) [] [] [] 2 0 0
+    ∷ example (4 ∷ []) [] [] [] 2 0 0 0
     -- no header
-    ∷ example (3 ∷ []) [] [] [] 7 1 0
+    ∷ example (3 ∷ []) [] [] [] 7 1 0 0
     -- one byte of a record
-    ∷ example (3 ∷ 0 ∷ []) [] [] [] 3 1 0
+    ∷ example (3 ∷ 0 ∷ []) [] [] [] 3 1 0 0
     -- a record of length 0
-    ∷ example (3 ∷ 0 ∷ 0 ∷ 1 ∷ []) [] [] [] 3 1 0
+    ∷ example (3 ∷ 0 ∷ 0 ∷ 1 ∷ []) [] [] [] 3 1 0 0
     -- a record past the file's end
-    ∷ example (3 ∷ 0 ∷ 9 ∷ 1 ∷ 1 ∷ []) [] [] [] 3 1 0
+    ∷ example (3 ∷ 0 ∷ 9 ∷ 1 ∷ 1 ∷ []) [] [] [] 3 1 0 0
     -- kind 9
-    ∷ example (3 ∷ recordWith 9 []) [] [] [] 4 1 0
+    ∷ example (3 ∷ recordWith 9 []) [] [] [] 4 1 0 0
     -- a macroblock first
-    ∷ example (3 ∷ recordWith 4 []) [] [] [] 5 1 0
+    ∷ example (3 ∷ recordWith 4 []) [] [] [] 5 1 0 0
     -- a header of one byte
-    ∷ example (3 ∷ recordWith 1 (1 ∷ [])) [] [] [] 6 1 0
+    ∷ example (3 ∷ recordWith 1 (1 ∷ [])) [] [] [] 6 1 0 0
     -- 48 by 9 macroblocks
-    ∷ example (3 ∷ recordWith 1 (48 ∷ 9 ∷ 1 ∷ 0 ∷ 0 ∷ 0 ∷ 0 ∷ [])) [] [] [] 8 1 0
+    ∷ example (3 ∷ recordWith 1 (48 ∷ 9 ∷ 1 ∷ 0 ∷ 0 ∷ 0 ∷ 0 ∷ [])) [] [] [] 8 1 0 0
     -- an output that is too short
-    ∷ example intra [] [] (replicate 383 7) 19 1 0
+    ∷ example intra [] [] (replicate 383 7) 19 1 0 0
     -- no macroblock
-    ∷ example intra [] [] output 7 11 0
+    ∷ example intra [] [] output 7 11 0 0
     -- no forward reference for a P picture
-    ∷ example predicted [] [] output 20 1 0
+    ∷ example predicted [] [] output 20 1 0 0
     -- a backward reference for an I picture
-    ∷ example intra [] (1 ∷ []) output 21 1 0
+    ∷ example intra [] (1 ∷ []) output 21 1 0 0
     -- a second header
-    ∷ example (intra ++ header 1 0) [] [] output 5 11 0
+    ∷ example (intra ++ header 1 0) [] [] output 5 11 0 0
     -- a third matrix
-    ∷ example (intra ++ recordWith 2 (2 ∷ replicate 64 16)) [] [] output 9 11 0
+    ∷ example (intra ++ recordWith 2 (2 ∷ replicate 64 16)) [] [] output 9 11 0 0
     -- an intra matrix that starts with 9
-    ∷ example (intra ++ recordWith 2 (0 ∷ 9 ∷ replicate 63 16)) [] [] output 9 11 0
+    ∷ example (intra ++ recordWith 2 (0 ∷ 9 ∷ replicate 63 16)) [] [] output 9 11 0 0
     -- scale 0
-    ∷ example (intra ++ recordWith 3 (0 ∷ 0 ∷ 0 ∷ [])) [] [] output 10 11 0
+    ∷ example (intra ++ recordWith 3 (0 ∷ 0 ∷ 0 ∷ [])) [] [] output 10 11 0 0
     -- a slice from address 1
-    ∷ example (intra ++ recordWith 3 (8 ∷ 0 ∷ 1 ∷ [])) [] [] output 11 11 0
+    ∷ example (intra ++ recordWith 3 (8 ∷ 0 ∷ 1 ∷ [])) [] [] output 11 11 0 0
     -- a type that is not in the table
-    ∷ example (intra ++ slice ++ recordWith 4 (18 ∷ [])) [] [] output 12 17 0
+    ∷ example (intra ++ slice ++ recordWith 4 (18 ∷ [])) [] [] output 12 17 0 0
     -- an increment past the last address
-    ∷ example (intra ++ slice ++ recordWith 4 (16 ∷ 0 ∷ 2 ∷ [])) [] [] output 13 17 0
+    ∷ example (intra ++ slice ++ recordWith 4 (16 ∷ 0 ∷ 2 ∷ [])) [] [] output 13 17 0 0
     -- vector code 17
-    ∷ example (predicted ++ slice ++ recordWith 4 (2 ∷ 0 ∷ 1 ∷ 17 ∷ [])) reference [] output 14 17 0
+    ∷ example (predicted ++ slice ++ recordWith 4 (2 ∷ 0 ∷ 1 ∷ 17 ∷ [])) reference [] output 14 17 0 0
     -- pattern 0
-    ∷ example (predicted ++ slice ++ recordWith 4 (8 ∷ 0 ∷ 1 ∷ 0 ∷ [])) reference [] output 15 17 0
+    ∷ example (predicted ++ slice ++ recordWith 4 (8 ∷ 0 ∷ 1 ∷ 0 ∷ [])) reference [] output 15 17 0 0
     -- a block of 64 pairs beside its DC
-    ∷ example (intra ++ slice ++ recordWith 4 (16 ∷ 0 ∷ 1 ∷ 0 ∷ 0 ∷ 64 ∷ [])) [] [] output 16 17 0
+    ∷ example (intra ++ slice ++ recordWith 4 (16 ∷ 0 ∷ 1 ∷ 0 ∷ 0 ∷ 64 ∷ [])) [] [] output 16 17 0 0
     -- a DC difference of 128, from 1024 beyond 2040
-    ∷ example (intra ++ slice ++ recordWith 4 (16 ∷ 0 ∷ 1 ∷ 0 ∷ 128 ∷ [])) [] [] output 17 17 0
+    ∷ example (intra ++ slice ++ recordWith 4 (16 ∷ 0 ∷ 1 ∷ 0 ∷ 128 ∷ [])) [] [] output 17 17 0 0
     -- a vector that points left of the picture
-    ∷ example (predicted ++ slice ++ recordWith 4 (2 ∷ 0 ∷ 1 ∷ 255 ∷ 0 ∷ 0 ∷ 0 ∷ [])) reference [] output 18 17 0
+    ∷ example (predicted ++ slice ++ recordWith 4 (2 ∷ 0 ∷ 1 ∷ 255 ∷ 0 ∷ 0 ∷ 0 ∷ [])) reference [] output 18 17 0 0
     -- an intra macroblock: accepted
-    ∷ example (intra ++ slice ++ grey) [] [] output 0 41 1
+    ∷ example (intra ++ slice ++ grey) [] [] output 0 41 1 6
     -- a cut record after the last macroblock
-    ∷ example (intra ++ slice ++ grey ++ 0 ∷ []) [] [] output 3 41 1
+    ∷ example (intra ++ slice ++ grey ++ 0 ∷ []) [] [] output 3 41 1 6
     -- a macroblock after the last
-    ∷ example (intra ++ slice ++ grey ++ grey) [] [] output 5 41 1
+    ∷ example (intra ++ slice ++ grey ++ grey) [] [] output 5 41 1 6
     -- a macroblock copied from the reference: accepted
-    ∷ example (predicted ++ slice ++ recordWith 4 (2 ∷ 0 ∷ 1 ∷ 0 ∷ 0 ∷ 0 ∷ 0 ∷ [])) reference [] output 0 27 1
+    ∷ example (predicted ++ slice ++ recordWith 4 (2 ∷ 0 ∷ 1 ∷ 0 ∷ 0 ∷ 0 ∷ 0 ∷ [])) reference [] output 0 27 1 0
     ∷ vectorCases
+
+-- ---- rows worked (request No. 6)
+-- a P picture, 2 by 1 macroblocks, with a loaded non-intra matrix of weights 4, and a slice of scale 1
+abbrev twoP : List ℕ
+twoP = 3 ∷ recordWith 1 (2 ∷ 1 ∷ 2 ∷ 0 ∷ 1 ∷ 0 ∷ 0 ∷ []) ++ recordWith 2 (1 ∷ replicate 64 4) ++ recordWith 3 (1 ∷ 0 ∷ 0 ∷ [])
+
+-- a macroblock with its first block coded. Levels 1, -100 and 2 land in rows 0, 2 and 1; the first is scaled to 0, so two rows are worked
+abbrev pub twoRows : List ℕ
+twoRows = recordWith 4 (8 ∷ 0 ∷ 1 ∷ 32 ∷ 3 ∷ 0 ∷ 0 ∷ 1 ∷ 2 ∷ 255 ∷ 156 ∷ 0 ∷ 0 ∷ 2 ∷ [])
+
+-- the same block coded twice, the second time with a byte too many
+abbrev pub fourRowsRefused : List ℕ
+fourRowsRefused = recordWith 4 (8 ∷ 0 ∷ 1 ∷ 48 ∷ 3 ∷ 0 ∷ 0 ∷ 1 ∷ 2 ∷ 255 ∷ 156 ∷ 0 ∷ 0 ∷ 2 ∷ 3 ∷ 0 ∷ 0 ∷ 1 ∷ 2 ∷ 255 ∷ 156 ∷ 0 ∷ 0 ∷ 2 ∷ 0 ∷ [])
+
+abbrev rowCase : List ℕ → ℕ → ℕ → ℕ → ℕ → Case
+rowCase file = example file (replicate 768 9) [] (replicate 768 7)
+
+abbrev pub rowCases : List Case
+rowCases =
+    -- both macroblocks made: accepted, 2 and 2 rows
+    rowCase (twoP ++ twoRows ++ twoRows) 0 119 2 4
+    -- the second is refused, and adds nothing
+    ∷ rowCase (twoP ++ twoRows ++ fourRowsRefused) 6 102 1 2
+    -- a record after the last macroblock is refused: the whole total
+    ∷ rowCase (twoP ++ twoRows ++ twoRows ++ twoRows) 5 119 2 4
+    -- no macroblock is made
+    ∷ rowCase twoP 7 85 0 0
+    -- an output that is too short: no header is accepted
+    ∷ example (twoP ++ twoRows ++ twoRows) (replicate 768 9) [] (replicate 767 7) 19 1 0 0
+    -- an intra macroblock: a DC of 1024 in each of its six blocks
+    ∷ example (intra ++ slice ++ grey) [] [] output 0 41 1 6
+    ∷ []
 
 -- a transform of zeros: no answer depends on it
 abbrev pub zeros : List ℤ → ℕ → ℤ
@@ -177,7 +209,7 @@ expectations (c ∷ cs) = c .expected ∷ expectations cs
 
 -- with 23 counted as 18
 abbrev countedAs18 : Answer → Answer
-countedAs18 a = record { number = cond (eqb (a .number) (numberOf BackwardVectorOutside)) (numberOf ForwardVectorOutside) (a .number); place = a .place; made = a .made }
+countedAs18 a = record { number = cond (eqb (a .number) (numberOf BackwardVectorOutside)) (numberOf ForwardVectorOutside) (a .number); place = a .place; made = a .made; rows = a .rows }
 
 abbrev pub expectationsAs18 : List Case → List Answer
 expectationsAs18 [] = []

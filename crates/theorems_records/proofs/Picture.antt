@@ -58,10 +58,10 @@ unfolding recordBytes recordHead bigEndianBytes
 some-bytes (of-slice scale start) = omega arith
 some-bytes (of-macroblock whole) = omega arith
 
-followed-framed : (v : Verdict) (at made : ℕ) (q : Matrices) (symbol : Symbol) (rest : Answered) → VerdictFramed v → WellFramed (rest .answer .number)
-    → WellFramed (followed v (λ refusal. answeredBy (refusedAt refusal at made) q) symbol rest .answer .number)
-followed-framed Passed at made q symbol rest verdict next = next
-followed-framed (Refused refusal) at made q symbol rest verdict next = verdict
+followed-framed : (v : Verdict) (at made rows : ℕ) (q : Matrices) (symbol : Symbol) (rest : Answered) → VerdictFramed v → WellFramed (rest .answer .number)
+    → WellFramed (followed v (λ refusal. answeredBy (refusedAt refusal at made rows) q) symbol rest .answer .number)
+followed-framed Passed at made rows q symbol rest verdict next = next
+followed-framed (Refused refusal) at made rows q symbol rest verdict next = verdict
 
 module _ (file : List ℕ) where
   -- where nothing is left, or something
@@ -78,7 +78,7 @@ module _ (file : List ℕ) where
   records-framed (suc n) at s q (Whole.more {rest = rest} one others) stands =
       let t = stepAt file at s q in
       let whole = step-well-formed q s file at rest one stands in
-      rw (not-at-end at rest one stands) (followed-framed (t .applied .verdict) at (s .made) q (symbolAt file at s) _ (whole .verdict) (records-framed n (t .end) (t .applied .state) (t .matrices) others (whole .behind)))
+      rw (not-at-end at rest one stands) (followed-framed (t .applied .verdict) at (s .made) (s .rows) q (symbolAt file at s) _ (whole .verdict) (records-framed n (t .end) (t .applied .state) (t .matrices) others (whole .behind)))
 
 -- ---- the file's start: its version, and a header of seven bytes
 -- where the records start

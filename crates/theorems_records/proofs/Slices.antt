@@ -114,13 +114,13 @@ module _ (file : List ℕ) where
         go (beyond b) = Slices.more b
 
   -- a refused record, or one that passes
-  one-gathers : (v : Verdict) (at made : ℕ) {further : List Macroblock} {slices : List Slice} {q : Matrices} (r : Answered) {read symbol : Symbol} → (v ≡ Passed → read ≡ symbol)
+  one-gathers : (v : Verdict) (at made rows : ℕ) {further : List Macroblock} {slices : List Slice} {q : Matrices} (r : Answered) {read symbol : Symbol} → (v ≡ Passed → read ≡ symbol)
       → Gathers at further slices q (record { answer = r .answer; gathered = putInFront symbol (r .gathered) })
-      → Gathers at further slices q (followed v (λ refusal. answeredBy (refusedAt refusal at made) q) read r)
+      → Gathers at further slices q (followed v (λ refusal. answeredBy (refusedAt refusal at made rows) q) read r)
   unfolding joined
-  one-gathers (Refused refusal) at made {further} r same g =
+  one-gathers (Refused refusal) at made rows {further} r same g =
       record { same = refl; all = λ e. absurd (never-accepted refusal e); begun = within [] further refl; before = sym (append-nil (take at file)) }
-  one-gathers Passed at made r same g = rw (same refl) g
+  one-gathers Passed at made rows r same g = rw (same refl) g
 
   end-gathers : (at : ℕ) (s : PictureState) (q : Matrices) → drop at file ≡ [] → Gathers at [] [] q (answeredBy (endAnswer (length file) s) q)
   unfolding joined
@@ -149,13 +149,13 @@ module _ (file : List ℕ) where
       let whole = of-macroblock (one .whole) in
       let taken = macroblock-step q s file at m records (one .whole) (one .fitting) stands in
       let later = gathers n (t .end) (t .applied .state) (t .matrices) rest (step-well-formed q s file at records whole stands .behind) (few-left records n whole few) in
-      rw (not-at-end file at records whole stands) (one-gathers (t .applied .verdict) at (s .made) _ (taken .read) (continued at (taken .same-matrices) later m (taken .before)))
+      rw (not-at-end file at records whole stands) (one-gathers (t .applied .verdict) at (s .made) (s .rows) _ (taken .read) (continued at (taken .same-matrices) later m (taken .before)))
   gathers (suc n) at s q (slice scale start {records = records} fits rest) stands few =
       let t = stepAt file at s q in
       let whole = of-slice scale start in
       let taken = slice-step q s file at scale start records fits stands in
       let later = gathers n (t .end) (t .applied .state) (t .matrices) rest (step-well-formed q s file at records whole stands .behind) (few-left records n whole few) in
-      rw (not-at-end file at records whole stands) (one-gathers (t .applied .verdict) at (s .made) _ (taken .read) (started at (taken .same-matrices) later scale start (taken .before)))
+      rw (not-at-end file at records whole stands) (one-gathers (t .applied .verdict) at (s .made) (s .rows) _ (taken .read) (started at (taken .same-matrices) later scale start (taken .before)))
 
 -- ---- the file
 seven-bytes : (fields : List ℕ) {h : Header} → headerOf fields ≡ Header.Legal h → length fields ≡ 7

@@ -55,7 +55,7 @@ fn compare_entries(count: u64, seed: u64) -> Result<(), String> {
     println!("{} vectors", vectors(&ENTRIES)?);
     println!("{} blocks", transforms(&ENTRIES, seed, 20_000)?);
     let sets = row_masks(&ENTRIES, seed)?.len();
-    println!("{sets} sets of rows of blocks in range and out of it");
+    println!("{sets} sets of rows of blocks, in range and out of it");
     let counts = headers(&ENTRIES)?;
     println!("headers, by answer: {counts:?}");
     require_every_answer(&counts, header_answers())?;
@@ -73,7 +73,7 @@ fn compare_entries(count: u64, seed: u64) -> Result<(), String> {
     println!("{occurred} stages of blocks, pair by pair, by answer: {answers:?}");
     let Compared { answers, kinds } = rows(&ENTRIES, seed)?;
     let occurred = kinds.len();
-    println!("{occurred} cases of rows worked or not, by answer: {answers:?}");
+    println!("{occurred} kinds of blocks and ends for the count of rows, by answer: {answers:?}");
     compare_slices(10 * count, seed)
 }
 

@@ -70,7 +70,7 @@ impl Shape {
 
 /// A coded block before it is written.
 #[derive(Clone, Copy)]
-pub struct Plan {
+pub struct PlannedBlock {
     intra: bool,
     /// The DC divided by 8, if the block is intra.
     dc: u8,
@@ -78,9 +78,9 @@ pub struct Plan {
     levels: Block,
 }
 
-impl Plan {
-    fn empty(intra: bool) -> Plan {
-        Plan {
+impl PlannedBlock {
+    fn empty(intra: bool) -> PlannedBlock {
+        PlannedBlock {
             intra,
             dc: 0,
             levels: [0; 64],
@@ -88,16 +88,16 @@ impl Plan {
     }
 
     /// A block whose rows hold this.
-    pub fn with_rows(random: &mut Random, intra: bool, rows: [Row; 8]) -> Plan {
-        let mut plan = Plan::empty(intra);
+    pub fn with_rows(random: &mut Random, intra: bool, rows: [Row; 8]) -> PlannedBlock {
+        let mut block = PlannedBlock::empty(intra);
         for (row, held) in rows.into_iter().enumerate() {
-            plan.put_row(random, row, held);
+            block.put_row(random, row, held);
         }
-        plan
+        block
     }
 
     /// A block with so many rows worked.
-    pub fn with_count(random: &mut Random, intra: bool, count: usize) -> Plan {
+    pub fn with_count(random: &mut Random, intra: bool, count: usize) -> PlannedBlock {
         let mut mask = 0_u8;
         while mask.count_ones() < count as u32 {
             mask |= 1 << random.below(8);
@@ -107,26 +107,26 @@ impl Plan {
             (false, 0) => Row::Zeros,
             _ => random.pick(&[Row::Empty, Row::Zeros]),
         };
-        Plan::with_rows(random, intra, rows_of(mask, other))
+        PlannedBlock::with_rows(random, intra, rows_of(mask, other))
     }
 
     /// A block whose coefficients that are not 0 have this shape.
-    pub fn with_shape(random: &mut Random, intra: bool, shape: Shape) -> Plan {
-        let mut plan = Plan::empty(intra);
+    pub fn with_shape(random: &mut Random, intra: bool, shape: Shape) -> PlannedBlock {
+        let mut block = PlannedBlock::empty(intra);
         for index in shape.indices() {
-            plan.put(random, index);
+            block.put(random, index);
         }
-        plan
+        block
     }
 
     /// An intra block whose DC is 0 or not, and whose first row otherwise holds this.
-    pub fn with_dc(random: &mut Random, zero: bool, rest: Row) -> Plan {
-        let mut plan = Plan::empty(true);
+    pub fn with_dc(random: &mut Random, zero: bool, rest: Row) -> PlannedBlock {
+        let mut block = PlannedBlock::empty(true);
         if !zero {
-            plan.put(random, 0);
+            block.put(random, 0);
         }
-        plan.put_levels(random, 1..8, rest);
-        plan
+        block.put_levels(random, 1..8, rest);
+        block
     }
 
     /// Puts a coefficient that is not 0.
@@ -144,7 +144,7 @@ impl Plan {
         if !self.intra || row > 0 {
             return self.put_levels(random, indices, held);
         }
-        // The DC alone may be what is worked.
+        // The DC alone may make it a row to work.
         let mut rest = held;
         if held == Row::Worked && random.once_in(2) {
             self.put(random, 0);

@@ -2,7 +2,7 @@
 //! blocks are coded, and by where a picture is refused.
 
 use super::cases::Case;
-use super::row_blocks::{all_rows, Plan, Row, Shape, LIGHT_WEIGHTS, ROWS};
+use super::row_blocks::{all_rows, PlannedBlock, Row, Shape, LIGHT_WEIGHTS, ROWS};
 use super::strip::Strip;
 use crate::decoder::file::{PictureType, INTRA, NON_INTRA};
 use crate::decoder::macroblock::component;
@@ -182,48 +182,53 @@ impl DcPasts {
     }
 
     /// The bytes of a macroblock's blocks.
-    fn blocks(&mut self, plans: &[Plan; 6]) -> [Vec<u8>; 6] {
-        std::array::from_fn(|block| plans[block].bytes(&mut self.0[component(block)]))
+    fn blocks(&mut self, planned: &[PlannedBlock; 6]) -> [Vec<u8>; 6] {
+        std::array::from_fn(|block| planned[block].bytes(&mut self.0[component(block)]))
     }
 
     /// The bytes of six blocks with at least three rows worked in each.
     fn six_blocks(&mut self, random: &mut Random, intra: bool) -> [Vec<u8>; 6] {
-        let plans = [(); 6].map(|()| {
+        let planned = [(); 6].map(|()| {
             let count = random.within(3, 8) as usize;
-            Plan::with_count(random, intra, count)
+            PlannedBlock::with_count(random, intra, count)
         });
-        self.blocks(&plans)
+        self.blocks(&planned)
     }
 }
 
 /// Legal pictures of blocks with every set of rows, shape and kind of DC, and of macroblocks with every total.
 fn coded_cases(random: &mut Random, picture_type: PictureType) -> Vec<Case> {
     let intra = picture_type == PictureType::I;
-    let mut plans = Vec::new();
+    let mut planned = Vec::new();
     for rows in all_rows(intra) {
-        plans.push(Plan::with_rows(random, intra, rows));
+        planned.push(PlannedBlock::with_rows(random, intra, rows));
     }
     for shape in Shape::all() {
-        plans.push(Plan::with_shape(random, intra, shape));
+        planned.push(PlannedBlock::with_shape(random, intra, shape));
     }
     for (zero, rest) in dcs().filter(|_| intra) {
-        plans.push(Plan::with_dc(random, zero, rest));
+        planned.push(PlannedBlock::with_dc(random, zero, rest));
     }
-    let six = |plans: &[Plan]| std::array::from_fn(|block| plans[block % plans.len()]);
-    let mut macroblocks: Vec<[Plan; 6]> = plans.chunks(6).map(six).collect();
+    let six =
+        |planned: &[PlannedBlock]| std::array::from_fn(|block| planned[block % planned.len()]);
+    let mut macroblocks: Vec<[PlannedBlock; 6]> = planned.chunks(6).map(six).collect();
     for rows in 0..=MOST_ROWS {
         let count = |block| (rows + block) / 6;
-        let plan = |block| Plan::with_count(random, intra, count(block));
-        macroblocks.push(std::array::from_fn(plan));
+        let planned = |block| PlannedBlock::with_count(random, intra, count(block));
+        macroblocks.push(std::array::from_fn(planned));
     }
-    let case = |macroblocks: &[[Plan; 6]]| coded_case(random, picture_type, macroblocks);
+    let case = |macroblocks: &[[PlannedBlock; 6]]| coded_case(random, picture_type, macroblocks);
     macroblocks.chunks(8).map(case).collect()
 }
 
 /// A legal picture of macroblocks with these blocks.
-fn coded_case(random: &mut Random, picture_type: PictureType, macroblocks: &[[Plan; 6]]) -> Case {
+fn coded_case(
+    random: &mut Random,
+    picture_type: PictureType,
+    macroblocks: &[[PlannedBlock; 6]],
+) -> Case {
     let pasts = &mut DcPasts::new();
-    let body = |plans| [fields_of(picture_type), &pasts.blocks(plans).concat()].concat();
+    let body = |planned| [fields_of(picture_type), &pasts.blocks(planned).concat()].concat();
     let bodies: Vec<Vec<u8>> = macroblocks.iter().map(body).collect();
     strip(random, picture_type, bodies.len()).case(random, bodies)
 }

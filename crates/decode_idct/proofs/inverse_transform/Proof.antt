@@ -25,10 +25,10 @@ same-dc : (c : tie.After-dc-residues-arg) → let dc = at (c .before .before .be
 same-dc c = returned w16 (c .dc-residues-arg .given) refl
 
 alone : (c : tie.Then1) → isDcAlone (c .before .before .args .t1) ≡ true
-alone c = not-false _ (sym (c .before .before .pre .1 .ac) ∙ sym (c .before .has-mark .ensures) ∙ not-true _ (c .if1 .taken))
+alone c = not-false _ (sym (c .before .before .pre .1 .ac) ∙ sym (c .before .has-ac .ensures) ∙ not-true _ (c .if1 .taken))
 
-has-mark-requires : tie.Need-has-mark-requires
-has-mark-requires c κs = search needs
+has-ac-requires : tie.Need-has-ac-requires
+has-ac-requires c κs = search needs
 
 array-copy-out-dc-residues : tie.Need-array-copy-out-dc-residues
 array-copy-out-dc-residues c = search needs
@@ -58,7 +58,7 @@ pub inverse-transform-spec : {M : Type 1} → statement M
 inverse-transform-spec =
     tie.close
     (tie.spec
-    has-mark-requires
+    has-ac-requires
     array-copy-out-dc-residues
     dc-residues-requires
     returns

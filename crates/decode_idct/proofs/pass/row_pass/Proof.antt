@@ -24,10 +24,10 @@ abbrev μ-loop : tie.MeasureT-loop
 μ-loop marks c numbers₀ rows₀ v₀ numbers rows v = 8 - v
 
 -- the test of row v, and both ways on from it
-tested : (c : tie.After-has-mark Inv-loop μ-loop) → c .has-mark .result ≡ not (isZeroRow (c .before .before .before .args .t1) (c .before .before .loop .v))
+tested : (c : tie.After-has-row Inv-loop μ-loop) → c .has-row .result ≡ not (isZeroRow (c .before .before .before .args .t1) (c .before .before .loop .v))
 tested c =
     let s = c .before .before in
-    c .has-mark .ensures ∙ s .before .pre .1 .rows (s .loop .v) (c .before .loop-test .taken)
+    c .has-row .ensures ∙ s .before .pre .1 .rows (s .loop .v) (c .before .loop-test .taken)
 
 numbers-after : (c : tie.Joined1 Inv-loop μ-loop) → Columns (passResult (c .before .before .before .before .args .t1)) (pos 0) (c .before .before .before .loop .v + 1) (c .if1 .numbers)
 numbers-after c =
@@ -50,8 +50,8 @@ rows-after c =
 loop-holds : tie.Need-loop-holds Inv-loop μ-loop
 loop-holds c = (columns-none, sym (count-none _), omega arith)
 
-has-mark-requires : tie.Need-has-mark-requires Inv-loop μ-loop
-has-mark-requires c κs = omega arith
+has-row-requires : tie.Need-has-row-requires Inv-loop μ-loop
+has-row-requires c κs = omega arith
 
 work-row-requires : tie.Need-work-row-requires Inv-loop μ-loop
 work-row-requires c κs = (omega arith, c .before .before .before .before .before .before .pre .0)
@@ -83,7 +83,7 @@ row-pass-spec =
     Inv-loop
     μ-loop
     loop-holds
-    has-mark-requires
+    has-row-requires
     work-row-requires
     add-rows
     add-v

@@ -40,9 +40,10 @@ returns-2 c =
     let added = c .before .before .before .before .before in
     let stood = added .before in
     let at-location = stood .before .before in
-    let e = sym (at-location .before .before .is-coded .ensures) ∙ not-false _ (at-location .before .if1 .left) in
-    (rw e (c .before .before .put .ensures ∙ rw (added .reconstruct-coded-block .ensures .0, stood .read .ensures, at-location .block-location .ensures)),
-    rw e (added .reconstruct-coded-block .ensures .1))
+    let e = sym (at-location .before .before .is-coded .ensures) ∙ not-false _ (at-location .before .if1 .left) in (
+      rw e (c .before .before .put .ensures ∙ rw (added .reconstruct-coded-block .ensures .0, stood .read .ensures, at-location .block-location .ensures)),
+      rw e (added .reconstruct-coded-block .ensures .1),
+    )
 
 pub add-residue-at-spec : {M : Type 1} → statement M
 add-residue-at-spec =

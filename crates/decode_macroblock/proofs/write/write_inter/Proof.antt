@@ -78,10 +78,11 @@ returns c =
     let predict = c .before .before .before .before in
     let s = predict .before .before .before .before .before in
     let a = s .args in
-    let all : c .before .loop .block ≡ 6 = omega arith in
-    (c .before .loop .inv .1 (a .motion) (a .output .now) (s .pre .0 .lent .output-whole) (predict .predict-blocks .ensures)
-    ∙ added-all inverseTransform (references (a .forward .now) (a .backward .now)) (a .position) (a .motion) (a .pattern) (sixBlocks (a .coefficients .now)) (c .before .loop .block) (a .output .now) (omega arith),
-    rw all at (c .before .loop .inv .3))
+    let all : c .before .loop .block ≡ 6 = omega arith in (
+      c .before .loop .inv .1 (a .motion) (a .output .now) (s .pre .0 .lent .output-whole) (predict .predict-blocks .ensures)
+          ∙ added-all inverseTransform (references (a .forward .now) (a .backward .now)) (a .position) (a .motion) (a .pattern) (sixBlocks (a .coefficients .now)) (c .before .loop .block) (a .output .now) (omega arith),
+      rw all at (c .before .loop .inv .3),
+    )
 
 pub write-inter-spec : {M : Type 1} → statement M
 write-inter-spec =

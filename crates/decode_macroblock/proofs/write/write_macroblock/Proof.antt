@@ -28,10 +28,12 @@ returns c =
     let neither = c .before .before .before .before in
     let forward = neither .before .before in
     let at-position = forward .before .before in
-    let a = at-position .before .before .before .before .args in
-    (c .before .before .write-intra .ensures .0 ∙ rw (at-position .macroblock-position .ensures)
-    (intra-blocks inverseTransform (references (a .forward .now) (a .backward .now)) (macroblockPosition (a .size) (a .address)) (a .motion) (a .pattern) (sixBlocks (a .coefficients .now)) (a .output .now)
-    (not-true _ (forward .if1 .taken)) (not-true _ (neither .if2 .taken))), c .before .before .write-intra .ensures .1)
+    let a = at-position .before .before .before .before .args in (
+      c .before .before .write-intra .ensures .0 ∙ rw (at-position .macroblock-position .ensures)
+          (intra-blocks inverseTransform (references (a .forward .now) (a .backward .now)) (macroblockPosition (a .size) (a .address)) (a .motion) (a .pattern) (sixBlocks (a .coefficients .now)) (a .output .now)
+          (not-true _ (forward .if1 .taken)) (not-true _ (neither .if2 .taken))),
+      c .before .before .write-intra .ensures .1,
+    )
 
 write-inter-requires : tie.Need-write-inter-requires
 write-inter-requires c κs =

@@ -115,10 +115,11 @@ dc-pasts-with-requires c κs = search needs
 returns-4 : tie.Need-returns-4
 returns-4 c =
     let stored = c .before .before .before in
-    let s = c .before .before .before .before .before .before .before .before .before .before .before .before .before .before .before .before .before .before .before .before .before in
-    (rw (c .dc-pasts-with .ensures, same-dc (c .before .before .before .before .before .before .before .before .before .before .before .before .before), stored .store-block .ensures)
-    (block-found _ _ _ _ _ (is-coded (c .before .before .before .before .before .before .before .before .before .before .before .before .before .before .before .before .before .before)) (first (c .before .before .before .before .before .before .before .before .before .before .before .before .before .before)) (second (c .before .before .before .before .before .before .before))),
-    rw (stored .store-block .ensures) (block-stored (s .pre .4) (s .args .block) (s .pre .0) (c .before .before .before .before .before .before .before .before .before .read-levels .ensures .1)))
+    let s = c .before .before .before .before .before .before .before .before .before .before .before .before .before .before .before .before .before .before .before .before .before in (
+      rw (c .dc-pasts-with .ensures, same-dc (c .before .before .before .before .before .before .before .before .before .before .before .before .before), stored .store-block .ensures)
+          (block-found _ _ _ _ _ (is-coded (c .before .before .before .before .before .before .before .before .before .before .before .before .before .before .before .before .before .before)) (first (c .before .before .before .before .before .before .before .before .before .before .before .before .before .before)) (second (c .before .before .before .before .before .before .before))),
+      rw (stored .store-block .ensures) (block-stored (s .pre .4) (s .args .block) (s .pre .0) (c .before .before .before .before .before .before .before .before .before .read-levels .ensures .1)),
+    )
 
 pub read-block-spec : {M : Type 1} → statement M
 read-block-spec =

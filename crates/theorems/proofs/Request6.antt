@@ -1,0 +1,59 @@
+-- Request No. 6: each theorem cites its law; the worked blocks and files are computed. Assumes nothing.
+use mathlib.Core.Bool.{Bool, true, false, cond}
+use mathlib.Core.Path.{_≡_, refl}
+use Prim.Native.Nat.{ℕ}
+use native.Mathlib.Omega.{arith}
+use Rattle.math.specs.Test.{allBelow, countBelow}
+use Rattle.refusals.specs.Refusal.{accepted, numberOf}
+use Rattle.refusals.specs.declared.Refusal.the-variants.{NumberOutOfRange}
+use Rattle.decode_coefficients.specs.Rows.{isZeroRow, rowsWorked}
+use Rattle.decode_coefficients.proofs.RowMarks.{rows-marked}
+use Rattle.decode_idct.specs.Answer.{transformEntryInRange, transformNumber, transformRows}
+use Rattle.decode_idct.proofs.Passes.{zero-row-adds-0}
+use Rattle.decode_macroblock.proofs.RowLaws.{rows-most, macroblock-rows-most}
+use Rattle.theorems_picture.proofs.Request6 as Laws
+use Rattle.theorems_picture.proofs.Worked.{worked-files}
+use Rattle.theorems.specs.Request6.{ZeroRow, AtMost8, BitsSet, NoneWith22, AtMost48, PictureRows, AnyTransform, WorkedRows}
+
+pub zero-row : ZeroRow
+zero-row c v e q p = zero-row-adds-0 c v q p e
+
+pub at-most-8 : AtMost8
+at-most-8 = rows-most
+
+pub bits-set : BitsSet
+bits-set c marks p = rows-marked p
+
+pub none-with-22 : NoneWith22
+none-with-22 c = go (transformEntryInRange c)
+  where
+    go : (legal : Bool) → cond legal accepted (numberOf NumberOutOfRange) ≡ numberOf NumberOutOfRange → cond legal (rowsWorked c) 0 ≡ 0
+    go true e = absurd (omega arith)
+    go false e = refl
+
+pub at-most-48 : AtMost48
+at-most-48 = macroblock-rows-most
+
+pub picture-rows : PictureRows
+picture-rows transform file forward backward output = record {
+  sum = λ h end e. Laws.rows-sum transform file forward backward output e;
+  refused = Laws.rows-refused transform file forward backward output;
+  no-header = λ refusal place e. Laws.rows-no-header transform file forward backward output e;
+  most = Laws.rows-most transform file forward backward output;
+}
+
+pub any-transform : AnyTransform
+any-transform = Laws.any-transform
+
+pub worked-rows : WorkedRows
+unfolding rowsWorked isZeroRow countBelow allBelow transformEntryInRange
+worked-rows = record {
+  zeros = refl;
+  dc = refl;
+  last = refl;
+  one-row = refl;
+  one-column = refl;
+  in-range = refl;
+  out-of-range = refl;
+  files = worked-files .3;
+}

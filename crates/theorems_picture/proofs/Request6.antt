@@ -1,0 +1,68 @@
+-- Request No. 6 of a picture: its rows are the total over the macroblocks made, by any inverse transform. Assumes nothing.
+use mathlib.Core.List.{List}
+use mathlib.Core.Path.{_≡_, refl, sym, ap, _∙_}
+use Prim.Native.Nat.{ℕ, _*_, _≤_, zero-le}
+use lib.IntN.{ℤ}
+use Rattle.refusals.specs.declared.Refusal.{Refusal}
+use Rattle.symbols.specs.declared.header.Header.{Header}
+use Rattle.decode_macroblock.specs.Macroblock.{MadeMacroblock}
+use Rattle.decode_macroblock.specs.Rows.{rowsOf}
+use Rattle.format3_header.specs.declared.file_start.FileStart.{FileStart}
+use Rattle.format3_header.specs.declared.file_start.FileStart.the-variants as FileStart
+use Rattle.format3_picture.specs.Picture.{Picture, symbolsOf, pictureOf, pictureRefusing}
+use Rattle.format3_picture.specs.Reconstruction.{macroblocksOf}
+use Rattle.format3_picture.specs.declared.reader.Answer.{Answer}
+use Rattle.format3_picture.proofs.PictureLaws.{no-header}
+use Rattle.theorems_picture.specs.Applies.{Reached, Passing, fileStart, Applies}
+use Rattle.theorems_picture.proofs.Demand1.{stands-at, stopped-is}
+use Rattle.theorems_picture.proofs.Demand2.{refusal-given}
+use Rattle.theorems_picture.proofs.PassingLaws.{Stop, at-record, at-end, answerAt, stops, stopped}
+
+module _ (transform : List ℤ → ℕ → ℤ) (file forward backward output : List ℕ) where
+  abbrev picture : Picture
+  picture = pictureOf transform file forward backward output
+
+  module _ {h : Header} {end : ℕ} (e : fileStart file forward backward output ≡ FileStart.HeaderRead h end) where
+    -- the answer's rows and count are the state's
+    rows-at : {r : Reached} (s : Stop file h end r) → answerAt file h end s .rows ≡ r .state .rows
+    rows-at (at-record inside refusal v) = refl
+    rows-at (at-end past) = refl
+
+    made-at : {r : Reached} (s : Stop file h end r) → answerAt file h end s .made ≡ r .state .made
+    made-at (at-record inside refusal v) = refl
+    made-at (at-end past) = refl
+
+    pub rows-sum : picture .rows ≡ rowsOf (macroblocksOf h (symbolsOf file h end))
+    rows-sum =
+        let s = stopped file h end in
+        ap (λ (p : Picture). p .rows) (stopped-is transform file forward backward output e (s .passing) (s .stop))
+        ∙ rows-at (s .stop)
+        ∙ stands-at transform file forward backward output e (s .passing) .rows
+        ∙ ap rowsOf (sym (stops file h end (s .passing) (s .stop) .macroblocks))
+
+    most-read : picture .rows ≤ 48 * picture .made
+    most-read =
+        let s = stopped file h end in
+        rw (stopped-is transform file forward backward output e (s .passing) (s .stop), rows-at (s .stop), made-at (s .stop))
+        (stands-at transform file forward backward output e (s .passing) .within .worked)
+
+  pub rows-refused : (refusal : Refusal) (place : ℕ) (before : List MadeMacroblock) → Applies file forward backward output refusal place before → picture .rows ≡ rowsOf before
+  rows-refused refusal place before a = ap (λ (x : Answer). x .rows) (refusal-given transform file forward backward output refusal place before a)
+
+  pub rows-no-header : {refusal : Refusal} {place : ℕ} → fileStart file forward backward output ≡ FileStart.Refused refusal place → picture .rows ≡ 0
+  rows-no-header e = ap (λ (p : Picture). p .rows) (no-header transform file forward backward output e)
+
+  pub rows-most : picture .rows ≤ 48 * picture .made
+  rows-most = go (fileStart file forward backward output) refl
+    where
+      go : (x : FileStart) → fileStart file forward backward output ≡ x → picture .rows ≤ 48 * picture .made
+      go (FileStart.Refused refusal place) e = rw (rows-no-header e) zero-le
+      go (FileStart.HeaderRead h end) e = most-read e
+
+pub any-transform : (transform other : List ℤ → ℕ → ℤ) (file forward backward output : List ℕ) → pictureOf transform file forward backward output .rows ≡ pictureOf other file forward backward output .rows
+unfolding pictureRefusing
+any-transform transform other file forward backward output = go (fileStart file forward backward output) refl
+  where
+    go : (x : FileStart) → fileStart file forward backward output ≡ x → pictureOf transform file forward backward output .rows ≡ pictureOf other file forward backward output .rows
+    go (FileStart.Refused refusal place) e = rw e
+    go (FileStart.HeaderRead h end) e = rw e
