@@ -1,62 +1,52 @@
--- Laws of marks: a block of zeros has none, a coefficient stored where a 0 was adds its own, and the rows worked are the bits set for rows.
+-- Laws of marks: a block of zeros has none, a coefficient stored where a 0 was adds its own, and the rows worked are those with a mark.
 -- Assumes nothing.
 use mathlib.Core.Path.{_≡_, refl, sym, ap, _∙_}
 use mathlib.Core.Bool.{Bool, true, false, not, cond, _||_}
 use mathlib.Core.List.{List}
 use Prim.Native.Nat.{ℕ, zero, suc, _+_, _-_, _*_, _/_, _%_, _^_, _<_}
-use native.Mathlib.Nat.{zero-mul}
+use native.Mathlib.Nat.{zero-mul, one-mul}
 use native.Mathlib.Decide.{ℕ-discrete, decLt}
+use native.Mathlib.Numerals.{add-one}
 use native.Mathlib.Omega.{arith}
-use borrow.Author.Tests.{lt-ltb, le-ltb, eq-eqb, ne-eqb}
-use lib.Bits.{bitOr, and-le-l, and-le-r, or-lt, or-add-and, or-shr, or-mod}
-use lib.Dec.{T, eqb, ltb}
+use borrow.Author.Tests.{lt-ltb, le-ltb, eq-eqb, ne-eqb, eqb-false, not-false}
+use lib.Bits.{bitOr, or-lt, or-shr, or-mod, shifted-even}
+use lib.Dec.{eqb, ltb, lit≤}
 use lib.IntN.{ℤ, pos}
-use lib.Pow.{shl-shr}
+use lib.Pow.{pow-add, pow-lt, shr-lt, shl-shr, shr-shr}
 use lib.ListN.{length, set, replicate, length-set, getD-replicate}
 use lib.Seq.{ext-getD, getD-set-same, getD-set-other}
 use Rattle.math.specs.Bound.{at}
 use Rattle.math.proofs.Bound.{zeros-at}
 use Rattle.math.specs.Limit.{eqZ}
-use Rattle.math.proofs.Compare.{eqZ-true}
 use Rattle.math.proofs.Scatter.{scatter-length, scatter-at, scatter-other}
 use Rattle.math.specs.Tab.{tab}
 use Rattle.math.proofs.Tab.{tab-length, tab-at}
-use Rattle.math.specs.Test.{allBelow, countBelow}
-use Rattle.math.proofs.Test.{at-below, at-below₂, all-pass, one-fails, all-ext, count-ext}
+use Rattle.math.specs.Test.{countBelow}
+use Rattle.math.proofs.Test.{clash, all-pass, all-passed, count-ext}
 use Rattle.decode_coefficients.specs.BlockArray.{blockIn, putBlock}
 use Rattle.decode_coefficients.specs.Rows.{isZeroRow, rowsWorked}
-use Rattle.decode_coefficients.specs.Marks.{isDcAlone, hasRow, hasAc, Marked, marksAt, withCoefficient, BlocksMarked}
+use Rattle.decode_coefficients.specs.Marks.{isDcAlone, hasMark, Marked, hasRow, hasAc, withCoefficient, BlocksMarked}
 
--- ---- the marks of one raster index, by a computed test of all
-agree : (a b : Bool) → T (cond a b (not b)) → a ≡ b
-agree true true t = refl
-agree true false t = absurd t
-agree false true t = absurd t
-agree false false t = refl
+-- ---- bits of a power of 2, and of two marks together
+set-bit : (k : ℕ) → hasMark (2 ^ k) k ≡ true
+unfolding hasMark
+set-bit k = let one : 2 ^ k / 2 ^ k ≡ 1 = ap (λ (n : ℕ). n / 2 ^ k) (sym (one-mul (2 ^ k))) ∙ shl-shr 1 k in rw one
 
-right-row : ℕ → ℕ → Bool
-right-row raster v = cond (hasRow (marksAt raster) v) (eqb v (raster / 8)) (not (eqb v (raster / 8)))
+other-bit : (raster k : ℕ) → (k ≡ raster → ⊥) → hasMark (2 ^ raster) k ≡ false
+unfolding hasMark
+other-bit raster k ne = go (decLt k raster)
+  where
+    go : Dec (k < raster) → eqb (2 ^ raster / 2 ^ k % 2) 1 ≡ false
+    go (yes low) =
+        let above : raster ≡ suc (raster - k - 1) + k = omega arith in
+        let quotient : 2 ^ raster / 2 ^ k ≡ 1 * 2 ^ suc (raster - k - 1) = ap (λ (n : ℕ). 2 ^ n / 2 ^ k) above ∙ ap (λ (n : ℕ). n / 2 ^ k) (pow-add 2 (suc (raster - k - 1)) k) ∙ shl-shr (2 ^ suc (raster - k - 1)) k ∙ sym (one-mul _) in
+        rw (quotient, shifted-even 1 (raster - k - 1))
+    go (no high) =
+        let above : raster < 0 + k = omega arith in
+        let small : 2 ^ raster / 2 ^ k < 2 ^ 0 = shr-lt 0 k (pow-lt above) in
+        let none : 2 ^ raster / 2 ^ k ≡ 0 = omega arith in
+        rw none
 
-rows-right : T (allBelow 64 (λ raster. allBelow 8 (right-row raster)))
-unfolding allBelow right-row hasRow marksAt
-rows-right = tt
-
-row-at : (raster v : ℕ) → raster < 64 → v < 8 → hasRow (marksAt raster) v ≡ eqb v (raster / 8)
-unfolding right-row
-row-at raster v h k = agree _ _ (at-below₂ 64 8 right-row rows-right raster v h k)
-
-right-ac : ℕ → Bool
-right-ac raster = cond (hasAc (marksAt raster)) (not (eqb raster 0)) (not (not (eqb raster 0)))
-
-ac-right : T (allBelow 64 right-ac)
-unfolding allBelow right-ac marksAt
-ac-right = tt
-
-ac-at : (raster : ℕ) → raster < 64 → hasAc (marksAt raster) ≡ not (eqb raster 0)
-unfolding right-ac
-ac-at raster h = agree _ _ (at-below 64 right-ac ac-right raster h)
-
--- ---- two marks together
 digit : (a b : ℕ) → a < 2 → b < 2 → eqb (bitOr a b) 1 ≡ eqb a 1 || eqb b 1
 digit zero zero h k = refl
 digit zero (suc zero) h k = refl
@@ -66,20 +56,12 @@ digit zero (suc (suc b)) h k = absurd (omega arith)
 digit (suc zero) (suc (suc b)) h k = absurd (omega arith)
 digit (suc (suc a)) b h k = absurd (omega arith)
 
-either-row : (m n v : ℕ) → hasRow (bitOr m n) v ≡ hasRow m v || hasRow n v
-unfolding hasRow
-either-row m n v =
-    ap (λ (x : ℕ). eqb (x % 2) 1) (or-shr m n v)
-    ∙ ap (λ (x : ℕ). eqb x 1) (or-mod (m / 2 ^ v) (n / 2 ^ v) 1)
-    ∙ digit (m / 2 ^ v % 2) (n / 2 ^ v % 2) (omega arith) (omega arith)
-
-either-ac : (m n : ℕ) → hasAc (bitOr m n) ≡ hasAc m || hasAc n
-either-ac m n = go (decLt 255 m) (decLt 255 n)
-  where
-    go : Dec (255 < m) → Dec (255 < n) → hasAc (bitOr m n) ≡ hasAc m || hasAc n
-    go (yes p) d = rw (lt-ltb 255 m p) (lt-ltb 255 (bitOr m n) (omega (arith, or-add-and m n, and-le-r m n)))
-    go (no p) (yes q) = rw (le-ltb 255 m (omega arith), lt-ltb 255 n q) (lt-ltb 255 (bitOr m n) (omega (arith, or-add-and m n, and-le-l m n)))
-    go (no p) (no q) = rw (le-ltb 255 m (omega arith), le-ltb 255 n (omega arith)) (le-ltb 255 (bitOr m n) (omega (arith, or-lt 8 m n (omega arith) (omega arith))))
+either : (m n k : ℕ) → hasMark (bitOr m n) k ≡ hasMark m k || hasMark n k
+unfolding hasMark
+either m n k =
+    ap (λ (x : ℕ). eqb (x % 2) 1) (or-shr m n k)
+    ∙ ap (λ (x : ℕ). eqb x 1) (or-mod (m / 2 ^ k) (n / 2 ^ k) 1)
+    ∙ digit (m / 2 ^ k % 2) (n / 2 ^ k % 2) (omega arith) (omega arith)
 
 or-true : (a : Bool) {b : Bool} → b ≡ true → a || b ≡ true
 or-true true e = refl
@@ -91,87 +73,45 @@ or-false false e = e
 
 -- ---- only the sixty-four coefficients matter
 pub same-marks : {c d : List ℤ} → ((k : ℕ) → k < 64 → at c k ≡ at d k) → {marks : ℕ} → Marked c marks → Marked d marks
-unfolding isZeroRow isDcAlone
-same-marks {c} {d} e p = record {
-  rows = λ v h. p .rows v h ∙ ap not (all-ext 8 _ _ (λ u b. ap (λ (z : ℤ). eqZ z (pos 0)) (e (8 * v + u) (omega arith))));
-  ac = p .ac ∙ ap not (all-ext 63 _ _ (λ k b. ap (λ (z : ℤ). eqZ z (pos 0)) (e (1 + k) (omega arith))));
-}
+same-marks e p = record { small = p .small; each = λ k h. p .each k h ∙ ap (λ (z : ℤ). not (eqZ z (pos 0))) (e k h) }
 
 -- ---- a block of zeros
-no-row : (v : ℕ) → hasRow 0 v ≡ false
-unfolding hasRow
-no-row v = let none : 0 / 2 ^ v ≡ 0 = ap (λ (n : ℕ). n / 2 ^ v) (sym (zero-mul (2 ^ v))) ∙ shl-shr 0 v in rw none
-
-zero-there : (k : ℕ) → eqZ (at (replicate 64 (pos 0)) k) (pos 0) ≡ true
-zero-there k = ap (λ (z : ℤ). eqZ z (pos 0)) (zeros-at 64 k)
+no-bit : (k : ℕ) → hasMark 0 k ≡ false
+unfolding hasMark
+no-bit k = let none : 0 / 2 ^ k ≡ 0 = ap (λ (n : ℕ). n / 2 ^ k) (sym (zero-mul (2 ^ k))) ∙ shl-shr 0 k in rw none
 
 pub none-marked : Marked (replicate 64 (pos 0)) 0
-unfolding isZeroRow isDcAlone
-none-marked = record {
-  rows = λ v h. no-row v ∙ ap not (sym (all-pass 8 _ (λ u b. zero-there (8 * v + u))));
-  ac = ap not (sym (all-pass 63 _ (λ k b. zero-there (1 + k))));
-}
+none-marked = record { small = lit≤ tt; each = λ k h. no-bit k ∙ ap (λ (z : ℤ). not (eqZ z (pos 0))) (sym (zeros-at 64 k)) }
 
 -- ---- a coefficient stored where a 0 was
-module _ {c : List ℤ} {marks : ℕ} (p : Marked c marks) (long : length c ≡ 64) (raster : ℕ) (h : raster < 64) (was-zero : at c raster ≡ pos 0) where
-  same-block : c ≡ set c raster (pos 0)
-  same-block = ext-getD (pos 0) c (set c raster (pos 0)) (sym (length-set c raster (pos 0))) (λ k low. go k (ℕ-discrete k raster))
-    where
-      go : (k : ℕ) → Dec (k ≡ raster) → at c k ≡ at (set c raster (pos 0)) k
-      go k (yes e) = ap (at c) e ∙ was-zero ∙ sym (ap (at (set c raster (pos 0))) e ∙ getD-set-same c raster (pos 0) (pos 0) (omega (arith, long)))
-      go k (no ne) = sym (getD-set-other c raster k (pos 0) (pos 0) ne)
+module _ {c : List ℤ} {marks : ℕ} (p : Marked c marks) (long : length c ≡ 64) (raster : ℕ) (h : raster < 64) (was-zero : at c raster ≡ pos 0) (z : ℤ) where
+  abbrev after : List ℤ
+  after = set c raster z
 
-  module _ (z : ℤ) (other : eqZ z (pos 0) ≡ false) where
-    abbrev after : List ℤ
-    after = set c raster z
+  here : at after raster ≡ z
+  here = getD-set-same c raster z (pos 0) (omega (arith, long))
 
-    here : eqZ (at after raster) (pos 0) ≡ false
-    here = ap (λ (x : ℤ). eqZ x (pos 0)) (getD-set-same c raster z (pos 0) (omega (arith, long))) ∙ other
+  elsewhere : (k : ℕ) → (k ≡ raster → ⊥) → at after k ≡ at c k
+  elsewhere k ne = getD-set-other c raster k z (pos 0) ne
 
-    elsewhere : (k : ℕ) → (k ≡ raster → ⊥) → eqZ (at c k) (pos 0) ≡ eqZ (at after k) (pos 0)
-    elsewhere k ne = ap (λ (x : ℤ). eqZ x (pos 0)) (sym (getD-set-other c raster k z (pos 0) ne))
+  -- the bit of each coefficient, whether the stored one is 0 or not
+  bit : (b : Bool) → eqZ z (pos 0) ≡ b → (k : ℕ) → k < 64 → hasMark (cond b marks (bitOr marks (2 ^ raster))) k ≡ not (eqZ (at after k) (pos 0))
+  bit true e k low = elim (ℕ-discrete k raster) [
+    | yes s ↦ rw s (p .each raster h ∙ ap not (ap (λ (x : ℤ). eqZ x (pos 0)) was-zero ∙ sym (ap (λ (x : ℤ). eqZ x (pos 0)) here ∙ e)))
+    | no ne ↦ p .each k low ∙ ap (λ (x : ℤ). not (eqZ x (pos 0))) (sym (elsewhere k ne))
+  ]
+  bit false e k low = elim (ℕ-discrete k raster) [
+    | yes s ↦ rw s (either marks (2 ^ raster) raster ∙ or-true (hasMark marks raster) (set-bit raster) ∙ sym (ap (λ (x : ℤ). not (eqZ x (pos 0))) here ∙ ap not e))
+    | no ne ↦ either marks (2 ^ raster) k ∙ or-false (hasMark marks k) (other-bit raster k ne) ∙ p .each k low ∙ ap (λ (x : ℤ). not (eqZ x (pos 0))) (sym (elsewhere k ne))
+  ]
 
-    joined : withCoefficient marks raster z ≡ bitOr marks (marksAt raster)
-    unfolding withCoefficient
-    joined = rw other
+  fits : (b : Bool) → cond b marks (bitOr marks (2 ^ raster)) < 2 ^ 64
+  fits true = p .small
+  fits false = or-lt 64 marks (2 ^ raster) (p .small) (pow-lt h)
 
-    row : (v : ℕ) → v < 8 → hasRow marks v || hasRow (marksAt raster) v ≡ not (isZeroRow after v)
-    unfolding isZeroRow
-    row v low = elim (ℕ-discrete v (raster / 8)) [
-      | yes e ↦
-          let there : 8 * v + raster % 8 ≡ raster = omega arith in
-          or-true (hasRow marks v) (row-at raster v h low ∙ eq-eqb v (raster / 8) e)
-          ∙ ap not (sym (one-fails 8 _ (raster % 8) (omega arith) (ap (λ (k : ℕ). eqZ (at after k) (pos 0)) there ∙ here)))
-      | no ne ↦
-          or-false (hasRow marks v) (row-at raster v h low ∙ ne-eqb v (raster / 8) ne)
-          ∙ p .rows v low ∙ ap not (all-ext 8 _ _ (λ u b. elsewhere (8 * v + u) (λ e. ne (omega arith))))
-    ]
-
-    after-first : hasAc marks || hasAc (marksAt raster) ≡ not (isDcAlone after)
-    unfolding isDcAlone
-    after-first = elim (ℕ-discrete raster 0) [
-      | yes e ↦
-          or-false (hasAc marks) (ac-at raster h ∙ ap not (eq-eqb raster 0 e))
-          ∙ p .ac ∙ ap not (all-ext 63 _ _ (λ k b. elsewhere (1 + k) (λ s. omega arith)))
-      | no ne ↦
-          let there : 1 + (raster - 1) ≡ raster = omega arith in
-          or-true (hasAc marks) (ac-at raster h ∙ ap not (ne-eqb raster 0 ne))
-          ∙ ap not (sym (one-fails 63 _ (raster - 1) (omega arith) (ap (λ (k : ℕ). eqZ (at after k) (pos 0)) there ∙ here)))
-    ]
-
-    marked-other : Marked after (withCoefficient marks raster z)
-    marked-other = record {
-      rows = λ v low. ap (λ (m : ℕ). hasRow m v) joined ∙ either-row marks (marksAt raster) v ∙ row v low;
-      ac = ap hasAc joined ∙ either-ac marks (marksAt raster) ∙ after-first;
-    }
-
-  pub marked-set : (z : ℤ) → Marked (set c raster z) (withCoefficient marks raster z)
+  pub marked-set : Marked after (withCoefficient marks raster z)
   unfolding withCoefficient
-  marked-set z = go (eqZ z (pos 0)) refl
-    where
-      go : (b : Bool) → eqZ z (pos 0) ≡ b → Marked (set c raster z) (withCoefficient marks raster z)
-      go true e = rw (e, eqZ-true z (pos 0) e, ← same-block) p
-      go false e = marked-other z e
+  marked-set = record { small = fits (eqZ z (pos 0)); each = bit (eqZ z (pos 0)) refl }
 
 -- ---- the first k coefficients of a block, as a loop marks them
 module _ (c : List ℤ) where
@@ -210,10 +150,75 @@ module _ (c : List ℤ) where
   pub marked-more : {marks : ℕ} (k : ℕ) → k < 64 → Marked (firstOf k) marks → Marked (firstOf (k + 1)) (withCoefficient marks k (at c k))
   marked-more k h p = rw (one-more-of k h) (marked-set p (tab-length 64 (firstValue k)) k h (zero-next k h) (at c k))
 
--- ---- the rows worked are the bits set for rows
-pub rows-marked : {c : List ℤ} {marks : ℕ} → Marked c marks → countBelow 8 (hasRow marks) ≡ rowsWorked c
-unfolding rowsWorked
-rows-marked {c} {marks} p = count-ext 8 (hasRow marks) _ (p .rows)
+-- ---- rows and AC coefficients
+-- a number of n bits is 0 if none of them is set
+half-bit : (m k : ℕ) → hasMark (m / 2) k ≡ hasMark m (1 + k)
+unfolding hasMark
+half-bit m k = ap (λ (n : ℕ). eqb (n % 2) 1) (shr-shr m 1 k)
+
+zero-bits : (n m : ℕ) → m < 2 ^ n → ((k : ℕ) → k < n → hasMark m k ≡ false) → m ≡ 0
+unfolding hasMark
+zero-bits zero m h none = omega arith
+zero-bits (suc n) m h none =
+    let more : 2 ^ suc n ≡ 2 ^ (n + 1) = ap (λ (k : ℕ). 2 ^ k) (sym (add-one n)) in
+    let half = zero-bits n (m / 2) (shr-lt n 1 (rw (← more) h)) (λ k low. half-bit m k ∙ none (1 + k) (omega arith)) in
+    elim (ℕ-discrete (m / 2 ^ 0 % 2) 1) [
+      | yes odd ↦ absurd (eqb-false (m / 2 ^ 0 % 2) 1 (none 0 (omega arith)) odd)
+      | no even ↦ omega (arith, half)
+    ]
+
+-- the bits of a row, as a number of eight bits
+low-bit : (m u : ℕ) → u < 8 → m % 256 / 2 ^ u % 2 ≡ m / 2 ^ u % 2
+low-bit m zero h = omega arith
+low-bit m (suc zero) h = omega arith
+low-bit m (suc (suc zero)) h = omega arith
+low-bit m (suc (suc (suc zero))) h = omega arith
+low-bit m (suc (suc (suc (suc zero)))) h = omega arith
+low-bit m (suc (suc (suc (suc (suc zero))))) h = omega arith
+low-bit m (suc (suc (suc (suc (suc (suc zero)))))) h = omega arith
+low-bit m (suc (suc (suc (suc (suc (suc (suc zero))))))) h = omega arith
+low-bit m (suc (suc (suc (suc (suc (suc (suc (suc u)))))))) h = absurd (omega arith)
+
+module _ {c : List ℤ} {marks : ℕ} (p : Marked c marks) where
+  abbrev rowBits : ℕ → ℕ
+  rowBits v = marks / 2 ^ (8 * v) % 2 ^ 8
+
+  row-bit : (v u : ℕ) → v < 8 → u < 8 → hasMark (rowBits v) u ≡ not (eqZ (at c (8 * v + u)) (pos 0))
+  unfolding hasMark
+  row-bit v u h b =
+      ap (λ (n : ℕ). eqb n 1) (low-bit (marks / 2 ^ (8 * v)) u b ∙ ap (λ (n : ℕ). n % 2) (shr-shr marks (8 * v) u))
+      ∙ p .each (8 * v + u) (omega arith)
+
+  pub row-marked : (v : ℕ) → v < 8 → hasRow marks v ≡ not (isZeroRow c v)
+  unfolding hasRow isZeroRow
+  row-marked v h = go (isZeroRow c v) refl
+    where
+      go : (b : Bool) → isZeroRow c v ≡ b → hasRow marks v ≡ not b
+      go true e = ap not (eq-eqb (rowBits v) 0 (zero-bits 8 (rowBits v) (omega arith) (λ u b. row-bit v u h b ∙ ap not (all-passed 8 _ e u b))))
+      go false e = ap not (ne-eqb (rowBits v) 0 (λ none. clash (all-pass 8 _ (λ u b. not-false _ (sym (row-bit v u h b) ∙ ap (λ (n : ℕ). hasMark n u) none ∙ no-bit u))) e))
+
+  pub ac-marked : hasAc marks ≡ not (isDcAlone c)
+  unfolding isDcAlone
+  ac-marked = go (isDcAlone c) refl
+    where
+      beyond : (k : ℕ) → k < 63 → hasMark (marks / 2) k ≡ not (eqZ (at c (1 + k)) (pos 0))
+      beyond k b = half-bit marks k ∙ p .each (1 + k) (omega arith)
+
+      go : (b : Bool) → isDcAlone c ≡ b → hasAc marks ≡ not b
+      go true e =
+          let none = zero-bits 63 (marks / 2) (shr-lt 63 1 (p .small)) (λ k b. beyond k b ∙ ap not (all-passed 63 _ e k b)) in
+          le-ltb 1 marks (omega (arith, none))
+      go false e = elim (decLt 1 marks) [
+        | yes some ↦ lt-ltb 1 marks some
+        | no none ↦
+            let zero-half : marks / 2 ≡ 0 = omega arith in
+            clash (all-pass 63 _ (λ k b. not-false _ (sym (beyond k b) ∙ ap (λ (n : ℕ). hasMark n k) zero-half ∙ no-bit k))) e
+      ]
+
+  -- ---- the rows worked are the rows that are marked
+  pub rows-marked : countBelow 8 (hasRow marks) ≡ rowsWorked c
+  unfolding rowsWorked
+  rows-marked = count-ext 8 (hasRow marks) _ row-marked
 
 -- ---- six blocks in the array
 block-at : (store : List ℤ) (block k : ℕ) → k < 64 → at (blockIn store block) k ≡ at store (64 * block + k)

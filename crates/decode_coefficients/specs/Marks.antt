@@ -1,4 +1,4 @@
--- How the reader tells the transform which rows of a block to work, so that nothing scans the block: marks, a number with a bit for each row.
+-- How the reader tells the transform which rows of a block to work, so that nothing scans the block: marks, a number of sixty-four bits.
 use mathlib.Core.Bool.{Bool, not, cond}
 use mathlib.Core.List.{List}
 use mathlib.Core.Path.{_≡_}
@@ -11,34 +11,31 @@ use Rattle.math.specs.Test.{allBelow}
 use Rattle.math.specs.Bound.{at}
 use Rattle.math.specs.Limit.{eqZ}
 use Rattle.decode_coefficients.specs.BlockArray.{blockIn}
-use Rattle.decode_coefficients.specs.Rows.{isZeroRow}
 
 -- whether all coefficients after the first (the AC coefficients) are 0
 unfoldable pub isDcAlone : List ℤ → Bool
 isDcAlone c = allBelow 63 (λ k. eqZ (at c (1 + k)) (pos 0))
 
--- bit v of the marks is set if row v is marked
-unfoldable pub hasRow : ℕ → ℕ → Bool
-hasRow marks v = eqb (marks / 2 ^ v % 2) 1
+-- whether bit k of the marks is set
+unfoldable pub hasMark : ℕ → ℕ → Bool
+hasMark marks k = eqb (marks / 2 ^ k % 2) 1
 
--- above the eight bits stand the raster indices of the marked coefficients, joined bit by bit: 0 if they are all 0, the index of the DC
-abbrev pub hasAc : ℕ → Bool
-hasAc marks = ltb 255 marks
-
--- the marks of a block
+-- the marks of a block: bit k is set exactly when the coefficient at raster index k is not 0
 pub record Marked (c : List ℤ) (marks : ℕ) : Type 0 where
-  -- bit v is set exactly when row v holds a coefficient that is not 0
-  pub rows : (v : ℕ) → v < 8 → hasRow marks v ≡ not (isZeroRow c v)
-  -- there is more than these bits exactly when an AC coefficient is not 0
-  pub ac : hasAc marks ≡ not (isDcAlone c)
+  pub small : marks < 2 ^ 64
+  pub each : (k : ℕ) → k < 64 → hasMark marks k ≡ not (eqZ (at c k) (pos 0))
 
--- the marks of the coefficient at a raster index
-unfoldable pub marksAt : ℕ → ℕ
-marksAt raster = 2 ^ (raster / 8) + 2 ^ 8 * raster
+-- whether row v is marked: one of its bits, 8v to 8v + 7, is set
+unfoldable pub hasRow : ℕ → ℕ → Bool
+hasRow marks v = not (eqb (marks / 2 ^ (8 * v) % 2 ^ 8) 0)
+
+-- whether an AC coefficient is marked: a bit above that of the DC is set
+abbrev pub hasAc : ℕ → Bool
+hasAc marks = ltb 1 marks
 
 -- the marks after a coefficient is stored: they change only if it is not 0
 unfoldable pub withCoefficient : ℕ → ℕ → ℤ → ℕ
-withCoefficient marks raster coefficient = cond (eqZ coefficient (pos 0)) marks (bitOr marks (marksAt raster))
+withCoefficient marks raster coefficient = cond (eqZ coefficient (pos 0)) marks (bitOr marks (2 ^ raster))
 
 -- the array of six blocks, and the marks of each
 pub record BlocksMarked (store : List ℤ) (marks : List ℕ) : Type 0 where

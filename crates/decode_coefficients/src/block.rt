@@ -35,13 +35,13 @@ fn scaled_level(level: i16, coding: BlockCoding, weight: u8) -> i16
 // Stores a level in its block: scaled, at its raster index. `order` is the zigzag order. Answers the marks after it.
 pub fn store_level(
     block: &mut [i16; 64],
-    marks: u32,
+    marks: u64,
     position: usize,
     level: i16,
     coding: BlockCoding,
     order: &[u8; 64],
     matrix: &[u8; 64],
-) -> u32
+) -> u64
     requires { ⌜ (position ≤ lastPosition) × Within 255 level × BlockCodingWithin coding × (now order ≡ zigzag) ⌝ }
     ensures { λ _. ⌜ now (block .exit) ≡ withLevel coding (now (matrix .entry)) (record { position = position; level = level }) (now (block .entry)) ⌝ }
     ensures { λ r. ⌜ r ≡ withCoefficient marks (rasterIndex position) (scaledLevel coding (now (matrix .entry)) (record { position = position; level = level })) ⌝ }

@@ -29,7 +29,7 @@ pub struct TransformAnswer {
 }
 
 // The residues of sixty-four coefficients and their marks; the caller has checked their range.
-pub fn inverse_transform(coefficients: [i16; 64], marks: u32) -> Residues
+pub fn inverse_transform(coefficients: [i16; 64], marks: u64) -> Residues
     requires { ⌜ AllWithin (2 ^ 11) coefficients × Marked coefficients marks ⌝ }
     ensures values { λ r. ⌜ r .values ≡ residuesBy inverseTransform coefficients ⌝ }
     ensures rows { λ r. ⌜ r .rows ≡ rowsWorked coefficients ⌝ }

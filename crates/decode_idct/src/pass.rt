@@ -106,16 +106,16 @@ pub struct RowPass {
 }
 
 // Works the rows that are marked. The line of any other row is zeros, which the block holds from the start.
-pub(crate) fn row_pass(c: [i16; 64], marks: u32) -> RowPass
+pub(crate) fn row_pass(c: [i16; 64], marks: u64) -> RowPass
     requires { ⌜ AllWithin (2 ^ 11) c × Marked c marks ⌝ }
     ensures { λ r. ⌜ r .numbers ≡ tab 64 (passResult c) ⌝ }
     ensures { λ r. ⌜ r .rows ≡ rowsWorked c ⌝ }
 {
     let mut numbers = [0i64; 64];
     let mut rows: usize = 0;
-    for v in 0..8 {
-        if marks::has_row(marks, v) {
-            work_row(&c, v, &mut numbers);
+    for row in 0..8 {
+        if marks::has_row(marks, row) {
+            work_row(&c, row, &mut numbers);
             rows = rows + 1;
         }
     }

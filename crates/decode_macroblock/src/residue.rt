@@ -34,7 +34,7 @@ pub struct Reconstructed {
 pub(crate) fn reconstruct_coded_block(
     predicted: [u8; 64],
     coefficients: &[i16; 384],
-    marks: &[u32; 6],
+    marks: &[u64; 6],
     block: usize,
 ) -> Reconstructed
     requires { ⌜ BlocksInRange (sixBlocks (now coefficients)) × BlocksMarked (now coefficients) (now marks) × (block < 6) ⌝ }
@@ -55,7 +55,7 @@ pub(crate) fn add_residue(
     predicted: [u8; 64],
     pattern: u8,
     coefficients: &[i16; 384],
-    marks: &[u32; 6],
+    marks: &[u64; 6],
     block: usize,
 ) -> Reconstructed
     requires { ⌜ BlocksInRange (sixBlocks (now coefficients)) × BlocksMarked (now coefficients) (now marks) × (block < 6) ⌝ }

@@ -141,7 +141,7 @@ fn add_residue_at(
     position: MacroblockPosition,
     pattern: u8,
     coefficients: &[i16; 384],
-    marks: &[u32; 6],
+    marks: &[u64; 6],
     block: usize,
 ) -> usize
     requires { ⌜ Inside position × (length (now output) ≡ pictureBytes (position .size)) × BlocksInRange (sixBlocks (now coefficients)) × BlocksMarked (now coefficients) (now marks) × (block < 6) ⌝ }
@@ -153,10 +153,10 @@ fn add_residue_at(
     }
     let location = location::block_location(position, block);
     let predicted = location::read(output, location);
-    let reconstructed = residue::reconstruct_coded_block(predicted, coefficients, marks, block);
-    let pels = reconstructed.pels;
-    location::put(output, location, pels);
-    reconstructed.rows
+    let coded = residue::reconstruct_coded_block(predicted, coefficients, marks, block);
+    let sums = coded.pels;
+    location::put(output, location, sums);
+    coded.rows
 }
 
 // Writes a predicted macroblock: the predictions of all six blocks, then the residues of the coded ones. Answers the rows worked.
@@ -168,7 +168,7 @@ fn write_inter(
     motion: Motion,
     pattern: u8,
     coefficients: &[i16; 384],
-    marks: &[u32; 6],
+    marks: &[u64; 6],
 ) -> usize
     requires { ⌜ BlocksWritable position motion (now forward) (now backward) (now output) × BlocksInRange (sixBlocks (now coefficients)) × BlocksMarked (now coefficients) (now marks) ⌝ }
     ensures { λ _. ⌜ now (output .exit) ≡ withBlocks position (pelsOf inverseTransform (references (now (forward .entry)) (now (backward .entry))) position motion pattern (sixBlocks (now (coefficients .entry)))) 6 (now (output .entry)) ⌝ }
@@ -188,7 +188,7 @@ fn write_intra_block(
     position: MacroblockPosition,
     pattern: u8,
     coefficients: &[i16; 384],
-    marks: &[u32; 6],
+    marks: &[u64; 6],
     block: usize,
 ) -> usize
     requires { ⌜ Inside position × (length (now output) ≡ pictureBytes (position .size)) × BlocksInRange (sixBlocks (now coefficients)) × BlocksMarked (now coefficients) (now marks) × (block < 6) ⌝ }
@@ -208,7 +208,7 @@ fn write_intra(
     position: MacroblockPosition,
     pattern: u8,
     coefficients: &[i16; 384],
-    marks: &[u32; 6],
+    marks: &[u64; 6],
 ) -> usize
     requires { ⌜ Inside position × (length (now output) ≡ pictureBytes (position .size)) × BlocksInRange (sixBlocks (now coefficients)) × BlocksMarked (now coefficients) (now marks) ⌝ }
     ensures { λ _. ⌜ now (output .exit) ≡ withBlocks position (λ block. withResidue inverseTransform pattern (sixBlocks (now (coefficients .entry))) block (replicate 64 0)) 6 (now (output .entry)) ⌝ }
@@ -231,7 +231,7 @@ pub fn write_macroblock(
     motion: Motion,
     pattern: u8,
     coefficients: &[i16; 384],
-    marks: &[u32; 6],
+    marks: &[u64; 6],
 ) -> usize
     requires { ⌜ Writable size address motion (now forward) (now backward) (now output) × BlocksInRange (sixBlocks (now coefficients)) × BlocksMarked (now coefficients) (now marks) ⌝ }
     ensures { λ _. ⌜ now (output .exit) ≡ withMacroblock inverseTransform (references (now (forward .entry)) (now (backward .entry))) size (record { address = address; motion = motion; pattern = pattern; coefficients = sixBlocks (now (coefficients .entry)) }) (now (output .entry)) ⌝ }

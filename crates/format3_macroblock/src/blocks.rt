@@ -45,7 +45,7 @@ fn read_block(
     order: &[u8; 64],
     matrix: &[u8; 64],
     coefficients: &mut [i16; 384],
-    marks: &mut [u32; 6],
+    marks: &mut [u64; 6],
 ) -> BlocksAnswer
     requires { ⌜ (block < 6) × LegalDcPasts pasts × BlocksCodingWithin coding × (now order ≡ zigzag) × BlocksMarked (now coefficients) (now marks) ⌝ }
     ensures { λ r. ⌜ ParsesAs (blockInto coding (now (matrix .entry)) block (record { pasts = pasts; coefficients = now (coefficients .entry) })) (now (rest .entry)) (progressResult r (now (coefficients .exit))) ⌝ }
@@ -90,7 +90,7 @@ pub(crate) fn read_blocks(
     coding: BlocksCoding,
     matrix: &[u8; 64],
     coefficients: &mut [i16; 384],
-    marks: &mut [u32; 6],
+    marks: &mut [u64; 6],
 ) -> BlocksAnswer
     requires { ⌜ LegalDcPasts pasts × BlocksCodingWithin coding × (now coefficients ≡ replicate (6 * 64) (pos 0)) × (now marks ≡ replicate 6 0) ⌝ }
     ensures { λ r. ⌜ ParsesAs (decodedBlocksOf coding (now (matrix .entry)) pasts) (now (rest .entry)) (decodedBlocksResult r (now (coefficients .exit))) ⌝ }

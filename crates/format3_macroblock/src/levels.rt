@@ -55,7 +55,7 @@ pub(crate) fn read_levels(
     order: &[u8; 64],
     matrix: &[u8; 64],
     block: [i16; 64],
-    marks: u32,
+    marks: u64,
 ) -> PairsRead
     requires { ⌜ BlockCodingWithin coding × (now order ≡ zigzag) × BeforePairs coding block × Marked block marks ⌝ }
     ensures { λ r. ⌜ ParsesAs (levelsInto coding (now (matrix .entry)) block) (now (rest .entry)) (pairsResult (r .answer) (r .block)) ⌝ }

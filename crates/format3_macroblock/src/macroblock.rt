@@ -138,7 +138,7 @@ pub fn read_blocks_to_end<'m>(
     intra: &'m [u8; 64],
     non_intra: &'m [u8; 64],
     coefficients: &mut [i16; 384],
-    marks: &mut [u32; 6],
+    marks: &mut [u64; 6],
 ) -> BlocksAnswer
     requires { ⌜ LegalDcPasts dc × (scale ≤ 31) × (now coefficients ≡ replicate (6 * 64) (pos 0)) × (now marks ≡ replicate 6 0) ⌝ }
     ensures { λ r. ⌜ ParsesAs (decodedToEndOf symbols scale (matricesOf (now (intra .entry)) (now («non_intra» .entry))) dc) (now (rest .entry)) (decodedBlocksResult r (now (coefficients .exit))) ⌝ }

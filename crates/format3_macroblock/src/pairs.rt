@@ -39,7 +39,7 @@ pub enum PairsAnswer {
 pub struct PairsRead {
     pub answer: PairsAnswer,
     pub block: [i16; 64],
-    pub marks: u32,
+    pub marks: u64,
 }
 
 fn legal_level(level: i16) -> bool
@@ -94,7 +94,7 @@ pub(crate) fn read_pairs(
     order: &[u8; 64],
     matrix: &[u8; 64],
     block: [i16; 64],
-    marks: u32,
+    marks: u64,
 ) -> PairsRead
     requires { ⌜ BlockCodingWithin coding × (now order ≡ zigzag) × BeforePairs coding block × Marked block marks ⌝ }
     ensures { λ r. ⌜ ParsesAs (pairsOf count (firstPosition (coding .intra))) (now (rest .entry)) (pairsResult (r .answer) (pairsBeforeRefusal count (firstPosition (coding .intra)) (now (rest .entry)))) × (r .block ≡ blockRead coding (now (matrix .entry)) count (now (rest .entry)) block) ⌝ }

@@ -152,7 +152,7 @@ fn write_coded(
     plan: Plan,
     verdict: Verdict,
     coefficients: &[i16; 384],
-    marks: &[u32; 6],
+    marks: &[u64; 6],
     forward: &[u8],
     backward: &[u8],
     output: &mut [u8],
@@ -237,7 +237,7 @@ fn apply_coded<'m>(
     let scale = decode_coefficients::macroblock::scale_after(slice.scale, symbols);
     let pasts = dc::starting_dc_pasts(dc, symbols.increment);
     let mut coefficients = [0i16; 384];
-    let mut marks = [0u32; 6];
+    let mut marks = [0u64; 6];
     let blocks = format3_macroblock::macroblock::read_blocks_to_end(
         rest,
         symbols,

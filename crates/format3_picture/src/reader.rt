@@ -103,12 +103,8 @@ fn read_records(
             length,
         } = found
         else {
-            return refused_at(
-                records::record_refusal(found),
-                at,
-                picture.made,
-                picture.rows,
-            );
+            let not_found = records::record_refusal(found);
+            return refused_at(not_found, at, picture.made, picture.rows);
         };
         let end = from + length;
         let body = &file[from..end];
@@ -124,12 +120,8 @@ fn read_records(
         );
         let verdict = outcome.verdict;
         let Verdict::Passed = verdict else {
-            return refused_at(
-                records::verdict_refusal(verdict),
-                at,
-                picture.made,
-                picture.rows,
-            );
+            let refusal = records::verdict_refusal(verdict);
+            return refused_at(refusal, at, picture.made, picture.rows);
         };
         if kind == MATRIX_KIND {
             matrices = format3_matrices::load_matrix(body, matrices);

@@ -13,7 +13,7 @@ use Rattle.decode_idct.proofs.Passes.{zero-row-adds-0}
 use Rattle.decode_macroblock.proofs.RowLaws.{rows-most, macroblock-rows-most}
 use Rattle.theorems_picture.proofs.Request6 as Laws
 use Rattle.theorems_picture.proofs.Worked.{worked-files}
-use Rattle.theorems.specs.Request6.{ZeroRow, AtMost8, BitsSet, NoneWith22, AtMost48, PictureRows, AnyTransform, WorkedRows}
+use Rattle.theorems.specs.Request6.{ZeroRow, AtMost8, RowsMarked, NoneWith22, AtMost48, PictureRows, AnyTransform, WorkedRows}
 
 pub zero-row : ZeroRow
 zero-row c v e q p = zero-row-adds-0 c v q p e
@@ -21,8 +21,8 @@ zero-row c v e q p = zero-row-adds-0 c v q p e
 pub at-most-8 : AtMost8
 at-most-8 = rows-most
 
-pub bits-set : BitsSet
-bits-set c marks p = rows-marked p
+pub rows-are-marked : RowsMarked
+rows-are-marked c marks p = rows-marked p
 
 pub none-with-22 : NoneWith22
 none-with-22 c = go (transformEntryInRange c)

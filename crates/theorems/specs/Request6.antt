@@ -41,9 +41,9 @@ ZeroRow =
 abbrev pub AtMost8 : Type 0
 AtMost8 = (c : List ℤ) → rowsWorked c ≤ 8
 
--- the rows worked are the bits that are set in the block's marks: nothing has to look at the block again
-abbrev pub BitsSet : Type 0
-BitsSet = (c : List ℤ) (marks : ℕ) → Marked c marks → countBelow 8 (hasRow marks) ≡ rowsWorked c
+-- the rows worked are those with a mark (a bit that is set) in the block's marks: nothing has to look at the block again
+abbrev pub RowsMarked : Type 0
+RowsMarked = (c : List ℤ) (marks : ℕ) → Marked c marks → countBelow 8 (hasRow marks) ≡ rowsWorked c
 
 -- "With 22 it is 0"
 abbrev pub NoneWith22 : Type 0

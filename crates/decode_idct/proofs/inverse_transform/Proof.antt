@@ -14,6 +14,7 @@ use Rattle.math.proofs.Bound.{within-eq}
 use Rattle.math.proofs.Machine.{returned}
 use Rattle.math.specs.Tab.{tab}
 use Rattle.decode_coefficients.specs.Marks.{isDcAlone}
+use Rattle.decode_coefficients.proofs.RowMarks.{ac-marked}
 use Rattle.decode_idct.proofs.DcAlone.{dc-residues, dc-rows}
 use Rattle.decode_idct.proofs.Passes.{pass-within, passes}
 use Rattle.decode_idct.specs.Line.{passResult, residueOf}
@@ -25,7 +26,7 @@ same-dc : (c : tie.After-dc-residues-arg) → let dc = at (c .before .before .be
 same-dc c = returned w16 (c .dc-residues-arg .given) refl
 
 alone : (c : tie.Then1) → isDcAlone (c .before .before .args .t1) ≡ true
-alone c = not-false _ (sym (c .before .before .pre .1 .ac) ∙ sym (c .before .has-ac .ensures) ∙ not-true _ (c .if1 .taken))
+alone c = not-false _ (sym (ac-marked (c .before .before .pre .1)) ∙ sym (c .before .has-ac .ensures) ∙ not-true _ (c .if1 .taken))
 
 has-ac-requires : tie.Need-has-ac-requires
 has-ac-requires c κs = search needs

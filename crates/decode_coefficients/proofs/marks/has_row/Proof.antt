@@ -5,8 +5,8 @@ use Rattle.decode_coefficients.specs.Marks.{hasRow}
 use Rattle.decode_coefficients.proofs.marks.has_row.Statement.{statement}
 use Rattle.decode_coefficients.proofs.marks.has_row.Tie as tie
 
-cast-from-row : tie.Need-cast-from-row
-cast-from-row c = search needs
+mul-from-row : tie.Need-mul-from-row
+mul-from-row c = search needs
 
 shr-from-row : tie.Need-shr-from-row
 shr-from-row c = search needs
@@ -16,4 +16,4 @@ unfolding hasRow
 returns c = refl
 
 pub has-row-spec : {M : Type 1} → statement M
-has-row-spec = tie.close (tie.spec cast-from-row shr-from-row returns)
+has-row-spec = tie.close (tie.spec mul-from-row shr-from-row returns)
