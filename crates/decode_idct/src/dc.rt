@@ -11,8 +11,10 @@ use crate::Residues;
 use crate::pass;
 use tables::COSINES;
 
+// The factor of the DC at every pel: that of frequency 0, across and down.
 const DC_FACTOR: i64 = COSINES[3] * COSINES[3];
 
+// The residue that a DC alone gives every pel.
 fn dc_residue(dc: i16) -> i16
     requires { ⌜ Within (2 ^ 11) dc ⌝ }
     ensures { λ r. ⌜ r ≡ residueOf (dcSum dc) ⌝ }
@@ -30,6 +32,7 @@ fn dc_rows(dc: i16) -> usize
     1
 }
 
+// The residues of a block with this DC alone, and the rows worked.
 pub(crate) fn dc_residues(dc: i16) -> Residues
     requires { ⌜ Within (2 ^ 11) dc ⌝ }
     ensures { λ r. ⌜ r .values ≡ replicate 64 (residueOf (dcSum dc)) ⌝ }

@@ -50,7 +50,7 @@ pub struct ShownRecord {
 // The picture of a Format 3 file.
 // Takes the file, the forward and the backward reference (empty where the picture has none), and the output, 384 bytes a macroblock.
 // Answers number, place (the byte offset of the refused record; 0 for 1 and 2; the file's length if accepted and for 7), made, the count
-// of macroblocks written, and rows, the total of the rows that the transform worked for these.
+// of macroblocks written, and rows, the total of the rows worked for these.
 // Leaves exactly these macroblocks in the output; every other byte is what it was.
 pub fn reconstruct(file: &[u8], forward: &[u8], backward: &[u8], output: &mut [u8]) -> Answer
     ensures number { λ r. ⌜ r .number ≡ pictureOf inverseTransform (now (file .entry)) (now (forward .entry)) (now (backward .entry)) (now (output .entry)) .number ⌝ }

@@ -1,6 +1,6 @@
 -- Request No. 6: each theorem cites its law; the worked blocks and files are computed. Assumes nothing.
 use mathlib.Core.Bool.{Bool, true, false, cond}
-use mathlib.Core.Path.{_≡_, refl}
+use mathlib.Core.Path.{_≡_, refl, sym}
 use Prim.Native.Nat.{ℕ}
 use native.Mathlib.Omega.{arith}
 use Rattle.math.specs.Test.{allBelow, countBelow}
@@ -11,6 +11,7 @@ use Rattle.decode_coefficients.proofs.RowMarks.{rows-marked}
 use Rattle.decode_idct.specs.Answer.{transformEntryInRange, transformNumber, transformRows}
 use Rattle.decode_idct.proofs.Passes.{zero-row-adds-0}
 use Rattle.decode_macroblock.proofs.RowLaws.{rows-most, macroblock-rows-most}
+use Rattle.theorems_picture.proofs.PassingLaws.{stops, stopped}
 use Rattle.theorems_picture.proofs.Request6 as Laws
 use Rattle.theorems_picture.proofs.Worked.{worked-files}
 use Rattle.theorems.specs.Request6.{ZeroRow, AtMost8, RowsMarked, NoneWith22, AtMost48, PictureRows, AnyTransform, WorkedRows}
@@ -36,7 +37,13 @@ at-most-48 = macroblock-rows-most
 
 pub picture-rows : PictureRows
 picture-rows transform file forward backward output = record {
-  sum = λ h end e. Laws.rows-sum transform file forward backward output e;
+  sum = λ h end e. let s = stopped file h end in record {
+    reached = s .reached;
+    passing = s .passing;
+    count = Laws.made-reached transform file forward backward output e (s .passing) (s .stop);
+    rows = Laws.rows-reached transform file forward backward output e (s .passing) (s .stop);
+    of-symbols = sym (stops file h end (s .passing) (s .stop) .macroblocks);
+  };
   refused = Laws.rows-refused transform file forward backward output;
   no-header = λ refusal place e. Laws.rows-no-header transform file forward backward output e;
   most = Laws.rows-most transform file forward backward output;

@@ -11,7 +11,7 @@ use mathlib.Core.List.{List, _∷_, _++_}
 use mathlib.Core.Path.{_≡_}
 use Prim.Native.Nat.{ℕ, _+_, _-_, _*_, _≤_}
 use lib.IntN.{ℤ, pos, negsuc, _*ℤ_}
-use lib.ListN.{replicate}
+use lib.ListN.{length, replicate}
 use Rattle.math.specs.Bound.{at}
 use Rattle.math.specs.Sum.{sumTo}
 use Rattle.math.specs.Test.{countBelow}
@@ -28,7 +28,7 @@ use Rattle.decode_macroblock.specs.Rows.{macroblockRows, rowsOf}
 use Rattle.format3_header.specs.declared.file_start.FileStart.the-variants as FileStart
 use Rattle.format3_picture.specs.Picture.{pictureOf, symbolsOf}
 use Rattle.format3_picture.specs.Reconstruction.{macroblocksOf}
-use Rattle.theorems_picture.specs.Applies.{fileStart, Applies}
+use Rattle.theorems_picture.specs.Applies.{Reached, Passing, fileStart, Applies}
 use Rattle.theorems_picture.specs.Worked.{rowCases, answers, expectations}
 
 -- "skip a row of eight coefficients that are all zero": it adds 0 to the sum at every row q and column p of the residues (`doubleSum`)
@@ -53,11 +53,18 @@ NoneWith22 = (c : List ℤ) → transformNumber c ≡ numberOf NumberOutOfRange 
 abbrev pub AtMost48 : Type 0
 AtMost48 = (pattern : ℕ) (c : List (List ℤ)) → macroblockRows pattern c ≤ 48
 
+-- the sum over the macroblocks that the picture's records made: all records, or those before the refused one
+pub record SumOverRecords (transform : List ℤ → ℕ → ℤ) (file forward backward output : List ℕ) (h : Header) (end : ℕ) : Type 0 where
+  pub reached : Reached
+  pub passing : Passing file h end reached
+  pub count : pictureOf transform file forward backward output .made ≡ length (reached .macroblocks)
+  pub rows : pictureOf transform file forward backward output .rows ≡ rowsOf (reached .macroblocks)
+  -- these macroblocks are the ones that clause 2.4.4 makes of the symbols (demand 2)
+  pub of-symbols : reached .macroblocks ≡ macroblocksOf h (symbolsOf file h end)
+
 -- "the total over the macroblocks made"
 pub record TotalOverMade (transform : List ℤ → ℕ → ℤ) (file forward backward output : List ℕ) : Type 0 where
-  -- the sum over the macroblocks of the picture's symbols; if the picture is refused, these are the symbols of the records before the refused one
-  pub sum : (h : Header) (end : ℕ) → fileStart file forward backward output ≡ FileStart.HeaderRead h end
-      → pictureOf transform file forward backward output .rows ≡ rowsOf (macroblocksOf h (symbolsOf file h end))
+  pub sum : (h : Header) (end : ℕ) → fileStart file forward backward output ≡ FileStart.HeaderRead h end → SumOverRecords transform file forward backward output h end
   -- "On a refused picture it is the total over the macroblocks made": those that the records before the refused one made
   pub refused : (refusal : Refusal) (place : ℕ) (before : List MadeMacroblock) → Applies file forward backward output refusal place before
       → pictureOf transform file forward backward output .rows ≡ rowsOf before

@@ -1,22 +1,22 @@
 -- Request No. 6 of a picture: its rows are the total over the macroblocks made, by any inverse transform. Assumes nothing.
 use mathlib.Core.List.{List}
-use mathlib.Core.Path.{_≡_, refl, sym, ap, _∙_}
+use mathlib.Core.Path.{_≡_, refl, ap, _∙_}
 use Prim.Native.Nat.{ℕ, _*_, _≤_, zero-le}
 use lib.IntN.{ℤ}
+use lib.ListN.{length}
 use Rattle.refusals.specs.declared.Refusal.{Refusal}
 use Rattle.symbols.specs.declared.header.Header.{Header}
 use Rattle.decode_macroblock.specs.Macroblock.{MadeMacroblock}
 use Rattle.decode_macroblock.specs.Rows.{rowsOf}
 use Rattle.format3_header.specs.declared.file_start.FileStart.{FileStart}
 use Rattle.format3_header.specs.declared.file_start.FileStart.the-variants as FileStart
-use Rattle.format3_picture.specs.Picture.{Picture, symbolsOf, pictureOf, pictureRefusing}
-use Rattle.format3_picture.specs.Reconstruction.{macroblocksOf}
+use Rattle.format3_picture.specs.Picture.{Picture, pictureOf, pictureRefusing}
 use Rattle.format3_picture.specs.declared.reader.Answer.{Answer}
 use Rattle.format3_picture.proofs.PictureLaws.{no-header}
 use Rattle.theorems_picture.specs.Applies.{Reached, Passing, fileStart, Applies}
-use Rattle.theorems_picture.proofs.Demand1.{stands-at, stopped-is}
+use Rattle.theorems_picture.proofs.Demand1.{stands-at, made-count, stopped-is}
 use Rattle.theorems_picture.proofs.Demand2.{refusal-given}
-use Rattle.theorems_picture.proofs.PassingLaws.{Stop, at-record, at-end, answerAt, stops, stopped}
+use Rattle.theorems_picture.proofs.PassingLaws.{Stop, at-record, at-end, answerAt, stopped}
 
 module _ (transform : List ℤ → ℕ → ℤ) (file forward backward output : List ℕ) where
   abbrev picture : Picture
@@ -32,13 +32,17 @@ module _ (transform : List ℤ → ℕ → ℤ) (file forward backward output : 
     made-at (at-record inside refusal v) = refl
     made-at (at-end past) = refl
 
-    pub rows-sum : picture .rows ≡ rowsOf (macroblocksOf h (symbolsOf file h end))
-    rows-sum =
-        let s = stopped file h end in
-        ap (λ (p : Picture). p .rows) (stopped-is transform file forward backward output e (s .passing) (s .stop))
-        ∙ rows-at (s .stop)
-        ∙ stands-at transform file forward backward output e (s .passing) .rows
-        ∙ ap rowsOf (sym (stops file h end (s .passing) (s .stop) .macroblocks))
+    pub rows-reached : {r : Reached} → Passing file h end r → Stop file h end r → picture .rows ≡ rowsOf (r .macroblocks)
+    rows-reached passing stop =
+        ap (λ (p : Picture). p .rows) (stopped-is transform file forward backward output e passing stop)
+        ∙ rows-at stop
+        ∙ stands-at transform file forward backward output e passing .rows
+
+    pub made-reached : {r : Reached} → Passing file h end r → Stop file h end r → picture .made ≡ length (r .macroblocks)
+    made-reached passing stop =
+        ap (λ (p : Picture). p .made) (stopped-is transform file forward backward output e passing stop)
+        ∙ made-at stop
+        ∙ made-count transform file forward backward output e passing
 
     most-read : picture .rows ≤ 48 * picture .made
     most-read =
