@@ -48,8 +48,8 @@ struct answer {
 
 enum { MAX_PICTURE_BYTES = FORMAT3_MACROBLOCK_BYTES * FORMAT3_MAX_MACROBLOCKS };
 
-/* memset takes a few instructions more or fewer by the alignment of what it fills. Those who call what is measured have a local
- * of this alignment, so the stack below is aligned alike, whatever the arguments and the environment of the process are. */
+/* memset takes a few instructions more or fewer by the alignment of what it fills. Each caller of a measured function has a
+ * local of this alignment, so the stack below is aligned alike, whatever the arguments and the environment of the process are. */
 enum { STACK_ALIGNMENT = 64 };
 
 static struct answer run(reconstruct_function *reconstruct, const struct job *job, uint8_t *output)

@@ -2,7 +2,8 @@
 # stack that any path through its code takes: all frames on the deepest chain of calls, return addresses included. It fails if
 # that cannot be told: an indirect call, recursion, or a call of another library than memcpy and memset, which count with their
 # return address alone. A jump to another function counts as a call. An indirect jump is taken for a jump table, whose places
-# are all in the function; it must follow the two instructions that load such a place.
+# are all in the function; it must follow the two instructions that load such a place. Between them and the jump, other registers
+# may be loaded from the stack.
 # It also fails if a function takes more than a page without touching the stack in between.
 
 # Notes what is wrong with the current function: the first thing found. It matters only if an exported function calls it.
@@ -115,7 +116,14 @@ instruction ~ /^(call|j.*)$/ && operand !~ /^\*/ {
     if (sub(/\+0x[0-9a-f]+$/, "", callee) && callee != name) fail("a jump into " callee)
     if (instruction == "call" || callee != name) calls[name] = calls[name] callee "\n"
 }
-{ before_last = last; last = instruction " " operand }
+
+# Whether a register other than that of the last instruction is loaded from the stack.
+function reloads_another(register) {
+    if (instruction != "mov" || operand !~ /^(0x[0-9a-f]+)?\(%rsp\),%r([abcd]x|[ds]i|bp|[89]|1[0-5])$/) return 0
+    register = operand; sub(/.*,/, "", register)
+    return last !~ (register "$")
+}
+!reloads_another() { before_last = last; last = instruction " " operand }
 
 END {
     for (f in frame) if (f ~ /^format3_[a-z_]+$/) print f, most(f)

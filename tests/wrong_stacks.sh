@@ -80,6 +80,7 @@ format3_read_header:
     lea others(%rip),%r13
     movslq (%r13,%rdi,4),%rdx
     add %r13,%rdx
+    mov 0x8(%rsp),%r13
     jmp *%rdx
 3:  ret
 format3_show_record:
@@ -157,6 +158,9 @@ edits=(
     '^frames: format3_transform: an indirect jump' library.s 's/jmp \*%rcx/jmp *%rdx/'
     '^frames: format3_transform: an indirect jump' library.s 's/movslq \(%rax/movslq (%rdx/'
     '^frames: format3_read_header: an indirect jump' library.s 's/movslq \(%r13/movslq 4(%r13/'
+    '^frames: format3_read_header: an indirect jump' library.s 's/mov 0x8\(%rsp\),%r13/mov 0x8(%rsp),%rdx/'
+    '^frames: format3_read_header: an indirect jump' library.s 's/mov 0x8\(%rsp\),%r13/mov 0x8(%rsp),%edx/'
+    '^frames: format3_read_header: an indirect jump' library.s 's/mov 0x8\(%rsp\),%r13/mov %r13,%rdx/'
     '^frames: format3_vector: an indirect jump' library.s 's/je shallow/notrack jmp *%rcx/'
     'format3_vector .*on any path  TOO MUCH$' library.s 's/je shallow/je deep/'
     'format3_vector .*on any path  TOO MUCH$' library.s 's/je shallow/jmp deep/'

@@ -25,8 +25,8 @@ pub struct MacroblockRecord<'a> {
 }
 
 impl MacroblockRecord<'_> {
-    /// The coefficients of the coded blocks that are read before a field is refused. If one is, the type must be 8, with all blocks
-    /// coded, or 16.
+    /// The coefficients of the coded blocks that are read before a field is refused. If one is, they are told only for a type with
+    /// all blocks coded and nothing else: 16, or 8 with pattern 63.
     pub fn coefficients(&self) -> Vec<Block> {
         if let Ok(read) = &self.read {
             let blocks = read.coefficients(self.matrices);
@@ -38,15 +38,16 @@ impl MacroblockRecord<'_> {
     }
 
     fn blocks_before_refusal(&self) -> Vec<CodedBlock> {
-        let Some(&macroblock_type) = self.body.first() else {
-            return Vec::new();
+        let (intra, blocks) = match self.body {
+            [16, _, _, blocks @ ..] => (true, blocks),
+            [8, _, _, 63, blocks @ ..] => (false, blocks),
+            _ => return Vec::new(),
         };
-        let (fields, _) = lengths_before(macroblock_type);
-        let fields = &mut Fields(self.body.get(fields..).unwrap_or_default());
+        let fields = &mut Fields(blocks);
         let mut pasts = self.before.dc_pasts;
         let block = |index| {
             let past = &mut pasts[component(index)];
-            coded_block(fields, macroblock_type == 16, past).ok()
+            coded_block(fields, intra, past).ok()
         };
         (0..6).map_while(block).collect()
     }

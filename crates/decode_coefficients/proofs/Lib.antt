@@ -1,4 +1,4 @@
 pub mod Ranges
 pub mod Range
 pub mod SoFar
-pub mod RowMarks
+pub mod MarkLaws

@@ -7,14 +7,9 @@ use lib.Bits.{bitOr}
 use lib.Dec.{eqb, ltb}
 use lib.IntN.{ℤ, pos}
 use lib.ListN.{length, getD}
-use Rattle.math.specs.Test.{allBelow}
 use Rattle.math.specs.Bound.{at}
 use Rattle.math.specs.Limit.{eqZ}
 use Rattle.decode_coefficients.specs.BlockArray.{blockIn}
-
--- whether all coefficients after the first (the AC coefficients) are 0
-unfoldable pub isDcAlone : List ℤ → Bool
-isDcAlone c = allBelow 63 (λ k. eqZ (at c (1 + k)) (pos 0))
 
 -- whether bit k of the marks is set
 unfoldable pub hasMark : ℕ → ℕ → Bool
@@ -29,7 +24,7 @@ pub record Marked (c : List ℤ) (marks : ℕ) : Type 0 where
 unfoldable pub hasRow : ℕ → ℕ → Bool
 hasRow marks v = not (eqb (marks / 2 ^ (8 * v) % 2 ^ 8) 0)
 
--- whether an AC coefficient is marked: a bit above that of the DC is set
+-- whether a coefficient after the first (an AC coefficient) is marked: a bit above that of the DC is set
 abbrev pub hasAc : ℕ → Bool
 hasAc marks = ltb 1 marks
 

@@ -1,4 +1,4 @@
-// Marks: a bit for each coefficient of a block, set if it is not 0. By them the transform knows which rows to work, and whether the DC is alone.
+// Marks: a bit for each coefficient of a block, set if it is not 0. They tell the transform which rows to work, and whether the DC is alone.
 ghost use mathlib.Core.Path.{_≡_};
 ghost use Prim.Native.Nat.{_<_};
 ghost use Rattle.decode_coefficients.specs.Marks.{hasRow, hasAc, Marked, withCoefficient};

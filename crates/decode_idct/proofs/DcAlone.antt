@@ -11,7 +11,6 @@ use lib.IntN.{ℤ, pos, _*ℤ_, *ℤ-zero}
 use lib.ListN.{replicate}
 use Rattle.math.specs.Bound.{at}
 use Rattle.math.specs.Limit.{eqZ}
-use Rattle.math.specs.Sum.{sumTo}
 use Rattle.math.specs.Tab.{tab}
 use Rattle.math.specs.Test.{countBelow}
 use Rattle.math.proofs.Compare.{eqZ-true, eq-eqZ}
@@ -19,9 +18,9 @@ use Rattle.math.proofs.Sum.{sum-ext, sum-zero, sum-first}
 use Rattle.math.proofs.Tab.{tab-ext}
 use Rattle.math.proofs.Test.{all-pass, all-passed, one-fails, count-ext}
 use Rattle.decode_coefficients.specs.Rows.{isZeroRow, rowsWorked}
-use Rattle.decode_coefficients.specs.Marks.{isDcAlone}
+use Rattle.decode_coefficients.proofs.MarkLaws.{isDcAlone}
 use Rattle.decode_idct.specs.Line.{dcSum, residueOf}
-use Rattle.decode_idct.specs.Transform.{cosineFactor, factor, doubleSum, inverseTransform, residuesBy}
+use Rattle.decode_idct.specs.Transform.{cosineFactor, factor, rowSum, doubleSum, inverseTransform, residuesBy}
 
 module _ (c : List ℤ) (alone : isDcAlone c ≡ true) where
   zero-at : (k : ℕ) → 0 < k → k < 64 → at c k ≡ pos 0
@@ -33,7 +32,7 @@ module _ (c : List ℤ) (alone : isDcAlone c ≡ true) where
   one-product : (q p : ℕ) → doubleSum c q p ≡ dcSum (at c 0)
   unfolding doubleSum factor cosineFactor
   one-product q p =
-      sum-first (λ v. sumTo (λ u. (factor p u *ℤ factor q v) *ℤ at c (8 * v + u)) 8) 7
+      sum-first (rowSum c q p) 7
       (λ v h. sum-ext _ _ 8 (λ u b. ap (λ (z : ℤ). (factor p u *ℤ factor q (suc v)) *ℤ z) (zero-at (8 * suc v + u) (omega arith) (omega arith)) ∙ *ℤ-zero (factor p u *ℤ factor q (suc v))) ∙ sum-zero 8)
       ∙ sum-first (λ u. (factor p u *ℤ factor q 0) *ℤ at c (8 * 0 + u)) 7
       (λ u h. ap (λ (z : ℤ). (factor p (suc u) *ℤ factor q 0) *ℤ z) (zero-at (8 * 0 + suc u) (omega arith) (omega arith)) ∙ *ℤ-zero (factor p (suc u) *ℤ factor q 0))

@@ -21,7 +21,7 @@ use Rattle.math.specs.Test.{allBelow}
 use Rattle.decode_coefficients.specs.Rows.{isZeroRow}
 use Rattle.decode_idct.specs.Answer.{transformEntryInRange}
 use Rattle.decode_idct.specs.Line.{lineSum, rowOf, columnIndex, passResult, residueOf}
-use Rattle.decode_idct.specs.Transform.{angle, cosineFactor, factor, doubleSum, inverseTransform, limitedResidue, residuesBy}
+use Rattle.decode_idct.specs.Transform.{angle, cosineFactor, factor, rowSum, doubleSum, inverseTransform, limitedResidue, residuesBy}
 
 -- ---- bounds
 small : ℕ → ℕ → Bool
@@ -82,7 +82,7 @@ zero-row c v h e u =
     ∙ sum-zero 8
 
 -- "a row of eight coefficients that are all zero" adds 0 to every sum
-pub zero-row-adds-0 : (c : List ℤ) (v q p : ℕ) → isZeroRow c v ≡ true → sumTo (λ u. (factor p u *ℤ factor q v) *ℤ at c (8 * v + u)) 8 ≡ pos 0
+pub zero-row-adds-0 : (c : List ℤ) (v q p : ℕ) → isZeroRow c v ≡ true → rowSum c q p v ≡ pos 0
 zero-row-adds-0 c v q p e = sum-ext _ _ 8 (λ u b. ap (λ (z : ℤ). (factor p u *ℤ factor q v) *ℤ z) (row-zero c v e u b) ∙ *ℤ-zero (factor p u *ℤ factor q v)) ∙ sum-zero 8
 
 -- ---- both passes

@@ -33,9 +33,13 @@ cosineFactor negated entry p u = cond (eqb u 0) (entry 3) (cosineOf negated entr
 unfoldable pub factor : ℕ → ℕ → ℤ
 factor p u = cosineFactor (λ z. pos 0 -ℤ z) (at cosines) p u
 
+-- what row v of the coefficients adds to the sum at row q and column p
+abbrev pub rowSum : List ℤ → ℕ → ℕ → ℕ → ℤ
+rowSum c q p v = sumTo (λ u. (factor p u *ℤ factor q v) *ℤ at c (8 * v + u)) 8
+
 -- "the sum over all 64 coefficients of horizontal factor × vertical factor × coefficient", at row q and column p
 unfoldable pub doubleSum : List ℤ → ℕ → ℕ → ℤ
-doubleSum c q p = sumTo (λ v. sumTo (λ u. (factor p u *ℤ factor q v) *ℤ at c (8 * v + u)) 8) 8
+doubleSum c q p = sumTo (rowSum c q p) 8
 
 -- "plus 2^41, divided by 2^42 downwards"
 abbrev pub divided : ℤ → ℤ

@@ -105,7 +105,7 @@ pub struct RowPass {
     pub rows: usize,
 }
 
-// Works the rows that are marked. The line of any other row is zeros, which the block holds from the start.
+// Works the rows that are marked. The line of any other row is zeros, which `numbers` holds from the start.
 pub(crate) fn row_pass(c: [i16; 64], marks: u64) -> RowPass
     requires { ⌜ AllWithin (2 ^ 11) c × Marked c marks ⌝ }
     ensures { λ r. ⌜ r .numbers ≡ tab 64 (passResult c) ⌝ }

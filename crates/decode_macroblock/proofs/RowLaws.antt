@@ -5,7 +5,6 @@ use mathlib.Core.Path.{_≡_, refl, sym, ap₂, _∙_}
 use Prim.Native.Nat.{ℕ, zero, suc, _+_, _*_, _≤_}
 use native.Mathlib.Omega.{arith}
 use lib.IntN.{ℤ}
-use lib.ListN.{length}
 use Rattle.math.specs.Tab.{tab}
 use Rattle.math.specs.Total.{total}
 use Rattle.math.proofs.Test.{count-most}
@@ -22,7 +21,7 @@ unfolding rowsWorked
 rows-most c = count-most 8 _
 
 module _ (pattern : ℕ) (c : List (List ℤ)) where
-  pub block-rows-most : (block : ℕ) → blockRows pattern c block ≤ 8
+  block-rows-most : (block : ℕ) → blockRows pattern c block ≤ 8
   block-rows-most block = go (isCoded pattern block)
     where
       go : (b : Bool) → cond b (rowsWorked (coefficientsAt c block)) 0 ≤ 8
@@ -30,7 +29,7 @@ module _ (pattern : ℕ) (c : List (List ℤ)) where
       go false = omega arith
 
   -- the first n blocks
-  pub first-rows-most : (n : ℕ) → total (tab n (blockRows pattern c)) ≤ 8 * n
+  first-rows-most : (n : ℕ) → total (tab n (blockRows pattern c)) ≤ 8 * n
   first-rows-most n = total-tab-most n 8 (blockRows pattern c) (λ block h. block-rows-most block)
 
   -- a loop that adds the rows of one block after the other
@@ -49,11 +48,6 @@ pub rows-append : (first rest : List MadeMacroblock) → rowsOf (first ++ rest) 
 unfolding rowsOf
 rows-append [] rest = omega arith
 rows-append (m ∷ first) rest = omega (arith, rows-append first rest)
-
-pub rows-of-most : (macroblocks : List MadeMacroblock) → rowsOf macroblocks ≤ 48 * length macroblocks
-unfolding rowsOf
-rows-of-most [] = omega arith
-rows-of-most (m ∷ macroblocks) = omega (arith, rows-of-most macroblocks, macroblock-rows-most (m .pattern) (m .coefficients))
 
 -- ---- if no block is coded, no row is worked
 pub none-coded-rows : (c : List (List ℤ)) → macroblockRows 0 c ≡ 0

@@ -149,7 +149,7 @@ fn add_residue_at(
     ensures { λ r. ⌜ r ≡ blockRows pattern (sixBlocks (now (coefficients .entry))) block ⌝ }
 {
     if !pattern::is_coded(pattern, block) {
-        return 0;
+        return 0; // no row is worked
     }
     let location = location::block_location(position, block);
     let predicted = location::read(output, location);

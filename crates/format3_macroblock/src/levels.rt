@@ -48,7 +48,7 @@ fn read_count(rest: &[u8], intra: bool) -> TestedByte
     TestedByte::Legal(count, cursor)
 }
 
-// Reads the count of pairs, then the pairs into the block.
+// Reads the count of pairs, then the pairs into the block, and marks them.
 pub(crate) fn read_levels(
     rest: &[u8],
     coding: BlockCoding,

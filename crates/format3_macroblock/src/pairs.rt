@@ -35,7 +35,7 @@ pub enum PairsAnswer {
     Refused(Refusal),
 }
 
-// The block has the levels of the pairs before the first one that is refused: of all of them, if the answer is legal.
+// The block has the levels of the pairs before the first one that is refused: of all of them, if the answer is legal. Its marks are beside it.
 pub struct PairsRead {
     pub answer: PairsAnswer,
     pub block: [i16; 64],
@@ -86,7 +86,7 @@ fn pair_refusal(answer: PairAnswer) -> Refusal
     }
 }
 
-// Reads the pairs of a block, stores each level in it as it comes, and marks its row. `order` is the zigzag order.
+// Reads the pairs of a block: each level is stored as it comes, scaled, and marked if it is not 0 then. `order` is the zigzag order.
 pub(crate) fn read_pairs(
     rest: &[u8],
     count: u8,

@@ -58,11 +58,6 @@ all-passed n test e k h = truth (test k) (at-below n test (subst T (sym e) tt) k
 pub one-fails : (n : ℕ) (test : ℕ → Bool) (k : ℕ) → k < n → test k ≡ false → allBelow n test ≡ false
 one-fails n test k h e = refuted (λ passed. clash (all-passed n test passed k h) e)
 
-pub all-ext : (n : ℕ) (test other : ℕ → Bool) → ((k : ℕ) → k < n → test k ≡ other k) → allBelow n test ≡ allBelow n other
-unfolding allBelow
-all-ext zero test other h = refl
-all-ext (suc n) test other h = ap₂ _&&_ (h n (omega arith)) (all-ext n test other (λ k b. h k (omega arith)))
-
 -- ---- counting
 pub count-none : (test : ℕ → Bool) → countBelow 0 test ≡ 0
 unfolding countBelow

@@ -3,27 +3,27 @@
 -- coded blocks, at most 48 a macroblock. On a refused picture it is the total over the macroblocks made. Values and the accuracy rule are as before."
 --
 -- The number is in the contracts, as an equation at each level: `inverse_transform` and the entry (`rowsWorked`, `transformRows`), `write_macroblock`
--- (`macroblockRows`), a record (`stateAfter`), and `reconstruct` (`pictureOf`, field `rows`). The definitions of the residues and of the picture's bytes
--- have not changed, and no refusal depends on it. The reader of a block's pairs marks the rows as it stores coefficients (`Marked`, crates/
--- decode_coefficients/specs/Marks.antt); the transform works the marked rows, and counts them.
+-- (`macroblockRows`), a record (`planApplied`), and `reconstruct` (`pictureOf`, field `rows`). The definitions of the residues and of the picture's bytes
+-- do not mention it, and no refusal depends on it. The reader of a block's pairs marks each coefficient that is not 0 (`Marked`, in the crate
+-- decode_coefficients); the transform works the rows that have a mark, and counts them.
 use mathlib.Core.Bool.{true}
 use mathlib.Core.List.{List, _∷_, _++_}
 use mathlib.Core.Path.{_≡_}
-use Prim.Native.Nat.{ℕ, _+_, _-_, _*_, _≤_}
-use lib.IntN.{ℤ, pos, negsuc, _*ℤ_}
+use Prim.Native.Nat.{ℕ, _-_, _*_, _≤_}
+use lib.IntN.{ℤ, pos, negsuc}
 use lib.ListN.{length, replicate}
-use Rattle.math.specs.Bound.{at}
-use Rattle.math.specs.Sum.{sumTo}
 use Rattle.math.specs.Test.{countBelow}
 use Rattle.refusals.specs.Refusal.{numberOf}
 use Rattle.refusals.specs.declared.Refusal.{Refusal}
 use Rattle.refusals.specs.declared.Refusal.the-variants.{NumberOutOfRange}
+use Rattle.symbols.specs.Pattern.{allBlocks, noBlock}
 use Rattle.symbols.specs.declared.header.Header.{Header}
 use Rattle.decode_coefficients.specs.Rows.{isZeroRow, rowsWorked}
 use Rattle.decode_coefficients.specs.Marks.{hasRow, Marked}
-use Rattle.decode_idct.specs.Transform.{factor}
+use Rattle.decode_idct.specs.Transform.{rowSum}
 use Rattle.decode_idct.specs.Answer.{transformNumber, transformRows}
-use Rattle.decode_macroblock.specs.Macroblock.{MadeMacroblock}
+use Rattle.decode_macroblock.specs.declared.compensation.Motion.{Motion}
+use Rattle.decode_macroblock.specs.Macroblock.{MadeMacroblock, predictedOnlyFrom}
 use Rattle.decode_macroblock.specs.Rows.{macroblockRows, rowsOf}
 use Rattle.format3_header.specs.declared.file_start.FileStart.the-variants as FileStart
 use Rattle.format3_picture.specs.Picture.{pictureOf, symbolsOf}
@@ -31,11 +31,12 @@ use Rattle.format3_picture.specs.Reconstruction.{macroblocksOf}
 use Rattle.theorems_picture.specs.Applies.{Reached, Passing, fileStart, Applies}
 use Rattle.theorems_picture.specs.Worked.{rowCases, answers, expectations}
 
--- "skip a row of eight coefficients that are all zero": it adds 0 to the sum at every row q and column p of the residues (`doubleSum`)
+-- "skip a row of eight coefficients that are all zero": it adds 0 to the sum at every row q and column p of the residues. A sum is that of what its
+-- eight rows add (`doubleSum`)
 abbrev pub ZeroRow : Type 0
 ZeroRow =
     (c : List ℤ) (v : ℕ) → isZeroRow c v ≡ true
-    → (q p : ℕ) → sumTo (λ u. (factor p u *ℤ factor q v) *ℤ at c (8 * v + u)) 8 ≡ pos 0
+    → (q p : ℕ) → rowSum c q p v ≡ pos 0
 
 -- "so at most 8"
 abbrev pub AtMost8 : Type 0
@@ -62,6 +63,11 @@ pub record SumOverRecords (transform : List ℤ → ℕ → ℤ) (file forward b
   -- these macroblocks are the ones that clause 2.4.4 makes of the symbols (demand 2)
   pub of-symbols : reached .macroblocks ≡ macroblocksOf h (symbolsOf file h end)
 
+-- a macroblock of which no block is coded has none, and neither have skipped macroblocks
+pub record NoneIfNotCoded : Type 0 where
+  pub no-block : (c : List (List ℤ)) → macroblockRows noBlock c ≡ 0
+  pub skipped : (first n : ℕ) (m : Motion) → rowsOf (predictedOnlyFrom first n m) ≡ 0
+
 -- "the total over the macroblocks made"
 pub record TotalOverMade (transform : List ℤ → ℕ → ℤ) (file forward backward output : List ℕ) : Type 0 where
   pub sum : (h : Header) (end : ℕ) → fileStart file forward backward output ≡ FileStart.HeaderRead h end → SumOverRecords transform file forward backward output h end
@@ -76,7 +82,7 @@ pub record TotalOverMade (transform : List ℤ → ℕ → ℤ) (file forward ba
 abbrev pub PictureRows : Type 0
 PictureRows = (transform : List ℤ → ℕ → ℤ) (file forward backward output : List ℕ) → TotalOverMade transform file forward backward output
 
--- the number is the same by any inverse transform
+-- the number is the same with any inverse transform
 abbrev pub AnyTransform : Type 0
 AnyTransform =
     (transform other : List ℤ → ℕ → ℤ) (file forward backward output : List ℕ)
@@ -108,5 +114,8 @@ pub record WorkedRows : Type 0 where
   -- the entry: 0 rows if a number is out of range
   pub in-range : transformRows (eightRows (firstOnly (pos 2047))) ≡ 8
   pub out-of-range : transformRows (eightRows (firstOnly (pos 2048))) ≡ 0
-  -- five files: a level that is scaled to 0, a refused record, one after the last macroblock, no macroblock, and no header; and one intra macroblock
+  -- a macroblock of six such blocks, of which all are coded, or the first and the last
+  pub all-coded : macroblockRows allBlocks (replicate 6 (eightRows (firstOnly (pos 5)))) ≡ 48
+  pub two-coded : macroblockRows 33 (replicate 6 (eightRows (firstOnly (pos 5)))) ≡ 16
+  -- files: a level that is scaled to 0, a second record that is refused, one after the last macroblock, no macroblock, and no header
   pub files : answers rowCases ≡ expectations rowCases

@@ -1,4 +1,4 @@
--- Files worked by the definition: each of the refusals 1 to 21 and 23, and pictures that are accepted.
+-- Files worked by the definition: each of the refusals 1 to 21 and 23, pictures that are accepted, and the rows worked for pictures.
 use mathlib.Core.Bool.{false, cond}
 use mathlib.Core.List.{List, [], _∷_, _++_}
 use Prim.Native.Nat.{ℕ, suc}
@@ -165,12 +165,16 @@ abbrev twoP : List ℕ
 twoP = 3 ∷ recordWith 1 (2 ∷ 1 ∷ 2 ∷ 0 ∷ 1 ∷ 0 ∷ 0 ∷ []) ++ recordWith 2 (1 ∷ replicate 64 4) ++ recordWith 3 (1 ∷ 0 ∷ 0 ∷ [])
 
 -- a macroblock with its first block coded. Levels 1, -100 and 2 land in rows 0, 2 and 1; the first is scaled to 0, so two rows are worked
-abbrev pub twoRows : List ℕ
+abbrev twoRows : List ℕ
 twoRows = recordWith 4 (8 ∷ 0 ∷ 1 ∷ 32 ∷ 3 ∷ 0 ∷ 0 ∷ 1 ∷ 2 ∷ 255 ∷ 156 ∷ 0 ∷ 0 ∷ 2 ∷ [])
 
--- the same block coded twice, the second time with a byte too many
-abbrev pub fourRowsRefused : List ℕ
+-- two such blocks, and a byte too many after them
+abbrev fourRowsRefused : List ℕ
 fourRowsRefused = recordWith 4 (8 ∷ 0 ∷ 1 ∷ 48 ∷ 3 ∷ 0 ∷ 0 ∷ 1 ∷ 2 ∷ 255 ∷ 156 ∷ 0 ∷ 0 ∷ 2 ∷ 3 ∷ 0 ∷ 0 ∷ 1 ∷ 2 ∷ 255 ∷ 156 ∷ 0 ∷ 0 ∷ 2 ∷ 0 ∷ [])
+
+-- such a block, and a vector that points right of the picture
+abbrev twoRowsOutside : List ℕ
+twoRowsOutside = recordWith 4 (10 ∷ 0 ∷ 1 ∷ 1 ∷ 0 ∷ 0 ∷ 0 ∷ 32 ∷ 3 ∷ 0 ∷ 0 ∷ 1 ∷ 2 ∷ 255 ∷ 156 ∷ 0 ∷ 0 ∷ 2 ∷ [])
 
 abbrev rowCase : List ℕ → ℕ → ℕ → ℕ → ℕ → Case
 rowCase file = example file (replicate 768 9) [] (replicate 768 7)
@@ -179,16 +183,15 @@ abbrev pub rowCases : List Case
 rowCases =
     -- both macroblocks made: accepted, 2 and 2 rows
     rowCase (twoP ++ twoRows ++ twoRows) 0 119 2 4
-    -- the second is refused, and adds nothing
+    -- the second is refused, and adds nothing: by its last byte, and by its vector, which is tested last
     ∷ rowCase (twoP ++ twoRows ++ fourRowsRefused) 6 102 1 2
+    ∷ rowCase (twoP ++ twoRows ++ twoRowsOutside) 18 102 1 2
     -- a record after the last macroblock is refused: the whole total
     ∷ rowCase (twoP ++ twoRows ++ twoRows ++ twoRows) 5 119 2 4
     -- no macroblock is made
     ∷ rowCase twoP 7 85 0 0
     -- an output that is too short: no header is accepted
     ∷ example (twoP ++ twoRows ++ twoRows) (replicate 768 9) [] (replicate 767 7) 19 1 0 0
-    -- an intra macroblock: a DC of 1024 in each of its six blocks
-    ∷ example (intra ++ slice ++ grey) [] [] output 0 41 1 6
     ∷ []
 
 -- a transform of zeros: no answer depends on it

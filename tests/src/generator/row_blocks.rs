@@ -30,7 +30,7 @@ pub enum Shape {
     Column(usize),
 }
 
-/// Every set of rows that are worked; the others are all empty, or all have levels that are scaled to 0. The sets fall, so that a row
+/// Every set of rows that are worked; the others are all empty, or all have levels that are scaled to 0. The sets are in falling order, so that a row
 /// left over from one block shows in the next.
 pub fn all_rows(intra: bool) -> impl Iterator<Item = [Row; 8]> {
     let falling = |other| (0..=u8::MAX).rev().map(move |mask| rows_of(mask, other));

@@ -66,7 +66,7 @@ pub fn all_row_kinds() -> Vec<RowKind> {
     kinds
 }
 
-/// "At most 48 a macroblock."
+/// "at most 48 a macroblock"
 const MOST_ROWS: usize = 48;
 
 /// Whether a DC is 0, and what the rest of its row holds.

@@ -13,8 +13,7 @@ use Rattle.math.specs.Bound.{at, AllWithin}
 use Rattle.math.proofs.Bound.{within-eq}
 use Rattle.math.proofs.Machine.{returned}
 use Rattle.math.specs.Tab.{tab}
-use Rattle.decode_coefficients.specs.Marks.{isDcAlone}
-use Rattle.decode_coefficients.proofs.RowMarks.{ac-marked}
+use Rattle.decode_coefficients.proofs.MarkLaws.{isDcAlone, ac-marked}
 use Rattle.decode_idct.proofs.DcAlone.{dc-residues, dc-rows}
 use Rattle.decode_idct.proofs.Passes.{pass-within, passes}
 use Rattle.decode_idct.specs.Line.{passResult, residueOf}

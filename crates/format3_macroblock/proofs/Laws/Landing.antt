@@ -15,7 +15,7 @@ use Rattle.symbols.proofs.Parsed.{all-at, after, nothing-after, after-after}
 use Rattle.decode_coefficients.specs.declared.block.BlockCoding.{BlockCoding}
 use Rattle.decode_coefficients.specs.Block.{PositionedLevel, rasterIndex, scaledLevel, withLevel, withPairs, blockCoefficients}
 use Rattle.decode_coefficients.specs.Marks.{Marked, withCoefficient}
-use Rattle.decode_coefficients.proofs.RowMarks.{marked-set}
+use Rattle.decode_coefficients.proofs.MarkLaws.{marked-set}
 use Rattle.decode_coefficients.specs.SoFar.{HoldsSoFar}
 use Rattle.decode_coefficients.proofs.SoFar.{after-append, none-read, one-more as one-pair-more, next-zero, one-block, holds-so-far, first-inside}
 use Rattle.format3_macroblock.specs.Pairs.{pairOf, pairsOf, pairsBeforeRefusal}
@@ -25,7 +25,7 @@ use Rattle.format3_macroblock.proofs.Laws.Pairs.{pair-legal, none-left,
 use Rattle.format3_macroblock.proofs.Laws.Blocks.{first-near}
 
 module _ (c : BlockCoding) (matrix : List ℕ) (count : ℕ) (body : List ℕ) (start : List ℤ) where
-  -- before each pair and after the last: the block holds the scaled levels of the pairs read so far, its rows are marked, and these pairs plus those
+  -- before each pair and after the last: the block holds the scaled levels of the pairs read so far, the marks are its own, and these pairs plus those
   -- still to be read are all pairs
   pub record BetweenPairs (block : List ℤ) (marks left next at : ℕ) : Type 0 where
     pub near : next ≤ 64

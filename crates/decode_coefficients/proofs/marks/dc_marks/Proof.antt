@@ -5,7 +5,7 @@ use native.Mathlib.Omega.{arith}
 use mir.Syntax.{w16}
 use mir.ValLaws.{toZ-ofZ}
 use Rattle.decode_coefficients.specs.Block.{dcBlock}
-use Rattle.decode_coefficients.proofs.RowMarks.{none-marked, marked-set}
+use Rattle.decode_coefficients.proofs.MarkLaws.{none-marked, marked-set}
 use Rattle.decode_coefficients.proofs.marks.dc_marks.Statement.{statement}
 use Rattle.decode_coefficients.proofs.marks.dc_marks.Tie as tie
 

@@ -5,7 +5,7 @@ use native.Mathlib.Omega.{arith}
 use mir.Syntax.{w16}
 use mir.ValLaws.{toZ-ofZ}
 use Rattle.decode_coefficients.specs.Marks.{Marked}
-use Rattle.decode_coefficients.proofs.RowMarks.{none-marked, firstOf, none-of, marked-all, marked-more}
+use Rattle.decode_coefficients.proofs.MarkLaws.{none-marked, firstOf, none-of, marked-all, marked-more}
 use Rattle.decode_coefficients.proofs.marks.marks_of.Statement.{statement}
 use Rattle.decode_coefficients.proofs.marks.marks_of.Tie as tie
 

@@ -11,7 +11,7 @@ use lib.IntN.{pos}
 use Rattle.math.specs.Test.{countBelow}
 use Rattle.math.proofs.Test.{count-none, count-more, count-most}
 use Rattle.decode_coefficients.specs.Rows.{isZeroRow, rowsWorked}
-use Rattle.decode_coefficients.proofs.RowMarks.{row-marked}
+use Rattle.decode_coefficients.proofs.MarkLaws.{row-marked}
 use Rattle.decode_idct.proofs.Columns.{Columns, columns-none, columns-more, columns-skip, columns-all}
 use Rattle.decode_idct.proofs.Passes.{zero-row}
 use Rattle.decode_idct.specs.Line.{passResult}

@@ -12,7 +12,7 @@ use Rattle.symbols.specs.Parsed.{value, ParsesAs}
 use Rattle.symbols.specs.Pattern.{isCoded}
 use Rattle.decode_coefficients.specs.Block.{dcBlock}
 use Rattle.decode_coefficients.specs.Dc.{dcPastOf}
-use Rattle.decode_coefficients.proofs.RowMarks.{block-stored}
+use Rattle.decode_coefficients.proofs.MarkLaws.{block-stored}
 use Rattle.format3_macroblock.specs.Landing.{pairsResult}
 use Rattle.format3_macroblock.specs.Decoding.{oneBlockCoding, readDcOf, dcResult, levelsInto}
 use Rattle.format3_macroblock.proofs.Laws.Blocks.{past-legal}

@@ -6,7 +6,7 @@ use borrow.Author.Needs.{needs}
 use lib.ListN.{drop, length-drop}
 use Rattle.symbols.specs.Parsed.{value, ParsesAs}
 use Rattle.decode_coefficients.specs.Marks.{BlocksMarked}
-use Rattle.decode_coefficients.proofs.RowMarks.{none-stored}
+use Rattle.decode_coefficients.proofs.MarkLaws.{none-stored}
 use Rattle.format3_records.proofs.Laws.Field.{rest-from}
 use Rattle.format3_macroblock.specs.Decoding.{blockInto, progressResult}
 use Rattle.format3_macroblock.proofs.Laws.BlockArray.{BetweenBlocks, at-start, ends, stops, one-more}

@@ -21,11 +21,11 @@ use Rattle.math.specs.Limit.{eqZ}
 use Rattle.math.proofs.Scatter.{scatter-length, scatter-at, scatter-other}
 use Rattle.math.specs.Tab.{tab}
 use Rattle.math.proofs.Tab.{tab-length, tab-at}
-use Rattle.math.specs.Test.{countBelow}
+use Rattle.math.specs.Test.{allBelow, countBelow}
 use Rattle.math.proofs.Test.{clash, all-pass, all-passed, count-ext}
 use Rattle.decode_coefficients.specs.BlockArray.{blockIn, putBlock}
 use Rattle.decode_coefficients.specs.Rows.{isZeroRow, rowsWorked}
-use Rattle.decode_coefficients.specs.Marks.{isDcAlone, hasMark, Marked, hasRow, hasAc, withCoefficient, BlocksMarked}
+use Rattle.decode_coefficients.specs.Marks.{hasMark, Marked, hasRow, hasAc, withCoefficient, BlocksMarked}
 
 -- ---- bits of a power of 2, and of two marks together
 set-bit : (k : ℕ) → hasMark (2 ^ k) k ≡ true
@@ -131,10 +131,10 @@ module _ (c : List ℤ) where
   pub marked-all : {marks : ℕ} → Marked (firstOf 64) marks → Marked c marks
   marked-all = same-marks all-of
 
-  pub zero-next : (k : ℕ) → k < 64 → at (firstOf k) k ≡ pos 0
+  zero-next : (k : ℕ) → k < 64 → at (firstOf k) k ≡ pos 0
   zero-next k h = tab-at 64 (firstValue k) k (pos 0) h ∙ rw (le-ltb k k (omega arith))
 
-  pub one-more-of : (k : ℕ) → k < 64 → firstOf (k + 1) ≡ set (firstOf k) k (at c k)
+  one-more-of : (k : ℕ) → k < 64 → firstOf (k + 1) ≡ set (firstOf k) k (at c k)
   one-more-of k h =
       ext-getD (pos 0) (firstOf (k + 1)) (set (firstOf k) k (at c k)) (tab-length 64 (firstValue (k + 1)) ∙ sym (length-set (firstOf k) k (at c k) ∙ tab-length 64 (firstValue k)))
       (λ j low. let small : j < 64 = omega (arith, tab-length 64 (firstValue (k + 1))) in tab-at 64 (firstValue (k + 1)) j (pos 0) small ∙ value j small (ℕ-discrete j k))
@@ -151,6 +151,10 @@ module _ (c : List ℤ) where
   marked-more k h p = rw (one-more-of k h) (marked-set p (tab-length 64 (firstValue k)) k h (zero-next k h) (at c k))
 
 -- ---- rows and AC coefficients
+-- whether all AC coefficients are 0
+unfoldable pub isDcAlone : List ℤ → Bool
+isDcAlone c = allBelow 63 (λ k. eqZ (at c (1 + k)) (pos 0))
+
 -- a number of n bits is 0 if none of them is set
 half-bit : (m k : ℕ) → hasMark (m / 2) k ≡ hasMark m (1 + k)
 unfolding hasMark
