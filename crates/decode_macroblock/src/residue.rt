@@ -1,9 +1,8 @@
 // The residue of a coded block, added to its prediction.
 ghost use mathlib.Core.Path.{_≡_};
 ghost use Prim.Native.Nat.{_<_};
-ghost use Rattle.decode_coefficients.specs.Requires.{BlocksInRange};
+ghost use Rattle.decode_coefficients.specs.Requires.{Transformable};
 ghost use Rattle.decode_coefficients.specs.Rows.{rowsWorked};
-ghost use Rattle.decode_coefficients.specs.Marks.{BlocksMarked};
 ghost use Rattle.decode_coefficients.specs.BlockArray.{blockIn, sixBlocks};
 ghost use Rattle.decode_idct.specs.Transform.{inverseTransform, residuesBy};
 ghost use Rattle.decode_macroblock.specs.Pel.{reconstructedBlock};
@@ -37,7 +36,7 @@ pub(crate) fn reconstruct_coded_block(
     marks: &[u64; 6],
     block: usize,
 ) -> Reconstructed
-    requires { ⌜ BlocksInRange (sixBlocks (now coefficients)) × BlocksMarked (now coefficients) (now marks) × (block < 6) ⌝ }
+    requires { ⌜ Transformable (now coefficients) (now marks) × (block < 6) ⌝ }
     ensures { λ r. ⌜ r .pels ≡ reconstructedBlock predicted (residuesBy inverseTransform (coefficientsAt (sixBlocks (now (coefficients .entry))) block)) ⌝ }
     ensures { λ r. ⌜ r .rows ≡ rowsWorked (coefficientsAt (sixBlocks (now (coefficients .entry))) block) ⌝ }
 {
@@ -58,7 +57,7 @@ pub(crate) fn add_residue(
     marks: &[u64; 6],
     block: usize,
 ) -> Reconstructed
-    requires { ⌜ BlocksInRange (sixBlocks (now coefficients)) × BlocksMarked (now coefficients) (now marks) × (block < 6) ⌝ }
+    requires { ⌜ Transformable (now coefficients) (now marks) × (block < 6) ⌝ }
     ensures { λ r. ⌜ r .pels ≡ withResidue inverseTransform pattern (sixBlocks (now (coefficients .entry))) block predicted ⌝ }
     ensures { λ r. ⌜ r .rows ≡ blockRows pattern (sixBlocks (now (coefficients .entry))) block ⌝ }
 {

@@ -6,9 +6,8 @@ ghost use Prim.Native.Nat.{_≤_, _<_};
 ghost use lib.ListN.{length, replicate};
 ghost use Rattle.symbols.specs.Size.{pictureBytes};
 ghost use Rattle.symbols.specs.Pattern.{isCoded};
-ghost use Rattle.decode_coefficients.specs.Requires.{BlocksInRange};
+ghost use Rattle.decode_coefficients.specs.Requires.{Transformable};
 ghost use Rattle.decode_coefficients.specs.BlockArray.{sixBlocks};
-ghost use Rattle.decode_coefficients.specs.Marks.{BlocksMarked};
 ghost use Rattle.decode_idct.specs.Transform.{inverseTransform, residuesBy};
 ghost use Rattle.decode_macroblock.specs.Pel.{reconstructedBlock};
 ghost use Rattle.decode_macroblock.specs.Location.{blockLocation, readAt, putAt};
@@ -144,7 +143,7 @@ fn add_residue_at(
     marks: &[u64; 6],
     block: usize,
 ) -> usize
-    requires { ⌜ Inside position × (length (now output) ≡ pictureBytes (position .size)) × BlocksInRange (sixBlocks (now coefficients)) × BlocksMarked (now coefficients) (now marks) × (block < 6) ⌝ }
+    requires { ⌜ Inside position × (length (now output) ≡ pictureBytes (position .size)) × Transformable (now coefficients) (now marks) × (block < 6) ⌝ }
     ensures { λ _. ⌜ now (output .exit) ≡ cond (isCoded pattern block) (putAt (blockLocation position block) (reconstructedBlock (readAt (blockLocation position block) (now (output .entry))) (residuesBy inverseTransform (coefficientsAt (sixBlocks (now (coefficients .entry))) block))) (now (output .entry))) (now (output .entry)) ⌝ }
     ensures { λ r. ⌜ r ≡ blockRows pattern (sixBlocks (now (coefficients .entry))) block ⌝ }
 {
@@ -170,7 +169,7 @@ fn write_inter(
     coefficients: &[i16; 384],
     marks: &[u64; 6],
 ) -> usize
-    requires { ⌜ BlocksWritable position motion (now forward) (now backward) (now output) × BlocksInRange (sixBlocks (now coefficients)) × BlocksMarked (now coefficients) (now marks) ⌝ }
+    requires { ⌜ BlocksWritable position motion (now forward) (now backward) (now output) × Transformable (now coefficients) (now marks) ⌝ }
     ensures { λ _. ⌜ now (output .exit) ≡ withBlocks position (pelsOf inverseTransform (references (now (forward .entry)) (now (backward .entry))) position motion pattern (sixBlocks (now (coefficients .entry)))) 6 (now (output .entry)) ⌝ }
     ensures { λ r. ⌜ r ≡ macroblockRows pattern (sixBlocks (now (coefficients .entry))) ⌝ }
 {
@@ -191,7 +190,7 @@ fn write_intra_block(
     marks: &[u64; 6],
     block: usize,
 ) -> usize
-    requires { ⌜ Inside position × (length (now output) ≡ pictureBytes (position .size)) × BlocksInRange (sixBlocks (now coefficients)) × BlocksMarked (now coefficients) (now marks) × (block < 6) ⌝ }
+    requires { ⌜ Inside position × (length (now output) ≡ pictureBytes (position .size)) × Transformable (now coefficients) (now marks) × (block < 6) ⌝ }
     ensures { λ _. ⌜ now (output .exit) ≡ putAt (blockLocation position block) (withResidue inverseTransform pattern (sixBlocks (now (coefficients .entry))) block (replicate 64 0)) (now (output .entry)) ⌝ }
     ensures { λ r. ⌜ r ≡ blockRows pattern (sixBlocks (now (coefficients .entry))) block ⌝ }
 {
@@ -210,7 +209,7 @@ fn write_intra(
     coefficients: &[i16; 384],
     marks: &[u64; 6],
 ) -> usize
-    requires { ⌜ Inside position × (length (now output) ≡ pictureBytes (position .size)) × BlocksInRange (sixBlocks (now coefficients)) × BlocksMarked (now coefficients) (now marks) ⌝ }
+    requires { ⌜ Inside position × (length (now output) ≡ pictureBytes (position .size)) × Transformable (now coefficients) (now marks) ⌝ }
     ensures { λ _. ⌜ now (output .exit) ≡ withBlocks position (λ block. withResidue inverseTransform pattern (sixBlocks (now (coefficients .entry))) block (replicate 64 0)) 6 (now (output .entry)) ⌝ }
     ensures { λ r. ⌜ r ≡ macroblockRows pattern (sixBlocks (now (coefficients .entry))) ⌝ }
 {
@@ -233,7 +232,7 @@ pub fn write_macroblock(
     coefficients: &[i16; 384],
     marks: &[u64; 6],
 ) -> usize
-    requires { ⌜ Writable size address motion (now forward) (now backward) (now output) × BlocksInRange (sixBlocks (now coefficients)) × BlocksMarked (now coefficients) (now marks) ⌝ }
+    requires { ⌜ Writable size address motion (now forward) (now backward) (now output) × Transformable (now coefficients) (now marks) ⌝ }
     ensures { λ _. ⌜ now (output .exit) ≡ withMacroblock inverseTransform (references (now (forward .entry)) (now (backward .entry))) size (record { address = address; motion = motion; pattern = pattern; coefficients = sixBlocks (now (coefficients .entry)) }) (now (output .entry)) ⌝ }
     ensures { λ r. ⌜ r ≡ macroblockRows pattern (sixBlocks (now (coefficients .entry))) ⌝ }
 {

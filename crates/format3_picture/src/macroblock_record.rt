@@ -3,8 +3,7 @@ ghost use mathlib.Core.Path.{_≡_};
 ghost use mathlib.Core.List.{[]};
 ghost use Prim.Native.Nat.{_≤_};
 ghost use Rattle.decode_coefficients.specs.Matrices.{matricesOf};
-ghost use Rattle.decode_coefficients.specs.Requires.{BlocksInRange};
-ghost use Rattle.decode_coefficients.specs.Marks.{BlocksMarked};
+ghost use Rattle.decode_coefficients.specs.Requires.{Transformable};
 ghost use Rattle.decode_coefficients.specs.BlockArray.{sixBlocks};
 ghost use Rattle.decode_idct.specs.Transform.{inverseTransform};
 ghost use Rattle.decode_macroblock.specs.Compensation.{references};
@@ -157,7 +156,7 @@ fn write_coded(
     backward: &[u8],
     output: &mut [u8],
 ) -> RecordOutcome
-    requires { ⌜ PlanWritable picture plan (now forward) (now backward) (now output) × (verdict ≡ fitVerdict (recordFit (picture .header .size) plan)) × BlocksInRange (sixBlocks (now coefficients)) × BlocksMarked (now coefficients) (now marks) ⌝ }
+    requires { ⌜ PlanWritable picture plan (now forward) (now backward) (now output) × (verdict ≡ fitVerdict (recordFit (picture .header .size) plan)) × Transformable (now coefficients) (now marks) ⌝ }
     ensures { λ r. ⌜ r ≡ outcomeOf (planApplied picture plan (sixBlocks (now (coefficients .entry)))) ⌝ }
     ensures { λ _. ⌜ now (output .exit) ≡ withApplied inverseTransform (references (now (forward .entry)) (now (backward .entry))) picture (planApplied picture plan (sixBlocks (now (coefficients .entry)))) (now (output .entry)) ⌝ }
 {

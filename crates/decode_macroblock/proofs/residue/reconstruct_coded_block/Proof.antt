@@ -31,9 +31,9 @@ element-copy-out-inverse-transform c = search needs
 inverse-transform-requires : tie.Need-inverse-transform-requires
 inverse-transform-requires c κs =
     let s = c .before .before in
-    let own = tab-at 6 (blockIn (s .args .coefficients .now)) (s .args .block) [] (s .pre .2) in
+    let own = tab-at 6 (blockIn (s .args .coefficients .now)) (s .args .block) [] (s .pre .1) in
     rw (c .before .block-coefficients .ensures)
-    (rw (← own) (all-between-within (s .pre .0 .all (s .args .block)) (within-literal tt) (within-literal tt)), s .pre .1 .each (s .args .block) (s .pre .2))
+    (rw (← own) (all-between-within (s .pre .0 .in-range .all (s .args .block)) (within-literal tt) (within-literal tt)), s .pre .0 .marked .each (s .args .block) (s .pre .1))
 
 reconstruct-block-requires : tie.Need-reconstruct-block-requires
 reconstruct-block-requires c κs = rw (c .before .inverse-transform .ensures .0) (residues-within _ _)
@@ -43,7 +43,7 @@ returns c =
     let s = c .before .before .before .before .before in
     let own = c .before .before .before .before .block-coefficients .ensures in
     let transformed = c .before .before .inverse-transform .ensures in
-    rw (tab-at 6 (blockIn (s .args .coefficients .now)) (s .args .block) [] (s .pre .2))
+    rw (tab-at 6 (blockIn (s .args .coefficients .now)) (s .args .block) [] (s .pre .1))
     (c .reconstruct-block .ensures ∙ rw (transformed .0, own), transformed .1 ∙ ap rowsWorked own)
 
 pub reconstruct-coded-block-spec : {M : Type 1} → statement M

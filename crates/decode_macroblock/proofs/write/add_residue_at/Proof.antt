@@ -21,7 +21,7 @@ block-location-requires c κs = search needs
 read-requires : tie.Need-read-requires
 read-requires c κs =
     let s = c .before .before .before .before .before in
-    rw (c .before .block-location .ensures, s .pre .1) (location-inside (s .args .position) (s .args .block) (s .pre .0) (s .pre .4))
+    rw (c .before .block-location .ensures, s .pre .1) (location-inside (s .args .position) (s .args .block) (s .pre .0) (s .pre .3))
 
 reconstruct-coded-block-requires : tie.Need-reconstruct-coded-block-requires
 reconstruct-coded-block-requires c κs = search needs
@@ -30,7 +30,7 @@ put-requires : tie.Need-put-requires
 put-requires c κs =
     let at-location = c .before .before .before .before .before in
     let s = at-location .before .before .before .before in
-    rw (at-location .block-location .ensures, s .pre .1) (location-inside (s .args .position) (s .args .block) (s .pre .0) (s .pre .4))
+    rw (at-location .block-location .ensures, s .pre .1) (location-inside (s .args .position) (s .args .block) (s .pre .0) (s .pre .3))
 
 same-length : tie.Need-same-length
 same-length c = search needs

@@ -42,7 +42,7 @@ add-residue-at-requires : tie.Need-add-residue-at-requires Inv-loop μ-loop
 add-residue-at-requires c κs =
     let predict = c .before .before .before .before .before in
     let s = predict .before .before .before .before .before in
-    (s .pre .0 .inside, c .before .before .loop .inv .2 ∙ predict .predict-blocks .kept .0 ∙ s .pre .0 .lent .output-whole, s .pre .1, s .pre .2, c .before .loop-test .taken)
+    (s .pre .0 .inside, c .before .before .loop .inv .2 ∙ predict .predict-blocks .kept .0 ∙ s .pre .0 .lent .output-whole, s .pre .1, c .before .loop-test .taken)
 
 add-rows : tie.Need-add-rows Inv-loop μ-loop
 add-rows c =

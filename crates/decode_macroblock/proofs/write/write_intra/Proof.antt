@@ -31,7 +31,7 @@ loop-holds c = (omega arith, blocks-none _ _ _, refl, sym (total-tab-none _))
 write-intra-block-requires : tie.Need-write-intra-block-requires Inv-loop μ-loop
 write-intra-block-requires c κs =
     let s = c .before .before .before .before in
-    (s .pre .0, c .before .before .loop .inv .2 ∙ s .pre .1, s .pre .2, s .pre .3, c .before .loop-test .taken)
+    (s .pre .0, c .before .before .loop .inv .2 ∙ s .pre .1, s .pre .2, c .before .loop-test .taken)
 
 add-rows : tie.Need-add-rows Inv-loop μ-loop
 add-rows c =

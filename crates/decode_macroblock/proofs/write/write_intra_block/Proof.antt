@@ -15,7 +15,7 @@ put-requires : tie.Need-put-requires
 put-requires c κs =
     let at-location = c .before .before .before in
     let s = at-location .before .before in
-    rw (at-location .block-location .ensures, s .pre .1) (location-inside (s .args .position) (s .args .block) (s .pre .0) (s .pre .4))
+    rw (at-location .block-location .ensures, s .pre .1) (location-inside (s .args .position) (s .args .block) (s .pre .0) (s .pre .3))
 
 same-length : tie.Need-same-length
 same-length c = search needs

@@ -18,7 +18,7 @@ write-intra-requires : tie.Need-write-intra-requires
 write-intra-requires c κs =
     let at-position = c .before .before .before .before .before in
     let s = at-position .before .before .before .before in
-    rw (at-position .macroblock-position .ensures) (position-inside (s .args .address) (s .pre .0 .size) (s .pre .0 .inside), s .pre .0 .lent .output-whole, s .pre .1, s .pre .2)
+    rw (at-position .macroblock-position .ensures) (position-inside (s .args .address) (s .pre .0 .size) (s .pre .0 .inside), s .pre .0 .lent .output-whole, s .pre .1)
 
 same-length : tie.Need-same-length
 same-length c = c .before .before .write-intra .kept .0
@@ -39,7 +39,7 @@ write-inter-requires : tie.Need-write-inter-requires
 write-inter-requires c κs =
     let at-position = c .before .before .before in
     let s = at-position .before .before .before .before in
-    (rw (at-position .macroblock-position .ensures) (blocks-drawable (s .pre .0)), s .pre .1, s .pre .2)
+    (rw (at-position .macroblock-position .ensures) (blocks-drawable (s .pre .0)), s .pre .1)
 
 same-length-2 : tie.Need-same-length-2
 same-length-2 c = c .before .before .write-inter .kept .0

@@ -100,8 +100,10 @@ write-coded-requires c κs =
       subst (λ (x : Plan). PlanWritable (a .picture) x (a .forward .now) (a .backward .now) (a .output .now)) (sym (plan-is (c .before .before .before)))
           (makeable (a .picture) _ (s .pre .0 .state) (given-legal (s .pre .1)) (s .pre .0 .lent)),
       s .pre .3 ∙ ap fitVerdict (sym (ap (recordFit (a .picture .header .size)) (c .before .before .before .with-dc .ensures) ∙ same-fit (a .picture .header .size) (a .start) (c .before .before .before .before .dc-pasts-left .result))),
-      read (c .before .before .before .before .before .before .before) .in-range,
-      c .before .before .before .before .before .before .before .before .before .read-blocks-to-end .ensures .1,
+      record {
+        in-range = read (c .before .before .before .before .before .before .before) .in-range;
+        marked = c .before .before .before .before .before .before .before .before .before .read-blocks-to-end .ensures .1;
+      },
     )
 
 same-length : tie.Need-same-length

@@ -39,7 +39,6 @@ write-macroblock-requires c κs =
         lent = record { forward-whole = p .lent .own-lent .forward-whole; backward-whole = p .lent .own-lent .backward-whole; output-whole = c .before .before .before .write-skipped .kept .1 .1 .1 .1 .0 ∙ p .lent .own-lent .output-whole };
       },
       c .before .before .before .before .before .before .before .before .before .before .before .before .before .pre .2,
-      c .before .before .before .before .before .before .before .before .before .before .before .before .before .pre .3,
     )
 
 state-after-requires : tie.Need-state-after-requires
