@@ -89,7 +89,8 @@ enum format3_answer {
     FORMAT3_REFUSED_BACKWARD_VECTOR_OUTSIDE = 23,
     FORMAT3_REFUSED_SLICE_CODE = 24,
     FORMAT3_REFUSED_SLICE_CUT = 25,
-    FORMAT3_REFUSED_RECORDS_LENGTH = 26
+    FORMAT3_REFUSED_RECORDS_LENGTH = 26,
+    FORMAT3_REFUSED_MACROBLOCK_LIMIT = 27
 };
 
 /* What an answer means, in English. */
@@ -150,6 +151,8 @@ static inline const char *format3_answer_text(uint32_t answer)
         return "a raw slice ends before its first macroblock is complete, or within a later one";
     case FORMAT3_REFUSED_RECORDS_LENGTH:
         return "the records of a raw slice don't fit the buffer";
+    case FORMAT3_REFUSED_MACROBLOCK_LIMIT:
+        return "the picture has more macroblocks than the reader's limit";
     default:
         return "an answer that this header does not know";
     }
@@ -157,14 +160,17 @@ static inline const char *format3_answer_text(uint32_t answer)
 /* The end of what is made from answers.tsv. */
 
 /* Limits and sizes. A picture is at most FORMAT3_MAX_WIDTH macroblocks wide, FORMAT3_MAX_HEIGHT high and
- * FORMAT3_MAX_MACROBLOCKS in all, and has FORMAT3_MACROBLOCK_BYTES per macroblock. The records that format3_read_slice writes
- * for a slice of M coded macroblocks have at most FORMAT3_SLICE_RECORD_BYTES + M x FORMAT3_MAX_MACROBLOCK_RECORD_BYTES bytes.
- * A damaged slice may have more macroblocks than its picture; format3_reconstruct refuses every file with such a slice, so
- * room for the macroblocks of the picture is enough. (This last sentence is read off the rules, not proved.) */
+ * FORMAT3_MAX_MACROBLOCKS in all, and has FORMAT3_MACROBLOCK_BYTES per macroblock. format3_reconstruct_small takes at most
+ * FORMAT3_MAX_MACROBLOCKS_SMALL in all; every other function keeps to FORMAT3_MAX_MACROBLOCKS.
+ * The records that format3_read_slice writes for a slice of M coded macroblocks have at most
+ * FORMAT3_SLICE_RECORD_BYTES + M x FORMAT3_MAX_MACROBLOCK_RECORD_BYTES bytes. A damaged slice may have more macroblocks than
+ * its picture; the readers refuse every file with such a slice, so room for the macroblocks of the picture is enough.
+ * (This last sentence is read off the rules, not proved.) */
 enum format3_limit {
     FORMAT3_MAX_WIDTH = 48,
     FORMAT3_MAX_HEIGHT = 36,
     FORMAT3_MAX_MACROBLOCKS = 396,
+    FORMAT3_MAX_MACROBLOCKS_SMALL = 99,
     FORMAT3_MACROBLOCK_BYTES = 384,
     FORMAT3_SLICE_RECORD_BYTES = 6,
     FORMAT3_MAX_MACROBLOCK_RECORD_BYTES = 1174
@@ -173,11 +179,13 @@ enum format3_limit {
 /* The most stack that a call takes, in bytes, with its return address and its arguments. It is not proved, but measured, and
  * worked out from the machine code (tests/stack.sh). A frame of more than 4096 bytes touches each page as it grows, so a
  * call that runs out of stack faults on the guard page below it and damages nothing.
+ * What the two readers of pictures take depends neither on their limits nor on the size of the picture.
  * format3_read_slice takes at most FORMAT3_STACK_DEFAULT if it refuses its parameters (8).
  * What a dynamic linker needs to look up a function at its first call is not included: link with -z now, or statically. */
 enum format3_stack {
     FORMAT3_STACK_READ_SLICE = 20480,
     FORMAT3_STACK_RECONSTRUCT = 4096,
+    FORMAT3_STACK_RECONSTRUCT_SMALL = 4096,
     FORMAT3_STACK_TRANSFORM = 2048,
     FORMAT3_STACK_DEFAULT = 1024 /* every other function */
 };
@@ -208,9 +216,9 @@ struct format3_header {
 
 /* Reads a file's header, for example to know which references and how much output to lend.
  *
- * Returns 0 to 8. If it refuses a file, all fields are 0, and format3_reconstruct gives the same answer, whatever its
- * buffers. If it accepts one, format3_reconstruct can refuse it only for the lengths of its buffers or for what comes after
- * the header. */
+ * Returns 0 to 8. If it refuses a file, all fields are 0, and format3_reconstruct and format3_reconstruct_small give the same
+ * answer, whatever their buffers. If it accepts one, these can refuse it only for the lengths of their buffers or for what
+ * comes after the header, and format3_reconstruct_small also for its limit (27). */
 FORMAT3_USE_RESULT FORMAT3_NOT_NULL(3)
 uint32_t format3_read_header(const uint8_t *file, size_t file_length, struct format3_header *FORMAT3_RESTRICT header);
 
@@ -259,6 +267,23 @@ uint32_t format3_reconstruct(
     uint8_t *FORMAT3_RESTRICT output, size_t output_length,
     struct format3_picture_result *FORMAT3_RESTRICT result);
 
+/* The same reader with a smaller limit, for a device that has memory only for pictures of FORMAT3_MAX_MACROBLOCKS_SMALL
+ * macroblocks. The output and each reference never need more than FORMAT3_MAX_MACROBLOCKS_SMALL x FORMAT3_MACROBLOCK_BYTES
+ * bytes, which is 38016.
+ *
+ * Returns 0 to 21, 23 or 27.
+ *   27  format3_read_header accepts the file's header, but the picture has more than FORMAT3_MAX_MACROBLOCKS_SMALL
+ *       macroblocks. This is tested before the lengths of the buffers (19, 20 and 21), so it is the answer whatever was lent.
+ *       `place` is 1, `made` and `rows` are 0, and every byte of the output is as it was before the call.
+ * For every other file it gives the same answer, the same result and the same bytes as format3_reconstruct. */
+FORMAT3_USE_RESULT FORMAT3_NOT_NULL(9)
+uint32_t format3_reconstruct_small(
+    const uint8_t *file, size_t file_length,
+    const uint8_t *forward, size_t forward_length,
+    const uint8_t *backward, size_t backward_length,
+    uint8_t *FORMAT3_RESTRICT output, size_t output_length,
+    struct format3_picture_result *FORMAT3_RESTRICT result);
+
 /* The numbers of a picture's header that its slices are read with: width and height in macroblocks (at least 1, and within
  * `enum format3_limit`), a number of `enum format3_coding_type`, and the f_codes. An f_code is 1..7 if pictures of that type
  * use its direction (P forward, B both), else 0. */
@@ -281,12 +306,12 @@ struct format3_slice_result {
 /* Turns the bytes of one slice of an MPEG-1 video stream, from its start code 00 00 01 on, into Format 3 records by the
  * tables of Annex B of ISO/IEC 11172-2: one slice record, then a record for each coded macroblock, one after another from
  * the start of `records`. A version byte, a header of the same numbers, the matrices, and then the records of all slices
- * of a picture make a file for `format3_reconstruct`.
+ * of a picture make a file for `format3_reconstruct` or `format3_reconstruct_small`.
  *
  * A slice is its start code, with its row counted from 1; the quantizer scale; extra information; and macroblocks until
  * only zero bits are left, or none. Stuffing and extra information are dropped. Escapes are added to the address
  * increment. The first increment goes into the slice record's start address, (row - 1) x width + increment - 1, and the
- * first macroblock's record carries 1. Values that the tables can carry but `format3_reconstruct` refuses are written as
+ * first macroblock's record carries 1. Values that the tables can carry but a reader of pictures refuses are written as
  * read: a scale of 0, an address past the picture, a skip in an I picture, a DC out of range, a vector that does not fit.
  *
  * The start code counts as one code, as do a coefficient with its sign and an escape with its run and level; otherwise

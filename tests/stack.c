@@ -30,6 +30,9 @@ enum measured {
     READ_SLICE_PARAMETERS,
     RECONSTRUCT,
     RECONSTRUCT_REFUSED,
+    RECONSTRUCT_SMALL,
+    RECONSTRUCT_SMALL_REFUSED,
+    RECONSTRUCT_SMALL_LIMIT,
     TRANSFORM,
     READ_HEADER,
     SHOW_RECORD,
@@ -51,6 +54,9 @@ static struct {
     [READ_SLICE_PARAMETERS] = {"format3_read_slice, refused with 8", FORMAT3_STACK_DEFAULT, 0, 0},
     [RECONSTRUCT] = {"format3_reconstruct, accepted", FORMAT3_STACK_RECONSTRUCT, 0, 0},
     [RECONSTRUCT_REFUSED] = {"format3_reconstruct, refused", FORMAT3_STACK_RECONSTRUCT, 0, 0},
+    [RECONSTRUCT_SMALL] = {"format3_reconstruct_small, accepted", FORMAT3_STACK_RECONSTRUCT_SMALL, 0, 0},
+    [RECONSTRUCT_SMALL_REFUSED] = {"format3_reconstruct_small, refused", FORMAT3_STACK_RECONSTRUCT_SMALL, 0, 0},
+    [RECONSTRUCT_SMALL_LIMIT] = {"format3_reconstruct_small, refused with 27", FORMAT3_STACK_RECONSTRUCT_SMALL, 0, 0},
     [TRANSFORM] = {"format3_transform", FORMAT3_STACK_TRANSFORM, 0, 0},
     [READ_HEADER] = {"format3_read_header", FORMAT3_STACK_DEFAULT, 0, 0},
     [SHOW_RECORD] = {"format3_show_record", FORMAT3_STACK_DEFAULT, 0, 0},
@@ -159,6 +165,14 @@ static void call_reconstruct(void)
         picture.output, picture.output_length, picture.result);
 }
 
+static void call_reconstruct_small(void)
+{
+    FRAME_HERE();
+    number = format3_reconstruct_small(
+        bytes, length, picture.forward, picture.forward_length, picture.backward, picture.backward_length,
+        picture.output, picture.output_length, picture.result);
+}
+
 static struct {
     const struct format3_picture_parameters *parameters;
     uint8_t *records;
@@ -250,9 +264,15 @@ static void try_damaged(const uint8_t *original, size_t original_length, void (*
     }
 }
 
+/* Tries both readers; what is left is what format3_reconstruct gives. */
 static void try_reconstruct(void)
 {
-    size_t used = measure(call_reconstruct);
+    size_t used = measure(call_reconstruct_small);
+    if (number == FORMAT3_ACCEPTED)
+        count(RECONSTRUCT_SMALL, used);
+    else
+        count(number == FORMAT3_REFUSED_MACROBLOCK_LIMIT ? RECONSTRUCT_SMALL_LIMIT : RECONSTRUCT_SMALL_REFUSED, used);
+    used = measure(call_reconstruct);
     count(number == FORMAT3_ACCEPTED ? RECONSTRUCT : RECONSTRUCT_REFUSED, used);
 }
 

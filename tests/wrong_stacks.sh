@@ -51,6 +51,13 @@ format3_reconstruct:
     add $0x10,%rsp
     ret
 
+    .globl format3_reconstruct_small
+format3_reconstruct_small:
+    push %rax
+    call deep
+    pop %rax
+    ret
+
     .globl format3_transform
 format3_transform:
     add $-0x80,%rsp
@@ -81,6 +88,7 @@ format3_read_header:
     movslq (%r13,%rdi,4),%rdx
     add %r13,%rdx
     mov 0x8(%rsp),%r13
+    mov %rdi,0x10(%rsp)
     jmp *%rdx
 3:  ret
 format3_show_record:
@@ -100,6 +108,7 @@ stack: format3_non_intra_coefficient 8 bytes
 stack: format3_read_header 8 bytes
 stack: format3_read_slice, accepted 14584 bytes
 stack: format3_reconstruct, accepted 2048 bytes
+stack: format3_reconstruct_small, accepted 2040 bytes
 stack: format3_show_record 8 bytes
 stack: format3_transform 136 bytes
 stack: format3_vector 24 bytes
@@ -161,6 +170,8 @@ edits=(
     '^frames: format3_read_header: an indirect jump' library.s 's/mov 0x8\(%rsp\),%r13/mov 0x8(%rsp),%rdx/'
     '^frames: format3_read_header: an indirect jump' library.s 's/mov 0x8\(%rsp\),%r13/mov 0x8(%rsp),%edx/'
     '^frames: format3_read_header: an indirect jump' library.s 's/mov 0x8\(%rsp\),%r13/mov %r13,%rdx/'
+    '^frames: format3_read_header: an indirect jump' library.s 's/mov %rdi,0x10\(%rsp\)/mov %rdi,%rdx/'
+    '^frames: format3_read_header: an indirect jump' library.s 's/mov %rdi,0x10\(%rsp\)/mov %rdi,0x10(%rdx)/'
     '^frames: format3_vector: an indirect jump' library.s 's/je shallow/notrack jmp *%rcx/'
     'format3_vector .*on any path  TOO MUCH$' library.s 's/je shallow/je deep/'
     'format3_vector .*on any path  TOO MUCH$' library.s 's/je shallow/jmp deep/'
@@ -182,6 +193,7 @@ edits=(
     '^frames: format3_read_slice: the stack is changed by sub$' library.s 's/sub \$0x100,%rsp/&\n sub %rax,%rsp/'
     '^frames: format3_read_slice: the stack is changed by leave$' library.s 's/^ *pop %rbp/leave/'
     'format3_reconstruct .*on any path  TOO MUCH$' library.s 's/sub \$0x8,%rsp/sub $0xf00,%rsp/'
+    'format3_reconstruct_small .*on any path  TOO MUCH$' library.s '/^format3_reconstruct_small:/a \    sub $0xf00,%rsp'
 
     # Which functions there are.
     '^stack: format3_vector is not worked out$' library.s 's/format3_vector/vector/'
@@ -189,10 +201,14 @@ edits=(
     '^stack: format3_vector is not measured$' measured '/format3_vector/d'
     '^stack: format3_vector is not measured$' measured d
     '^stack: format3_more is not measured$' library.s 's/^shallow:/.globl format3_more\nformat3_more:\n&/'
+    '^stack: format3_reconstruct_small is not worked out$' library.s 's/format3_reconstruct_small/small/'
+    '^stack: format3_reconstruct_small is not measured$' measured '/format3_reconstruct_small/d'
     '^stack: format3_vector takes more than frames.awk has found$' measured 's/(format3_vector) 24/\1 89/'
 
     # The limits.
     'format3_read_slice .*on any path  TOO MUCH$' include/format3.h 's/(STACK_READ_SLICE =) [0-9]+/\1 14583/'
+    'format3_reconstruct .*on any path  TOO MUCH$' include/format3.h 's/(STACK_RECONSTRUCT =) [0-9]+/\1 2047/'
+    'format3_reconstruct_small .*on any path  TOO MUCH$' include/format3.h 's/(STACK_RECONSTRUCT_SMALL =) [0-9]+/\1 2039/'
     'format3_transform .*on any path  TOO MUCH$' include/format3.h 's/(STACK_TRANSFORM =) [0-9]+/\1 135/'
     'format3_vector .*on any path  TOO MUCH$' include/format3.h 's/(STACK_DEFAULT =) [0-9]+/\1 23/'
 )
@@ -200,12 +216,14 @@ for ((k = 0; k < ${#edits[@]}; k += 3)); do
     require_edit_refused "${edits[@]:k:3}"
 done
 
-# A limit below what is measured. The difference is for the compiler; the machine code is compared with the number before it.
+# Limits below what is measured. The difference is for the compiler; the machine code is compared with the number before it.
 measured_passes() {
     ./stack.sh "$1" > "$scratch/printed" 2>&1
 }
 rm -rf "${wrong:?}/lib"
 ln -s "$folder/lib" "$wrong/lib"
-sed -E 's/(STACK_TRANSFORM = [0-9]+)/\1 - 1024/' "$folder/include/format3.h" > "$wrong/include/format3.h"
-require_refused 'format3_transform .* calls  TOO MUCH$' 'a limit below what is measured' measured_passes "$wrong"
+for limited in 'TRANSFORM format3_transform' 'RECONSTRUCT_SMALL format3_reconstruct_small, accepted'; do
+    sed -E "s/(STACK_${limited%% *} = )([0-9]+)/\1\2 - \2 * 3 \/ 4/" "$folder/include/format3.h" > "$wrong/include/format3.h"
+    require_refused "${limited#* } .* calls  TOO MUCH\$" "a limit below what is measured" measured_passes "$wrong"
+done
 echo "stack: $changes wrong libraries and limits refused"

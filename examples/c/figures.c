@@ -134,13 +134,21 @@ static void records(void)
     shown(0, 0, FORMAT3_REFUSED_RECORD_CUT, 0, 0, 0);
 }
 
-static void picture(size_t file_length, size_t output_length, uint32_t number, long expected_place, long expected_made)
+/* What format3_reconstruct and format3_reconstruct_small are. */
+typedef uint32_t reader(
+    const uint8_t *file, size_t file_length, const uint8_t *forward, size_t forward_length,
+    const uint8_t *backward, size_t backward_length, uint8_t *FORMAT3_RESTRICT output, size_t output_length,
+    struct format3_picture_result *FORMAT3_RESTRICT result);
+
+static void picture(
+    reader *reconstruct, const uint8_t *file, size_t file_length, size_t output_length, uint32_t number,
+    long expected_place, long expected_made)
 {
     uint8_t output[FORMAT3_MACROBLOCK_BYTES];
     struct format3_picture_result result = {9, 9, 9};
     memset(output, 7, sizeof output);
     expect_answer("picture answer", number,
-        format3_reconstruct(GREY, file_length, NULL, 0, NULL, 0, output, output_length, &result));
+        reconstruct(file, file_length, NULL, 0, NULL, 0, output, output_length, &result));
     expect("place", expected_place, (long)result.place);
     expect("made", expected_made, (long)result.made);
     expect("rows", GREY_ROWS * expected_made, (long)result.rows);
@@ -148,13 +156,25 @@ static void picture(size_t file_length, size_t output_length, uint32_t number, l
         expect("pel", expected_made == 1 ? 128 : 7, output[k]);
 }
 
+/* The same by both readers. */
+static void grey_picture(size_t file_length, size_t output_length, uint32_t number, long expected_place, long expected_made)
+{
+    picture(format3_reconstruct, GREY, file_length, output_length, number, expected_place, expected_made);
+    picture(format3_reconstruct_small, GREY, file_length, output_length, number, expected_place, expected_made);
+}
+
+/* The header of an I picture, 10 macroblocks wide and 10 high: one more than the small reader takes. */
+static const uint8_t LARGE[11] = {3, 0, 8, 1, 10, 10, 1, 0, 0, 0, 0};
+
 static void pictures(void)
 {
-    picture(sizeof GREY, 384, FORMAT3_ACCEPTED, 41, 1);
-    picture(sizeof GREY, 383, FORMAT3_REFUSED_OUTPUT_LENGTH, 1, 0);
-    picture(sizeof GREY - 1, 384, FORMAT3_REFUSED_RECORD_CUT, 17, 0);
-    picture(17, 384, FORMAT3_REFUSED_FILE_ENDS, 17, 0);
-    picture(0, 384, FORMAT3_REFUSED_FILE_EMPTY, 0, 0);
+    grey_picture(sizeof GREY, 384, FORMAT3_ACCEPTED, 41, 1);
+    grey_picture(sizeof GREY, 383, FORMAT3_REFUSED_OUTPUT_LENGTH, 1, 0);
+    grey_picture(sizeof GREY - 1, 384, FORMAT3_REFUSED_RECORD_CUT, 17, 0);
+    grey_picture(17, 384, FORMAT3_REFUSED_FILE_ENDS, 17, 0);
+    grey_picture(0, 384, FORMAT3_REFUSED_FILE_EMPTY, 0, 0);
+    picture(format3_reconstruct, LARGE, sizeof LARGE, 384, FORMAT3_REFUSED_OUTPUT_LENGTH, 1, 0);
+    picture(format3_reconstruct_small, LARGE, sizeof LARGE, 384, FORMAT3_REFUSED_MACROBLOCK_LIMIT, 1, 0);
 }
 
 /* The grey picture as one slice: scale 8, an intra macroblock, no coefficients. */

@@ -7,7 +7,7 @@ use std::fmt::Debug;
 use crate::decoder::panel::{play, text, PANEL_LIMITS};
 use crate::decoder::refusals::Refusal;
 use crate::decoder::vectors::f_of;
-use crate::decoder::{reconstruct, Answer, Entries, ENTRIES};
+use crate::decoder::{reconstruct, Answer, Entries, Reconstruct, ENTRIES};
 use crate::generator::{case, reel, small_cases, Case};
 use crate::program::Program;
 use crate::random::Random;
@@ -15,10 +15,38 @@ use crate::random::Random;
 /// How often each answer occurred.
 pub type Counts = BTreeMap<u32, usize>;
 
-/// The answers that a picture can get: 0 to 21, and 23.
+/// What the two readers answer to a picture.
+#[derive(Clone, Copy, Debug)]
+pub struct Answers {
+    /// Of the reader that takes 396 macroblocks.
+    pub large: Answer,
+    /// Of the reader that takes 99.
+    pub small: Answer,
+}
+
+/// How often the two readers gave each answer.
+#[derive(Debug, Default)]
+pub struct ReaderCounts {
+    pub large: Counts,
+    pub small: Counts,
+}
+
+impl ReaderCounts {
+    pub(crate) fn add(&mut self, answers: Answers) {
+        *self.large.entry(answers.large.number).or_default() += 1;
+        *self.small.entry(answers.small.number).or_default() += 1;
+    }
+}
+
+/// The answers that a picture can get from the reader that takes 396 macroblocks: 0 to 21, and 23.
 pub fn picture_answers() -> impl Iterator<Item = u32> {
     let backward_vector = Refusal::BackwardVectorOutside.number();
     (0..=Refusal::BackwardLength.number()).chain([backward_vector])
+}
+
+/// The answers that a picture can get from the small reader: these, and 27.
+pub fn small_picture_answers() -> impl Iterator<Item = u32> {
+    picture_answers().chain([Refusal::MacroblockLimit.number()])
 }
 
 /// The answers that a header can get: 0 to 8.
@@ -52,15 +80,14 @@ pub(crate) fn require_same<T: PartialEq + Debug>(
     ))
 }
 
-/// Compares pictures by seed and number: the answer and every byte of the output, also for refused pictures, the header, and
-/// some records.
-pub fn pictures(tested: &Entries, seed: u64, count: u64) -> Result<Counts, String> {
-    let mut counts = Counts::new();
+/// Compares pictures by seed and number: each reader's answer and every byte of its output, also for refused pictures, the header,
+/// and some records.
+pub fn pictures(tested: &Entries, seed: u64, count: u64) -> Result<ReaderCounts, String> {
+    let mut counts = ReaderCounts::default();
     for number in 0..count {
         let case = case(seed, number);
         let what = || format!("picture {number} of seed {seed}");
-        let answer = same_picture(tested, &case, what)?;
-        *counts.entry(answer.number).or_default() += 1;
+        counts.add(same_picture(tested, &case, what)?);
         let random = &mut Random::new(&[seed, number, 1]);
         same_records_shown(tested, &case.file, random)?;
     }
@@ -91,8 +118,9 @@ const STARTS: [[u8; 11]; 3] = [
     [3, 0, 8, 1, 1, 1, 3, 0, 1, 0, 1],
 ];
 
-/// Compares the headers of files that are a version and a header: each type cut after each byte; with each byte set to every
-/// value, alone and with a small number in the byte after it; and every width and height.
+/// Compares the headers of files that are a version and a header, and what the readers answer to them if nothing is lent: each type
+/// cut after each byte; with each byte set to every value, alone and with a small number in the byte after it; and every width and
+/// height.
 pub fn headers(tested: &Entries) -> Result<Counts, String> {
     let mut files: Vec<Vec<u8>> = Vec::new();
     for start in STARTS {
@@ -110,9 +138,11 @@ pub fn headers(tested: &Entries) -> Result<Counts, String> {
     let sizes = (0..=255).flat_map(|width| (0..=255).map(move |height| (width, height)));
     files.extend(sizes.map(|(width, height)| vec![3, 0, 8, 1, width, height, 1, 0, 0, 0, 0]));
     let mut counts = Counts::new();
-    for file in &files {
-        let answer = same_header(tested, file, || format!("header of {file:02x?}"))?;
+    for case in files.into_iter().map(Case::with_nothing_lent) {
+        let what = || format!("header of {:02x?}", case.file);
+        let answer = same_header(tested, &case.file, what)?;
         *counts.entry(answer).or_default() += 1;
+        same_answers(tested, &case, what)?;
     }
     Ok(counts)
 }
@@ -128,19 +158,41 @@ fn same_header(
     Ok(ours.0)
 }
 
-/// The answer, if both give the same answer and bytes, and read the same header.
+/// The answers of the two readers, if both implementations give the same answers and bytes, and read the same header.
 pub(crate) fn same_picture(
     tested: &Entries,
+    case: &Case,
+    what: impl Fn() -> String,
+) -> Result<Answers, String> {
+    same_header(tested, &case.file, || format!("header of {}", what()))?;
+    same_answers(tested, case, what)
+}
+
+/// The answers of the two readers, if both implementations give the same answers and bytes.
+fn same_answers(
+    tested: &Entries,
+    case: &Case,
+    what: impl Fn() -> String,
+) -> Result<Answers, String> {
+    let large = same_answer(tested, |entries| entries.reconstruct, case, &what)?;
+    let by_small = || format!("{}, by the small reader", what());
+    let small = same_answer(tested, |entries| entries.reconstruct_small, case, by_small)?;
+    Ok(Answers { large, small })
+}
+
+/// The answer of a reader, if that of both implementations gives the same answer and bytes.
+fn same_answer(
+    tested: &Entries,
+    reader: fn(&Entries) -> Reconstruct,
     case: &Case,
     what: impl Fn() -> String,
 ) -> Result<Answer, String> {
     let run = |entries: &Entries| {
         let mut output = case.output.clone();
-        let answer = (entries.reconstruct)(&case.file, &case.forward, &case.backward, &mut output);
+        let answer = reader(entries)(&case.file, &case.forward, &case.backward, &mut output);
         (answer, output)
     };
     let (ours, theirs) = (run(&ENTRIES), run(tested));
-    same_header(tested, &case.file, || format!("header of {}", what()))?;
     require_same(&what, ours.0, theirs.0)?;
     require_same_bytes(&what, &ours.1, &theirs.1)?;
     Ok(ours.0)

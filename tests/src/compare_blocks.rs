@@ -12,7 +12,7 @@ use crate::records::{lengths_before, macroblock_records, MacroblockRecord};
 pub fn blocks(tested: &Entries, seed: u64) -> Result<Compared<Stage>, String> {
     let told = |number| format!("picture {number} of blocks of seed {seed}");
     let stages = |case: &Case, _| stages(&case.file);
-    let compared = compare_cases(tested, &stage_cases(seed), told, stages)?;
+    let compared = compare_cases(tested, stage_cases(seed), told, stages)?;
     require_every_stage(&compared.kinds)?;
     Ok(compared)
 }

@@ -3,8 +3,8 @@
 use std::collections::BTreeMap;
 use std::fmt::Debug;
 
-use crate::compare::{same_picture, Counts};
-use crate::decoder::{Answer, Entries};
+use crate::compare::{same_picture, Answers, ReaderCounts};
+use crate::decoder::Entries;
 use crate::generator::Case;
 
 /// How often each kind occurred.
@@ -12,27 +12,29 @@ pub type KindCounts<Kind> = BTreeMap<Kind, usize>;
 
 /// What was compared.
 pub struct Compared<Kind> {
-    pub answers: Counts,
+    pub answers: ReaderCounts,
     pub kinds: KindCounts<Kind>,
 }
 
-/// Compares each case, and counts the kinds that it has, given the other decoder's answer. A case is told by its number.
+/// Compares each case, and counts the kinds that it has, given the other decoder's answers. A case is told by its number.
 pub(crate) fn compare_cases<Kind: Ord>(
     tested: &Entries,
-    cases: &[Case],
+    cases: impl IntoIterator<Item = Case>,
     told: impl Fn(usize) -> String,
-    kinds_of: fn(&Case, Answer) -> Vec<Kind>,
+    kinds_of: fn(&Case, Answers) -> Vec<Kind>,
 ) -> Result<Compared<Kind>, String> {
-    let mut answers = Counts::new();
-    let mut kinds = KindCounts::new();
-    for (number, case) in cases.iter().enumerate() {
-        let answer = same_picture(tested, case, || told(number))?;
-        *answers.entry(answer.number).or_default() += 1;
-        for kind in kinds_of(case, answer) {
-            *kinds.entry(kind).or_default() += 1;
+    let mut compared = Compared {
+        answers: ReaderCounts::default(),
+        kinds: KindCounts::new(),
+    };
+    for (number, case) in cases.into_iter().enumerate() {
+        let answers = same_picture(tested, &case, || told(number))?;
+        compared.answers.add(answers);
+        for kind in kinds_of(&case, answers) {
+            *compared.kinds.entry(kind).or_default() += 1;
         }
     }
-    Ok(Compared { answers, kinds })
+    Ok(compared)
 }
 
 /// Fails if one of these kinds never occurred; `what` has none.

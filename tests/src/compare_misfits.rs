@@ -15,7 +15,7 @@ use crate::records::{macroblock_records, MacroblockRecord};
 pub fn misfits(tested: &Entries, seed: u64) -> Result<Compared<Arrangement>, String> {
     let told = |number| format!("misfit {number} of seed {seed}");
     let arrangements = |case: &Case, _| arrangements(&case.file);
-    let compared = compare_cases(tested, &misfit_cases(seed), told, arrangements)?;
+    let compared = compare_cases(tested, misfit_cases(seed), told, arrangements)?;
     require_every_arrangement(&compared.kinds)?;
     Ok(compared)
 }

@@ -1,6 +1,6 @@
 //! Compares the count of rows that the transform works: over pictures, and for single blocks.
 
-use crate::compare::same_transform;
+use crate::compare::{same_transform, Answers};
 use crate::compare_cases::{compare_cases, require_every, Compared, KindCounts};
 use crate::decoder::coefficients::{from_zigzag, Block};
 use crate::decoder::macroblock::{CodedBlock, Macroblock};
@@ -16,7 +16,8 @@ use crate::records::{macroblock_records, made_and_refused, MacroblockRecord};
 /// its answer.
 pub fn rows(tested: &Entries, seed: u64) -> Result<Compared<RowKind>, String> {
     let told = |number| format!("picture {number} of rows of seed {seed}");
-    let compared = compare_cases(tested, &row_cases(seed), told, row_kinds)?;
+    let kinds = |case: &Case, answers: Answers| row_kinds(case, answers.large);
+    let compared = compare_cases(tested, row_cases(seed), told, kinds)?;
     require_every_row_kind(&compared.kinds)?;
     Ok(compared)
 }

@@ -5,7 +5,10 @@ use std::fs;
 use std::path::{Path, PathBuf};
 
 use crate::decoder::panel::{play, text, Line, NO_LIMITS};
+use crate::decoder::refusals::Refusal;
+use crate::decoder::size::MAX_MACROBLOCKS_SMALL;
 use crate::decoder::{Entries, FileStart, Given, ReadHeader, ReadSlice, Reconstruct, SliceAnswer};
+use crate::generator::HEADER_END;
 use crate::records::{macroblock_records, MacroblockRecord};
 use crate::sha256;
 use crate::stream;
@@ -203,6 +206,14 @@ impl StreamFixture {
         }
     }
 
+    /// Checks that the small reader makes the expected pictures of the reel if they are within its limit, and else refuses each.
+    pub fn check_small(&self, reconstruct_small: Reconstruct) -> Result<(), String> {
+        let mut lines = play(&self.reel, NO_LIMITS, reconstruct_small);
+        lines.iter_mut().for_each(add_hash);
+        let expected: String = self.expected.lines().map(small_line).collect();
+        same_lines(&self.name, &expected, &text(&lines))
+    }
+
     /// Checks that each answer has the rows of its file's macroblocks, as the other decoder reads them. All pictures are accepted.
     fn check_rows(&self, lines: &[Line]) -> Result<(), String> {
         let files = stream::files_of_reel(&self.reel)?;
@@ -268,8 +279,18 @@ impl StreamFixture {
     }
 }
 
-/// A version of 1 byte, and a header's record: 2 bytes of length, the kind and 7 bytes.
-const HEADER_END: usize = 11;
+/// What is expected of the small reader where this is expected of the other one, which accepts the picture.
+fn small_line(line: &str) -> String {
+    let columns: Vec<&str> = line.split(' ').collect();
+    let [number, letter, _, _, made, ..] = columns[..] else {
+        panic!("not the columns of a picture: {line}");
+    };
+    if number_of::<usize>(made) <= MAX_MACROBLOCKS_SMALL {
+        return format!("{line}\n");
+    }
+    let refusal = Refusal::MacroblockLimit.number();
+    format!("{number} {letter} {refusal} 1 0 - - -\n")
+}
 
 /// What a buffer holds before a slice is read, so that each byte written or left untouched shows.
 fn pattern(length: usize) -> Vec<u8> {

@@ -10,7 +10,17 @@ use crate::decoder::{Answer, Given, SliceAnswer, Transformed};
 /// The library's entries.
 pub const ENTRIES: Entries = Entries {
     read_header,
-    reconstruct,
+    reconstruct: |file, forward, backward, output| {
+        reconstruct(raw::format3_reconstruct, file, [forward, backward], output)
+    },
+    reconstruct_small: |file, forward, backward, output| {
+        reconstruct(
+            raw::format3_reconstruct_small,
+            file,
+            [forward, backward],
+            output,
+        )
+    },
     transform,
     intra_coefficient: |level, scale, weight| {
         coefficient(raw::format3_intra_coefficient, level, scale, weight)
@@ -46,7 +56,13 @@ fn read_header(file: &[u8]) -> (u32, FileStart) {
     (number, start)
 }
 
-fn reconstruct(file: &[u8], forward: &[u8], backward: &[u8], output: &mut [u8]) -> Answer {
+fn reconstruct(
+    entry: raw::Reconstruct,
+    file: &[u8],
+    references: [&[u8]; 2],
+    output: &mut [u8],
+) -> Answer {
+    let [forward, backward] = references;
     let mut result = raw::PictureResult {
         place: UNWRITTEN,
         made: UNWRITTEN,
@@ -54,7 +70,7 @@ fn reconstruct(file: &[u8], forward: &[u8], backward: &[u8], output: &mut [u8]) 
     };
     // SAFETY: each pointer belongs to a live slice, with its length, or to a live struct, and what is written overlaps nothing.
     let number = unsafe {
-        raw::format3_reconstruct(
+        entry(
             file.as_ptr(),
             file.len(),
             forward.as_ptr(),

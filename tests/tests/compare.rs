@@ -6,6 +6,7 @@ use format3_tests::compare::{
     changed_fields, coefficients, headers, pictures, transforms, vectors,
 };
 use format3_tests::compare_blocks::blocks;
+use format3_tests::compare_limits::limits;
 use format3_tests::compare_misfits::misfits;
 use format3_tests::compare_room_slices::room_slices;
 use format3_tests::compare_rows::{row_masks, rows};
@@ -24,6 +25,7 @@ const SEED: u64 = 2;
 /// Makes all comparisons of entries, on few pictures, and gives the first difference.
 fn compare(tested: &Entries) -> Result<(), String> {
     pictures(tested, SEED, 200)?;
+    limits(tested, SEED)?;
     misfits(tested, SEED)?;
     blocks(tested, SEED)?;
     rows(tested, SEED)?;

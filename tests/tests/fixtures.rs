@@ -1,7 +1,7 @@
 //! Tests the other decoder against every fixture.
 
 use format3_tests::decoder::panel::{play, text, PANEL_LIMITS};
-use format3_tests::decoder::{reconstruct, Answer, Reconstruct, ENTRIES};
+use format3_tests::decoder::{reconstruct, reconstruct_small, Answer, Reconstruct, ENTRIES};
 use format3_tests::fixtures::{panel_fixtures, stream_fixtures};
 
 #[test]
@@ -17,6 +17,28 @@ fn streams_have_the_pictures_of_the_fixtures() {
     for fixture in stream_fixtures() {
         assert_eq!(fixture.check(reconstruct), Ok(()));
     }
+}
+
+/// Some streams are within the limit of the small reader, one of them with just 99 macroblocks, and some are not.
+#[test]
+fn streams_have_the_pictures_of_the_fixtures_within_the_small_limit() {
+    let mut found = Vec::new();
+    for fixture in stream_fixtures() {
+        assert_eq!(fixture.check_small(reconstruct_small), Ok(()));
+        // Without a limit, larger pictures are made.
+        let large = fixture.check_small(reconstruct).is_err();
+        found.push((fixture.name, large));
+    }
+    let expected = [
+        ("mat64", false),
+        ("n16_ipb", false),
+        ("pan352", true),
+        ("rd176", false),
+        ("sl352", true),
+        ("syn1x9", false),
+        ("t64_ipb", false),
+    ];
+    assert_eq!(found, expected.map(|(name, large)| (name.into(), large)));
 }
 
 #[test]

@@ -1,4 +1,4 @@
-//! Tests the other decoder against settled readings of document 01 and requests No. 1 and 6, where their words leave a choice.
+//! Tests the other decoder against settled readings of document 01 and requests No. 1, 4 and 6, where their words leave a choice.
 
 mod common;
 
@@ -6,7 +6,9 @@ use common::{file_of, I, SLICE};
 use format3_tests::decoder::entries::{FileStart, Shown};
 use format3_tests::decoder::panel::{play, text, PANEL_LIMITS};
 use format3_tests::decoder::refusals::Answer;
-use format3_tests::decoder::{reconstruct, Transformed, ENTRIES};
+use format3_tests::decoder::{
+    reconstruct, reconstruct_small, Given, Reconstruct, Transformed, ENTRIES,
+};
 
 /// The header of a P-picture of one macroblock.
 const P: &[u8] = &[1, 1, 1, 2, 0, 1, 0, 0];
@@ -105,6 +107,81 @@ fn what_is_lent() {
     assert_eq!(number(&predicted, 0, 384, 384), 20);
     assert_eq!(number(&predicted, 384, 384, 384), 21);
     assert_eq!(number(&predicted, 384, 0, 384), 0);
+}
+
+/// The answer of a reader to a file, if these many bytes are lent, and whether it changed the output.
+fn answer_to_lent(reader: Reconstruct, file: &[u8], lent: [usize; 3]) -> (Answer, bool) {
+    let [forward, backward, before] = lent.map(|length| vec![9; length]);
+    let mut output = before.clone();
+    let answer = reader(file, &forward, &backward, &mut output);
+    (answer, output != before)
+}
+
+/// A header of 10 by 10 macroblocks is refused by 27 whatever was lent and whatever follows it: at the header's place, with nothing
+/// made or written. The other reader tests the lengths, then reads on.
+#[test]
+fn above_the_small_limit() {
+    let p = &[1, 10, 10, 2, 0, 1, 0, 0];
+    let first = &[4, 2, 0, 1, 0, 0, 0, 0];
+    let skipping = &[4, 2, 0, 99, 0, 0, 0, 0];
+    let whole = file_of(&[p, SLICE, first, skipping]);
+    let refused = Answer {
+        number: 27,
+        place: 1,
+        made: 0,
+        rows: 0,
+    };
+    let right = [38_400, 0, 38_400];
+    for (file, lent, number) in [
+        (&whole[..], right, 0),
+        (&whole[..11], right, 7),
+        (&whole[..12], right, 3),
+        (&file_of(&[p, p]), right, 5),
+        (&whole, [38_400, 0, 38_016], 19),
+        (&whole, [0, 0, 38_400], 20),
+        (&whole, [38_400, 38_400, 38_400], 21),
+        (&whole, [0, 0, 0], 19),
+    ] {
+        let small = answer_to_lent(reconstruct_small, file, lent);
+        assert_eq!(small, (refused, false));
+        let (large, _) = answer_to_lent(reconstruct, file, lent);
+        assert_eq!(large.number, number);
+    }
+}
+
+/// What is refused by 8 or sooner is refused so by both readers: a size beyond 396 macroblocks, wrong codes with any size, and a
+/// header that is too short.
+#[test]
+fn refused_before_the_small_limit() {
+    for (header, number) in [
+        (&[1, 48, 9, 1, 0, 0, 0, 0][..], 8),
+        (&[1, 50, 2, 1, 0, 0, 0, 0], 8),
+        (&[1, 10, 10, 2, 0, 0, 0, 0], 8),
+        (&[1, 10, 10, 3, 0, 1, 0, 8], 8),
+        (&[1, 10, 10, 1, 0, 1, 0, 0], 8),
+        (&[1, 10, 10, 4, 0, 0, 0, 0], 8),
+        (&[1, 10, 10, 1, 0, 0, 0], 6),
+    ] {
+        for reader in [reconstruct, reconstruct_small] {
+            let (answer, _) = answer_to_lent(reader, &file_of(&[header]), [0, 0, 38_400]);
+            assert_eq!(answer.number, number, "{header:?}");
+        }
+    }
+}
+
+/// The reader of raw slices takes sizes up to 396 macroblocks: a start code alone is cut, not refused by its size.
+#[test]
+fn slices_keep_the_large_limit() {
+    let given = |width, height| Given {
+        width,
+        height,
+        picture_type: 1,
+        f_codes: [0, 0],
+    };
+    let number = |given| (ENTRIES.read_slice)(&[0, 0, 1, 1], given, &mut []).number;
+    assert_eq!(number(given(10, 10)), 25);
+    assert_eq!(number(given(22, 18)), 25);
+    assert_eq!(number(given(48, 9)), 8);
 }
 
 #[test]
@@ -471,8 +548,10 @@ fn headers_refused() {
     for (number, files) in refused {
         for file in files {
             assert_eq!((ENTRIES.read_header)(file), (number, zeros), "{file:?}");
-            // `reconstruct` gives the same answer, whatever is lent.
+            // The readers give the same answer, whatever is lent.
             assert_eq!(answer(file).0, number, "{file:?}");
+            let (small, _) = answer_to_lent(reconstruct_small, file, [0, 0, 0]);
+            assert_eq!(small.number, number, "{file:?}");
         }
     }
 }

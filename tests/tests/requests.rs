@@ -3,7 +3,7 @@
 use std::fs;
 use std::path::{Path, PathBuf};
 
-use format3_tests::decoder::{Answer, Entries, Reconstruct, Transform, Transformed, ENTRIES};
+use format3_tests::decoder::{Answer, Entries, Transform, Transformed, ENTRIES};
 use format3_tests::requests::notation::Unread;
 use format3_tests::requests::{
     found_in, request_of, run, CaseResult, Difference, Found, Landed, Report, RequestFile, Tested,
@@ -37,6 +37,28 @@ fn no01() -> Example {
         "2475f214d3577918",
     ];
     example("no01.txt", &case)
+}
+
+/// A case of No. 4: 10 by 10 macroblocks, which only one reader takes.
+fn no04() -> Example {
+    let case = [
+        "size/10x10-P",
+        "030008010a0a02000100000004030300000011040a00010000000021010000090102fff700080402006300000000",
+        "2443279853:38400",
+        "-",
+        "1:38400",
+        "0",
+        "46",
+        "100",
+        "2",
+        "61cb9b875f7e8591",
+        "27",
+        "1",
+        "0",
+        "0",
+        "8f4396704dfd776d",
+    ];
+    example("no04.txt", &case)
 }
 
 /// A case of No. 6: a macroblock whose six blocks have a DC alone.
@@ -143,9 +165,10 @@ fn the_decoder_gives_the_answers_of_the_cases() {
     let report = run_on_decoder(&found, LANDED);
     let lines = [
         "no01.txt: 306 cases, 0 differ",
+        "no04.txt: 322 cases, 0 differ",
         "no06-transform.txt: 206 cases, 0 differ",
         "no06.txt: 335 cases, 0 differ",
-        "requests: 847 cases, 0 differ",
+        "requests: 1169 cases, 0 differ",
     ];
     assert_report(&report, 0, &lines);
 }
@@ -159,7 +182,7 @@ fn every_file_of_a_landed_request_is_copied() {
 
 #[test]
 fn a_case_that_is_met_passes() {
-    for example in [no01(), no06(), no06_transform()] {
+    for example in [no01(), no04(), no06(), no06_transform()] {
         let lines = [
             &*format!("{}: 2 cases, 0 differ", example.name),
             "requests: 2 cases, 0 differ",
@@ -183,6 +206,34 @@ fn each_wrong_answer_differs() {
         ),
     ] {
         example.assert_differs(&example.line_with(field, text), expected, answer);
+    }
+}
+
+/// Of the answer of either reader, each field is looked at.
+#[test]
+fn each_wrong_answer_of_a_reader_differs() {
+    let example = no04();
+    let outcomes = |fields: &[String]| {
+        let outcome = |fields: &[String]| {
+            let [number, place, made, rows, sum] = fields else {
+                panic!("not an answer: {fields:?}");
+            };
+            format!("number {number}, place {place}, made {made}, rows {rows}, sum {sum}")
+        };
+        let (large, small) = fields.split_at(5);
+        let (large, small) = (outcome(large), outcome(small));
+        format!("{large}, by the small reader {small}")
+    };
+    let answer = outcomes(&example.case[5..]);
+    for field in 5..15 {
+        let text = match field {
+            9 | 14 => "8f4396704dfd776e",
+            _ => "3",
+        };
+        let mut expected = example.case.clone();
+        expected[field] = text.into();
+        let line = example.line_with(field, text);
+        example.assert_differs(&line, &outcomes(&expected[5..]), &answer);
     }
 }
 
@@ -215,30 +266,39 @@ fn each_wrong_answer_of_the_transform_differs() {
     }
 }
 
-/// The pictures are those that their seeds say.
+/// A reader that requires the inputs of the test below, and writes to the output.
+fn requires_inputs(file: &[u8], forward: &[u8], backward: &[u8], output: &mut [u8]) -> Answer {
+    assert_eq!(file, [0, 255]);
+    assert_eq!(forward, [0x6c, 0x82, 0xa5]);
+    assert_eq!(backward, [0xc4, 0xea, 0xb0, 0x5d]);
+    assert_eq!(output, [0x6c, 0x82]);
+    output.fill(0);
+    Answer {
+        number: 7,
+        place: 8,
+        made: 9,
+        rows: 10,
+    }
+}
+
+/// The pictures are those that their seeds say. The output is lent afresh to each reader.
 #[test]
 fn the_inputs_of_a_case_reach_the_entry() {
-    let reconstruct: Reconstruct = |file, forward, backward, output| {
-        assert_eq!(file, [0, 255]);
-        assert_eq!(forward, [0x6c, 0x82, 0xa5]);
-        assert_eq!(backward, [0xc4, 0xea, 0xb0, 0x5d]);
-        assert_eq!(output[..3], [0x6c, 0x82, 0xa5]);
-        Answer {
-            number: 7,
-            place: 8,
-            made: 9,
-            rows: 10,
-        }
-    };
     let entries = Entries {
-        reconstruct,
+        reconstruct: requires_inputs,
+        reconstruct_small: |file, forward, backward, output| Answer {
+            number: 6,
+            ..requires_inputs(file, forward, backward, output)
+        },
         ..ENTRIES
     };
-    let inputs = "# fields\nname\t00ff\t1:3\t2:4\t1:384";
-    let without_rows = format!("{inputs}\t7\t8\t9\tea2c49134a3df333");
-    let with_rows = format!("{inputs}\t7\t8\t9\t10\tea2c49134a3df333");
+    // The sum of two bytes 0.
+    let sum = "08328807b4eb6fed";
+    let inputs = "# fields\nname\t00ff\t1:3\t2:4\t1:2";
+    let with_rows = format!("{inputs}\t7\t8\t9\t10\t{sum}");
     let found = [
-        found("no01.txt", &without_rows),
+        found("no01.txt", &format!("{inputs}\t7\t8\t9\t{sum}")),
+        found("no04.txt", &format!("{with_rows}\t6\t8\t9\t10\t{sum}")),
         found("no06.txt", &with_rows),
     ];
     let report = run(&found, LANDED, tested_with(&entries));
@@ -280,6 +340,7 @@ fn a_line_that_is_not_a_case_fails() {
         (short, "8 fields, not 9"),
         (long, "10 fields, not 9"),
         (String::new(), "1 fields, not 9"),
+        (no04().line(), "15 fields, not 9"),
         (no06().line(), "10 fields, not 9"),
         (with(1, "03F0"), "no bytes: \"03F0\""),
         (with(2, "1"), "no picture: \"1\""),
@@ -292,6 +353,8 @@ fn a_line_that_is_not_a_case_fails() {
     ] {
         example.assert_not_run(&line, reason);
     }
+    no04().assert_not_run(&no06().line(), "10 fields, not 15");
+    no04().assert_not_run(&no04().line_with(10, "x"), "no number: \"x\"");
     no06().assert_not_run(&example.line(), "9 fields, not 10");
     no06().assert_not_run(
         &no06().line_with(8, "-1"),
@@ -337,6 +400,7 @@ fn report_on_wide(example: &Example, field: usize, text: &str) -> Report {
 fn a_wide_case_is_left_out_only_if_the_type_has_no_such_number() {
     for (example, field, too_wide) in [
         (no01(), 5, "4294967296"),
+        (no04(), 10, "4294967296"),
         (no06(), 8, "18446744073709551616"),
         (no06_transform(), 1, &*list("32768", "0")),
     ] {
@@ -348,6 +412,7 @@ fn a_wide_case_is_left_out_only_if_the_type_has_no_such_number() {
     }
     for (example, field, wide) in [
         (no01(), 5, "4294967295"),
+        (no04(), 10, "4294967295"),
         (no06(), 8, "18446744073709551615"),
         (no06_transform(), 1, &*list("32767", "0")),
     ] {
@@ -361,6 +426,7 @@ fn a_wide_case_is_left_out_only_if_the_type_has_no_such_number() {
 fn a_wide_case_that_is_malformed_fails() {
     for (example, field, malformed) in [
         (no01(), 5, "x"),
+        (no04(), 10, "x"),
         (no06(), 8, "x"),
         (no06_transform(), 1, "32768"),
         (no06_transform(), 1, &*list("32768", "x")),

@@ -87,7 +87,9 @@ impl Header {
 }
 
 /// Reads a file's header, for example to know how much output to lend. It refuses what [`reconstruct`](crate::reconstruct)
-/// refuses before it tests the lengths of its buffers.
+/// refuses before it tests the lengths of its buffers. Of the headers that it accepts,
+/// [`reconstruct_small`](crate::reconstruct_small) refuses those with more than
+/// [`MAX_MACROBLOCKS_SMALL`](crate::MAX_MACROBLOCKS_SMALL) macroblocks.
 ///
 /// ```
 /// use format3::{read_header, CodingType, Refusal};

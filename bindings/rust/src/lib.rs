@@ -10,6 +10,7 @@
 //! |---|---|
 //! | know how large a file's picture is | [`read_header`] |
 //! | reconstruct one picture | [`reconstruct`] |
+//! | reconstruct one picture on a device with little memory | [`reconstruct_small`] |
 //! | reconstruct a sequence, with its references | [`reel::Decoder`](reel) |
 //! | turn a slice of a video stream into records | [`read_slice`] |
 //! | step through the records of a file | [`show_record`] |
@@ -38,7 +39,7 @@ pub use api_version::API_VERSION;
 pub use calculation::{intra_coefficient, non_intra_coefficient, transform, vector, Transformed};
 pub use error::{RefusedPicture, RefusedSlice, VersionMismatch};
 pub use file::{read_header, show_record, CodingType, Header, Record, RecordKind};
-pub use picture::{reconstruct, Reconstructed};
+pub use picture::{reconstruct, reconstruct_small, Reconstructed};
 pub use refusal::Refusal;
 pub use slice::{read_slice, BitPosition, PictureParameters, ReadSlice};
 
@@ -50,6 +51,9 @@ pub const MAX_HEIGHT: usize = 36;
 
 /// The most macroblocks that a picture may have.
 pub const MAX_MACROBLOCKS: usize = 396;
+
+/// The most macroblocks that a picture may have for [`reconstruct_small`].
+pub const MAX_MACROBLOCKS_SMALL: usize = 99;
 
 /// The bytes of a macroblock in a picture: 256 of Y, 64 of Cb and 64 of Cr.
 pub const MACROBLOCK_BYTES: usize = 384;
@@ -66,8 +70,10 @@ pub const MAX_MACROBLOCK_RECORD_BYTES: usize = 1174;
 pub mod stack {
     /// For [`read_slice`](crate::read_slice).
     pub const READ_SLICE: usize = 20480;
-    /// For [`reconstruct`](crate::reconstruct).
+    /// For [`reconstruct`](crate::reconstruct), whatever the size of the picture.
     pub const RECONSTRUCT: usize = 4096;
+    /// For [`reconstruct_small`](crate::reconstruct_small), whatever the size of the picture.
+    pub const RECONSTRUCT_SMALL: usize = 4096;
     /// For [`transform`](crate::transform).
     pub const TRANSFORM: usize = 2048;
     /// For every other function.

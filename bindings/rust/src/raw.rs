@@ -79,6 +79,19 @@ pub struct SliceResult {
     pub bit: usize,
 }
 
+/// A reader of pictures: [`format3_reconstruct`] or [`format3_reconstruct_small`].
+pub type Reconstruct = unsafe extern "C" fn(
+    file: *const u8,
+    file_length: usize,
+    forward: *const u8,
+    forward_length: usize,
+    backward: *const u8,
+    backward_length: usize,
+    output: *mut u8,
+    output_length: usize,
+    result: *mut PictureResult,
+) -> u32;
+
 // The build script links the library.
 extern "C" {
     /// Returns the version of the interface that the library was built with.
@@ -97,6 +110,19 @@ extern "C" {
 
     /// Reconstructs the picture of a file.
     pub fn format3_reconstruct(
+        file: *const u8,
+        file_length: usize,
+        forward: *const u8,
+        forward_length: usize,
+        backward: *const u8,
+        backward_length: usize,
+        output: *mut u8,
+        output_length: usize,
+        result: *mut PictureResult,
+    ) -> u32;
+
+    /// Reconstructs the picture of a file, if it has at most 99 macroblocks.
+    pub fn format3_reconstruct_small(
         file: *const u8,
         file_length: usize,
         forward: *const u8,

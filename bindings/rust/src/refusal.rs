@@ -109,13 +109,17 @@ pub enum Refusal {
     ///
     /// Caused by the caller. Lend a longer buffer.
     RecordsLength,
+    /// 27: the picture has more macroblocks than the reader's limit.
+    ///
+    /// Caused by the encoder, or the caller. Encode at most 99 macroblocks a picture, or call the reader that takes 396.
+    MacroblockLimit,
     /// A number that this crate does not know, from a newer library.
     Unknown(u32),
 }
 
 impl Refusal {
     /// The refusals that this crate knows, in order of their numbers.
-    pub const ALL: [Refusal; 26] = [
+    pub const ALL: [Refusal; 27] = [
         Refusal::FileEmpty,
         Refusal::Version,
         Refusal::RecordCut,
@@ -142,6 +146,7 @@ impl Refusal {
         Refusal::SliceCode,
         Refusal::SliceCut,
         Refusal::RecordsLength,
+        Refusal::MacroblockLimit,
     ];
 
     /// What the number that a function of [`raw`](crate::raw) returned means: 0 is `Ok`.
@@ -186,6 +191,7 @@ impl Refusal {
             24 => Refusal::SliceCode,
             25 => Refusal::SliceCut,
             26 => Refusal::RecordsLength,
+            27 => Refusal::MacroblockLimit,
             _ => Refusal::Unknown(answer),
         })
     }
@@ -223,6 +229,7 @@ impl Refusal {
             Refusal::SliceCode => 24,
             Refusal::SliceCut => 25,
             Refusal::RecordsLength => 26,
+            Refusal::MacroblockLimit => 27,
             Refusal::Unknown(number) => number,
         }
     }
@@ -261,6 +268,7 @@ impl Refusal {
             Refusal::SliceCode => "a raw slice has bits that begin no code, a row outside the picture, or a code that goes too far",
             Refusal::SliceCut => "a raw slice ends before its first macroblock is complete, or within a later one",
             Refusal::RecordsLength => "the records of a raw slice don't fit the buffer",
+            Refusal::MacroblockLimit => "the picture has more macroblocks than the reader's limit",
             Refusal::Unknown(_) => "an answer that this crate does not know",
         }
     }

@@ -33,6 +33,7 @@ fn limits() {
         ("MAX_WIDTH", format3::MAX_WIDTH),
         ("MAX_HEIGHT", format3::MAX_HEIGHT),
         ("MAX_MACROBLOCKS", format3::MAX_MACROBLOCKS),
+        ("MAX_MACROBLOCKS_SMALL", format3::MAX_MACROBLOCKS_SMALL),
         ("MACROBLOCK_BYTES", format3::MACROBLOCK_BYTES),
         ("SLICE_RECORD_BYTES", format3::SLICE_RECORD_BYTES),
         (
@@ -48,6 +49,7 @@ fn stacks() {
     let stacks = [
         ("STACK_READ_SLICE", stack::READ_SLICE),
         ("STACK_RECONSTRUCT", stack::RECONSTRUCT),
+        ("STACK_RECONSTRUCT_SMALL", stack::RECONSTRUCT_SMALL),
         ("STACK_TRANSFORM", stack::TRANSFORM),
         ("STACK_DEFAULT", stack::DEFAULT),
     ];

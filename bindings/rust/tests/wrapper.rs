@@ -208,7 +208,7 @@ fn numbers_of_refusals() {
     for number in (1..100).chain([u32::MAX]) {
         let refusal = Refusal::check(number).unwrap_err();
         assert_eq!(refusal.number(), number);
-        let known = (1..=26).contains(&number);
+        let known = (1..=27).contains(&number);
         assert_eq!(Refusal::ALL.contains(&refusal), known);
         assert_eq!(refusal == Refusal::Unknown(number), !known);
     }

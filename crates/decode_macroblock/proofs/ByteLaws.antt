@@ -13,7 +13,7 @@ use Rattle.math.proofs.Tab.{tab-at}
 use Rattle.symbols.specs.Pattern.{isCoded}
 use Rattle.symbols.specs.declared.size.PictureSize.{PictureSize}
 use Rattle.symbols.specs.Requires.{SizeWithin}
-use Rattle.symbols.specs.Size.{macroblockCount, pictureBytes, startOfCb, startOfCr}
+use Rattle.symbols.specs.Size.{maxMacroblocks, macroblockCount, pictureBytes, startOfCb, startOfCr}
 use Rattle.decode_idct.specs.Transform.{limitedResidue, residuesBy}
 use Rattle.decode_macroblock.specs.Pel.{reconstructedBlock, reconstructedPel}
 use Rattle.decode_macroblock.specs.declared.location.MacroblockPosition.{MacroblockPosition}
@@ -91,21 +91,21 @@ module _ (p : MacroblockPosition) (inside : Inside p) (blocks : ℕ → List ℕ
       ]
 
 -- a byte of another macroblock is unchanged
-other-byte : (s : PictureSize) (size : SizeWithin 396 s) (address : ℕ) (inside : address < macroblockCount s) (blocks : ℕ → List ℕ) (n : ℕ) (l : List ℕ) (i : ℕ)
+other-byte : {limit : ℕ} (s : PictureSize) → limit ≤ maxMacroblocks → SizeWithin limit s → (address : ℕ) (inside : address < macroblockCount s) (blocks : ℕ → List ℕ) (n : ℕ) (l : List ℕ) (i : ℕ)
     → n ≤ 6 → length l ≡ pictureBytes s → (ownerOf s i ≡ address → ⊥) → getD (withBlocks (macroblockPosition s address) blocks n l) i 0 ≡ getD l i 0
 unfolding withBlocks
-other-byte s size address inside blocks zero l i h e other = refl
-other-byte s size address inside blocks (suc n) l i h e other =
+other-byte s bounded size address inside blocks zero l i h e other = refl
+other-byte s bounded size address inside blocks (suc n) l i h e other =
     let p = macroblockPosition s address in
-    let within = position-inside address size inside in
+    let within = position-inside address bounded size inside in
     let first = withBlocks p blocks n l in
     put-others (blockLocation p n) (blocks n) first i
     (holds p within blocks n first (omega arith) (blocks-length p within blocks n l (omega arith) e))
     (λ q. other (block-owner s size address i n (omega arith) q))
-    ∙ other-byte s size address inside blocks n l i (omega arith) e other
+    ∙ other-byte s bounded size address inside blocks n l i (omega arith) e other
 
 -- ---- a macroblock written at its address
-module _ (transform : List ℤ → ℕ → ℤ) (r : References) (s : PictureSize) (size : SizeWithin 396 s) where
+module _ (transform : List ℤ → ℕ → ℤ) (r : References) {limit : ℕ} (s : PictureSize) (bounded : limit ≤ maxMacroblocks) (size : SizeWithin limit s) where
   pel-low : (p : BlockLocation) (i : ℕ) → inLocation p i ≡ true → pelIndexAt p i < 64
   pel-low p i e = let q = in-location p i e .square in omega (arith, q)
 
@@ -122,7 +122,7 @@ module _ (transform : List ℤ → ℕ → ℤ) (r : References) (s : PictureSiz
       go false = refl
 
   pub macroblock-length : (m : MadeMacroblock) (l : List ℕ) → m .address < macroblockCount s → length l ≡ pictureBytes s → length (withMacroblock transform r s m l) ≡ pictureBytes s
-  macroblock-length m l inside long = blocks-length (macroblockPosition s (m .address)) (position-inside (m .address) size inside) _ 6 l (omega arith) long
+  macroblock-length m l inside long = blocks-length (macroblockPosition s (m .address)) (position-inside (m .address) bounded size inside) _ 6 l (omega arith) long
 
   -- the macroblock's own bytes are prediction plus residue, all others are unchanged
   macroblock-byte : (m : MadeMacroblock) (l : List ℕ) (i : ℕ) → m .address < macroblockCount s → length l ≡ pictureBytes s → i < pictureBytes s
@@ -134,9 +134,9 @@ module _ (transform : List ℤ → ℕ → ℤ) (r : References) (s : PictureSiz
         let b = one-block (macroblockPosition s (m .address)) i (o .block) (o .below) (o .here) in
         let here = subst (λ (n : ℕ). inLocation (blockLocation (macroblockPosition s (m .address)) n) i ≡ true) b (o .here) in
         let six : blockOfByte s i < 6 = subst (λ (n : ℕ). n < 6) b (o .below) in
-        rw (eq-eqb (m .address) (ownerOf s i) q, ← q) (own-byte (macroblockPosition s (m .address)) (position-inside (m .address) size inside) _ 6 l i (blockOfByte s i) (omega arith) long six here
+        rw (eq-eqb (m .address) (ownerOf s i) q, ← q) (own-byte (macroblockPosition s (m .address)) (position-inside (m .address) bounded size inside) _ 6 l i (blockOfByte s i) (omega arith) long six here
         ∙ pel-is (m .pattern) (m .coefficients) (blockOfByte s i) _ _ (pel-low _ i here))
-    | no q ↦ rw (ne-eqb (m .address) (ownerOf s i) q) (other-byte s size (m .address) inside _ 6 l i (omega arith) long (λ e. q (sym e)))
+    | no q ↦ rw (ne-eqb (m .address) (ownerOf s i) q) (other-byte s bounded size (m .address) inside _ 6 l i (omega arith) long (λ e. q (sym e)))
   ]
 
   -- ---- several macroblocks, at consecutive addresses

@@ -2,36 +2,36 @@
 use mathlib.Core.Path.{_≡_, ap, _∙_}
 use Prim.Native.Nat.{ℕ, _+_, _*_, _/_, _≤_, _<_}
 use native.Mathlib.Decide.{ℕ-discrete}
-use native.Mathlib.Nat.{le-refl, le-trans, le-of-eq, mul-le-mul-right, mul-mul-mul-comm, mul-comm}
+use native.Mathlib.Nat.{le-trans, le-of-eq, mul-le-mul-right, mul-mul-mul-comm, mul-comm}
 use native.Mathlib.Omega.{arith}
 use borrow.Author.Tests.{eq-eqb, ne-eqb}
 use Rattle.symbols.specs.declared.size.PictureSize.{PictureSize}
 use Rattle.symbols.specs.Requires.{SizeWithin}
-use Rattle.symbols.specs.Size.{macroblockCount, pictureBytes, startOfCb, startOfCr}
+use Rattle.symbols.specs.Size.{maxMacroblocks, macroblockCount, pictureBytes, startOfCb, startOfCr}
 use Rattle.symbols.proofs.Laws.Size.{width-few, height-few, column-inside, row-inside}
 use Rattle.decode_macroblock.specs.declared.location.MacroblockPosition.{MacroblockPosition}
 use Rattle.decode_macroblock.specs.declared.location.BlockLocation.{BlockLocation}
 use Rattle.decode_macroblock.specs.Location.{macroblockPosition, lumaLocation, chromaLocation, blockLocation}
 use Rattle.decode_macroblock.specs.Requires.{Inside, BlockInside}
 
--- an address of the picture has a position inside it
-pub position-inside : {s : PictureSize} (address : ℕ) → SizeWithin 396 s → address < macroblockCount s → Inside (macroblockPosition s address)
-position-inside address size h = record {
-  few = size .few;
-  across = column-inside size (le-refl 396) address;
-  below = row-inside size (le-refl 396) address h;
+-- an address of the picture has a position inside it, for any limit up to the format's
+pub position-inside : {limit : ℕ} {s : PictureSize} (address : ℕ) → limit ≤ maxMacroblocks → SizeWithin limit s → address < macroblockCount s → Inside (macroblockPosition s address)
+position-inside address bounded size h = record {
+  few = le-trans (size .few) bounded;
+  across = column-inside size address;
+  below = row-inside size address h;
 }
 
 -- ---- bounds on the sides
-inside-size : {p : MacroblockPosition} → Inside p → SizeWithin 396 (p .size)
+inside-size : {p : MacroblockPosition} → Inside p → SizeWithin maxMacroblocks (p .size)
 inside-size inside = record { wide = omega (arith, inside .across); high = omega (arith, inside .below); few = inside .few }
 
 pub record Sides (p : MacroblockPosition) : Type 0 where
-  pub wide : p .size .width ≤ 396
-  pub high : p .size .height ≤ 396
+  pub wide : p .size .width ≤ maxMacroblocks
+  pub high : p .size .height ≤ maxMacroblocks
 
 pub sides : {p : MacroblockPosition} → Inside p → Sides p
-sides inside = record { wide = width-few (inside-size inside) (le-refl 396); high = height-few (inside-size inside) (le-refl 396) }
+sides inside = record { wide = width-few (inside-size inside); high = height-few (inside-size inside) }
 
 -- ---- what holds for the luma and the chroma locations holds for every block's location
 pub by-block : (P : BlockLocation → Type 0) (p : MacroblockPosition) (block : ℕ) → block < 6

@@ -84,7 +84,7 @@ unfolding ownerIn
 owner-is side width i address across down = rw (across, down) (div-add-mod' address width)
 
 -- ---- the picture
-module _ (s : PictureSize) (size : SizeWithin 396 s) where
+module _ {limit : ℕ} (s : PictureSize) (size : SizeWithin limit s) where
   pub owner-below : (i : ℕ) → i < pictureBytes s → ownerOf s i < macroblockCount s
   unfolding ownerOf
   owner-below i h = elim (decLt i (startOfCb s)) [

@@ -3,8 +3,10 @@ use mathlib.Core.Path.{_≡_, refl, ap, _∙_, sym}
 use mathlib.Core.Bool.{Bool, true, false, cond}
 use mathlib.Core.List.{List}
 use Prim.Native.Nat.{ℕ, zero, suc, _+_, _<_}
+use native.Mathlib.Nat.{le-refl}
 use native.Mathlib.Omega.{arith}
 use lib.ListN.{length}
+use Rattle.symbols.specs.Size.{maxMacroblocks}
 use Rattle.symbols.specs.declared.size.PictureSize.{PictureSize}
 use Rattle.decode_macroblock.specs.declared.location.MacroblockPosition.{MacroblockPosition}
 use Rattle.decode_macroblock.specs.declared.compensation.Motion.{Motion}
@@ -32,7 +34,7 @@ lent-again lent e = record { forward-whole = lent .forward-whole; backward-whole
 
 pub blocks-drawable : {s : PictureSize} {address : ℕ} {m : Motion} {forward backward output : List ℕ} → Writable s address m forward backward output → BlocksWritable (macroblockPosition s address) m forward backward output
 blocks-drawable {s} {address} {m} d = record {
-  inside = position-inside address (d .size) (d .inside);
+  inside = position-inside address (le-refl maxMacroblocks) (d .size) (d .inside);
   small = d .small;
   forward-fits = both-fit s address m (d .fits) .0;
   backward-fits = both-fit s address m (d .fits) .1;

@@ -7,13 +7,14 @@ ghost use mathlib.Core.List.{_++_};
 ghost use Prim.Native.Nat.{_+_};
 ghost use lib.ListN.{length, drop};
 ghost use Rattle.io.specs.Counts.{Counts};
+ghost use Rattle.symbols.specs.Size.{maxMacroblocksSmall};
 ghost use Rattle.decode_coefficients.specs.Answer.{coefficientNumber, coefficientValue};
 ghost use Rattle.decode_idct.specs.Transform.{inverseTransform};
 ghost use Rattle.decode_idct.specs.Answer.{transformNumber, transformResidues, transformRows};
 ghost use Rattle.decode_vectors.specs.Vector.{vectorNumber, vectorValue};
 ghost use Rattle.format3_records.specs.Record.{recordOf, recordNumber, kindOf, bodyStartOf, bodyLengthOf, bodyOf};
 ghost use Rattle.format3_header.specs.FileStart.{firstHeader, fileHeaderOf};
-ghost use Rattle.format3_picture.specs.Picture.{pictureOf};
+ghost use Rattle.format3_picture.specs.Picture.{pictureWithin, pictureOf};
 ghost use Rattle.mpeg1_reader.specs.Answer.{givenFields, rawSliceOutcome};
 ghost use Rattle.reel_report.specs.Report.{reportOf};
 use decode_coefficients::scaling;
@@ -32,6 +33,7 @@ use mpeg1_reader::entry;
 pub use mpeg1_reader::entry::PictureParameters;
 use mpeg1_reader::entry::RawSliceAnswer;
 use reel_parts::part;
+use symbols::size::PictureSize;
 
 // The longest reel that `report` plays, in bytes.
 pub const MAX_REEL_BYTES: usize = part::MAX_REEL_BYTES;
@@ -59,7 +61,22 @@ pub fn reconstruct(file: &[u8], forward: &[u8], backward: &[u8], output: &mut [u
     ensures rows { λ r. ⌜ r .rows ≡ pictureOf inverseTransform (now (file .entry)) (now (forward .entry)) (now (backward .entry)) (now (output .entry)) .rows ⌝ }
     ensures output { λ _. ⌜ now (output .exit) ≡ pictureOf inverseTransform (now (file .entry)) (now (forward .entry)) (now (backward .entry)) (now (output .entry)) .output ⌝ }
 {
-    reader::reconstruct(file, forward, backward, output)
+    let limit = PictureSize::MAX_MACROBLOCKS;
+    reader::reconstruct_within(limit, file, forward, backward, output)
+}
+
+// The picture of a Format 3 file, if it has at most PictureSize::MAX_MACROBLOCKS_SMALL macroblocks, for a caller with memory for no more.
+// Does what `reconstruct` does, but refuses a legal header with more macroblocks by 27, at the header's place, and leaves the output as it
+// was.
+pub fn reconstruct_small(file: &[u8], forward: &[u8], backward: &[u8], output: &mut [u8]) -> Answer
+    ensures number { λ r. ⌜ r .number ≡ pictureWithin maxMacroblocksSmall inverseTransform (now (file .entry)) (now (forward .entry)) (now (backward .entry)) (now (output .entry)) .number ⌝ }
+    ensures place { λ r. ⌜ r .place ≡ pictureWithin maxMacroblocksSmall inverseTransform (now (file .entry)) (now (forward .entry)) (now (backward .entry)) (now (output .entry)) .place ⌝ }
+    ensures made { λ r. ⌜ r .made ≡ pictureWithin maxMacroblocksSmall inverseTransform (now (file .entry)) (now (forward .entry)) (now (backward .entry)) (now (output .entry)) .made ⌝ }
+    ensures rows { λ r. ⌜ r .rows ≡ pictureWithin maxMacroblocksSmall inverseTransform (now (file .entry)) (now (forward .entry)) (now (backward .entry)) (now (output .entry)) .rows ⌝ }
+    ensures output { λ _. ⌜ now (output .exit) ≡ pictureWithin maxMacroblocksSmall inverseTransform (now (file .entry)) (now (forward .entry)) (now (backward .entry)) (now (output .entry)) .output ⌝ }
+{
+    let small_limit = PictureSize::MAX_MACROBLOCKS_SMALL;
+    reader::reconstruct_within(small_limit, file, forward, backward, output)
 }
 
 // The header of a Format 3 file, as `reconstruct` reads it.

@@ -3,20 +3,21 @@
 // same in words.
 ghost use mathlib.Core.Path.{_≡_};
 ghost use mathlib.Core.Bool.{true, false};
+ghost use Rattle.symbols.specs.Size.{maxMacroblocksSmall};
 ghost use Rattle.decode_coefficients.specs.Answer.{coefficientNumber, coefficientValue};
 ghost use Rattle.decode_idct.specs.Transform.{inverseTransform};
 ghost use Rattle.decode_idct.specs.Answer.{transformNumber, transformResidues, transformRows};
 ghost use Rattle.decode_vectors.specs.Vector.{vectorNumber, vectorValue};
 ghost use Rattle.format3_records.specs.Record.{recordOf, recordNumber, kindOf, bodyStartOf, bodyLengthOf};
 ghost use Rattle.format3_header.specs.FileStart.{firstHeader, fileHeaderOf};
-ghost use Rattle.format3_picture.specs.Picture.{pictureOf};
+ghost use Rattle.format3_picture.specs.Picture.{pictureWithin, pictureOf};
 ghost use Rattle.mpeg1_reader.specs.Answer.{givenFields, rawSliceOutcome};
 use entries::PictureParameters;
 
 // The version of these functions and structs. It increases when one of them changes or goes.
 pub const API_VERSION: u32 = 2;
 
-// What `format3_reconstruct` answers besides the number.
+// What `format3_reconstruct` and `format3_reconstruct_small` answer besides the number.
 #[repr(C)]
 pub struct PictureResult {
     pub place: usize,
@@ -90,6 +91,28 @@ pub extern "C" fn format3_reconstruct(
     ensures output { λ _. ⌜ now (output .exit) ≡ pictureOf inverseTransform (now (file .entry)) (now (forward .entry)) (now (backward .entry)) (now (output .entry)) .output ⌝ }
 {
     let answer = entries::reconstruct(file, forward, backward, output);
+    result.place = answer.place;
+    result.made = answer.made;
+    result.rows = answer.rows;
+    answer.number
+}
+
+// The same for a caller with memory for PictureSize::MAX_MACROBLOCKS_SMALL macroblocks, the limit of this reader.
+#[no_mangle]
+pub extern "C" fn format3_reconstruct_small(
+    file: &[u8],
+    forward: &[u8],
+    backward: &[u8],
+    output: &mut [u8],
+    result: &mut PictureResult,
+) -> u32
+    ensures number { λ r. ⌜ r ≡ pictureWithin maxMacroblocksSmall inverseTransform (now (file .entry)) (now (forward .entry)) (now (backward .entry)) (now (output .entry)) .number ⌝ }
+    ensures place { λ _. ⌜ now (result .exit) .place ≡ pictureWithin maxMacroblocksSmall inverseTransform (now (file .entry)) (now (forward .entry)) (now (backward .entry)) (now (output .entry)) .place ⌝ }
+    ensures made { λ _. ⌜ now (result .exit) .made ≡ pictureWithin maxMacroblocksSmall inverseTransform (now (file .entry)) (now (forward .entry)) (now (backward .entry)) (now (output .entry)) .made ⌝ }
+    ensures rows { λ _. ⌜ now (result .exit) .rows ≡ pictureWithin maxMacroblocksSmall inverseTransform (now (file .entry)) (now (forward .entry)) (now (backward .entry)) (now (output .entry)) .rows ⌝ }
+    ensures output { λ _. ⌜ now (output .exit) ≡ pictureWithin maxMacroblocksSmall inverseTransform (now (file .entry)) (now (forward .entry)) (now (backward .entry)) (now (output .entry)) .output ⌝ }
+{
+    let answer = entries::reconstruct_small(file, forward, backward, output);
     result.place = answer.place;
     result.made = answer.made;
     result.rows = answer.rows;

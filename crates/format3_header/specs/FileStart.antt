@@ -1,4 +1,4 @@
--- The start of a file (document 01, refusals 1 to 8 and 19 to 21): its version and its first record, the header.
+-- The start of a file (document 01, refusals 1 to 8 and 19 to 21; request No. 4, refusal 27): its version and its first record, the header.
 use mathlib.Core.List.{List}
 use Prim.Native.Nat.{ℕ, _+_}
 use lib.Dec.{eqb, leb}
@@ -17,7 +17,7 @@ use Rattle.format3_records.specs.declared.turn.Turn.the-variants as Turn
 use Rattle.format3_records.specs.declared.verdict.Verdict.{Verdict}
 use Rattle.format3_records.specs.declared.verdict.Verdict.the-variants.{Passed, Refused}
 use Rattle.format3_header.specs.Header.{headerOf}
-use Rattle.format3_header.specs.Lengths.{lentLengths}
+use Rattle.format3_header.specs.Lengths.{callerVerdict}
 use Rattle.format3_header.specs.declared.file_start.FileHeader.{FileHeader}
 use Rattle.format3_header.specs.declared.file_start.FileStart.{FileStart}
 use Rattle.format3_header.specs.declared.file_start.FileStart.the-variants as FileStart
@@ -44,9 +44,9 @@ firstHeader file =
         require inTurn Turn.Start kind else FileStart.Refused OutOfTurn 1 then
         legal (start + n) (headerOf (take n (drop start file)))
 
--- "the header ends with 19, 20, 21": then the lengths of the lent buffers
-unfoldable pub fileStartOf : List ℕ → ℕ → ℕ → ℕ → FileStart
-fileStartOf file output forward backward = go (firstHeader file)
+-- then the reader's limit (27), then the lengths of the lent buffers: "the header ends with 19, 20, 21"
+unfoldable pub fileStartOf : ℕ → List ℕ → ℕ → ℕ → ℕ → FileStart
+fileStartOf limit file output forward backward = go (firstHeader file)
   where
     lent : Header → ℕ → Verdict → FileStart
     lent h end (Refused refusal) = FileStart.Refused refusal 1
@@ -54,7 +54,7 @@ fileStartOf file output forward backward = go (firstHeader file)
 
     go : FileStart → FileStart
     go (FileStart.Refused refusal place) = FileStart.Refused refusal place
-    go (FileStart.HeaderRead h end) = lent h end (lentLengths h output forward backward)
+    go (FileStart.HeaderRead h end) = lent h end (callerVerdict limit h output forward backward)
 
 -- what a caller is told of the start: 0, "width and height in macroblocks", the type, and the offset of the next record; or the refusal's number, and zeros
 unfoldable pub fileHeaderOf : FileStart → FileHeader

@@ -1,4 +1,4 @@
-// The start of a file: its version, its first record (the header), and the lengths of the lent buffers.
+// The start of a file: its version, its first record (the header), the reader's limit, and the lengths of the lent buffers.
 ghost use mathlib.Core.Path.{_≡_};
 ghost use Rattle.format3_header.specs.FileStart.{firstHeader, fileStartOf, fileHeaderOf};
 use crate::header;
@@ -64,15 +64,21 @@ pub fn first_header(file: &[u8]) -> FileStart
     }
 }
 
-// Reads the start of the file, then tests the lengths of the lent buffers.
-pub fn read_file_start(file: &[u8], output: usize, forward: usize, backward: usize) -> FileStart
-    ensures { λ r. ⌜ r ≡ fileStartOf (now (file .entry)) output forward backward ⌝ }
+// Reads the start of the file, then tests the reader's limit and the lengths of the lent buffers.
+pub fn read_file_start(
+    limit: usize,
+    file: &[u8],
+    output: usize,
+    forward: usize,
+    backward: usize,
+) -> FileStart
+    ensures { λ r. ⌜ r ≡ fileStartOf limit (now (file .entry)) output forward backward ⌝ }
 {
     match first_header(file) {
         FileStart::Refused(refusal, place) => FileStart::Refused(refusal, place),
         FileStart::HeaderRead(header, end) => {
-            let lengths = lengths::lent_lengths(header, output, forward, backward);
-            match lengths {
+            let verdict = lengths::caller_verdict(limit, header, output, forward, backward);
+            match verdict {
                 Verdict::Refused(refusal) => FileStart::Refused(refusal, 1),
                 Verdict::Passed => FileStart::HeaderRead(header, end),
             }

@@ -22,7 +22,7 @@ use Rattle.format3_header.specs.FileStart.{fileStartOf}
 use Rattle.format3_header.specs.declared.file_start.FileStart.{FileStart}
 use Rattle.format3_header.specs.declared.file_start.FileStart.the-variants as FileStart
 use Rattle.format3_picture.specs.Alone.{Alike}
-use Rattle.format3_picture.specs.Picture.{Picture, answerOf, symbolsOf, pictureOf}
+use Rattle.format3_picture.specs.Picture.{Picture, answerOf, symbolsOf, pictureWithin}
 use Rattle.format3_picture.specs.Reconstruction.{macroblocksOf}
 use Rattle.format3_picture.proofs.PictureLaws.{no-header, header-read-is, filled, header-read-long, header-read-byte}
 use Rattle.format3_picture.proofs.StartLaws.{header-read}
@@ -38,53 +38,53 @@ forgets transform r s first last (m ∷ macroblocks) i old other order low high 
       (forgets transform r s (first + 1) last macroblocks i old other (order .1) (omega (arith, order .0)) high)
 ]
 
-module _ (transform : List ℤ → ℕ → ℤ) (file forward backward output other : List ℕ) (long : length output ≡ length other) where
+module _ (limit : ℕ) (transform : List ℤ → ℕ → ℤ) (file forward backward output other : List ℕ) (long : length output ≡ length other) where
   abbrev here : Picture
-  here = pictureOf transform file forward backward output
+  here = pictureWithin limit transform file forward backward output
 
   abbrev there : Picture
-  there = pictureOf transform file forward backward other
+  there = pictureWithin limit transform file forward backward other
 
   -- the file's start is the same with both outputs
-  also : {x : FileStart} → fileStartOf file (length output) (length forward) (length backward) ≡ x → fileStartOf file (length other) (length forward) (length backward) ≡ x
-  also e = ap (λ (n : ℕ). fileStartOf file n (length forward) (length backward)) (sym long) ∙ e
+  also : {x : FileStart} → fileStartOf limit file (length output) (length forward) (length backward) ≡ x → fileStartOf limit file (length other) (length forward) (length backward) ≡ x
+  also e = ap (λ (n : ℕ). fileStartOf limit file n (length forward) (length backward)) (sym long) ∙ e
 
-  no-header-alike : {refusal : Refusal} {place : ℕ} → fileStartOf file (length output) (length forward) (length backward) ≡ FileStart.Refused refusal place → Alike (length output) here there
+  no-header-alike : {refusal : Refusal} {place : ℕ} → fileStartOf limit file (length output) (length forward) (length backward) ≡ FileStart.Refused refusal place → Alike (length output) here there
   no-header-alike {refusal} e =
-      let a = no-header transform file forward backward output e in
-      let b = no-header transform file forward backward other (also e) in
+      let a = no-header limit transform file forward backward output e in
+      let b = no-header limit transform file forward backward other (also e) in
       record {
         answer = ap (λ (p : Picture). answerOf p) a ∙ sym (ap (λ (p : Picture). answerOf p) b);
         bytes = λ number. absurd (never-accepted refusal (sym (ap (λ (p : Picture). p .number) a) ∙ number));
         long = ap (λ (p : Picture). length (p .output)) a;
       }
 
-  module _ {h : Header} {end : ℕ} (e : fileStartOf file (length output) (length forward) (length backward) ≡ FileStart.HeaderRead h end) where
+  module _ {h : Header} {end : ℕ} (e : fileStartOf limit file (length output) (length forward) (length backward) ≡ FileStart.HeaderRead h end) where
     same-bytes : here .number ≡ accepted → here .output ≡ there .output
     same-bytes number =
-        let start = header-read file forward backward output e in
-        let macroblocks = filled transform file forward backward output e in
-        let all = macroblocks .all (sym (ap (λ (p : Picture). p .number) (header-read-is transform file forward backward output e)) ∙ number) in
-        let kept = header-read-long transform file forward backward output e in
-        ext-getD 0 (here .output) (there .output) (kept ∙ long ∙ sym (header-read-long transform file forward backward other (also e))) (λ i b.
+        let start = header-read limit file forward backward output e in
+        let macroblocks = filled limit transform file forward backward output e in
+        let all = macroblocks .all (sym (ap (λ (p : Picture). p .number) (header-read-is limit transform file forward backward output e)) ∙ number) in
+        let kept = header-read-long limit transform file forward backward output e in
+        ext-getD 0 (here .output) (there .output) (kept ∙ long ∙ sym (header-read-long limit transform file forward backward other (also e))) (λ i b.
         let low : i < length output = omega (arith, kept) in
-        let below = owner-below (h .size) (start .header .size) i (omega (arith, low, start .lent .output-whole)) in
-        header-read-byte transform file forward backward output e i low
+        let below = owner-below (h .size) (start .header .size) i (omega (arith, low, start .caller .lent .output-whole)) in
+        header-read-byte limit transform file forward backward output e i low
         ∙ forgets transform (references forward backward) (h .size) 0 (macroblocks .last) (macroblocksOf h (symbolsOf file h end)) i _ _ (macroblocks .order) zero-le (omega (arith, below, all))
-        ∙ sym (header-read-byte transform file forward backward other (also e) i (omega (arith, low, long))))
+        ∙ sym (header-read-byte limit transform file forward backward other (also e) i (omega (arith, low, long))))
 
     header-read-alike : Alike (length output) here there
     header-read-alike = record {
-      answer = ap (λ (p : Picture). answerOf p) (header-read-is transform file forward backward output e) ∙ sym (ap (λ (p : Picture). answerOf p) (header-read-is transform file forward backward other (also e)));
+      answer = ap (λ (p : Picture). answerOf p) (header-read-is limit transform file forward backward output e) ∙ sym (ap (λ (p : Picture). answerOf p) (header-read-is limit transform file forward backward other (also e)));
       bytes = same-bytes;
-      long = header-read-long transform file forward backward output e;
+      long = header-read-long limit transform file forward backward output e;
     }
 
-  alike : (x : FileStart) → fileStartOf file (length output) (length forward) (length backward) ≡ x → Alike (length output) here there
+  alike : (x : FileStart) → fileStartOf limit file (length output) (length forward) (length backward) ≡ x → Alike (length output) here there
   alike (FileStart.Refused refusal place) e = no-header-alike e
   alike (FileStart.HeaderRead h end) e = header-read-alike e
 
 -- rules out a picture through which an earlier one shows
-pub picture-alone : (transform : List ℤ → ℕ → ℤ) (file forward backward output other : List ℕ) → length output ≡ length other
-    → Alike (length output) (pictureOf transform file forward backward output) (pictureOf transform file forward backward other)
-picture-alone transform file forward backward output other long = alike transform file forward backward output other long _ refl
+pub picture-alone : (limit : ℕ) (transform : List ℤ → ℕ → ℤ) (file forward backward output other : List ℕ) → length output ≡ length other
+    → Alike (length output) (pictureWithin limit transform file forward backward output) (pictureWithin limit transform file forward backward other)
+picture-alone limit transform file forward backward output other long = alike limit transform file forward backward output other long _ refl

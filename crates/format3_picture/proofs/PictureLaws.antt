@@ -4,6 +4,7 @@ use mathlib.Core.Bool.{Bool, true, false, cond}
 use mathlib.Core.List.{List}
 use mathlib.Core.Path.{_≡_, refl, sym, _∙_, subst}
 use Prim.Native.Nat.{ℕ, _≤_, _<_}
+use native.Mathlib.Nat.{le-refl}
 use borrow.Author.Tests.{eqb-true}
 use lib.IntN.{ℤ}
 use lib.ListN.{length, getD}
@@ -12,7 +13,7 @@ use Rattle.refusals.specs.Refusal.{accepted, numberOf}
 use Rattle.refusals.specs.declared.Refusal.{Refusal}
 use Rattle.refusals.specs.declared.Refusal.the-variants.{FileEnds}
 use Rattle.refusals.proofs.Laws.{never-accepted}
-use Rattle.symbols.specs.Size.{macroblockCount}
+use Rattle.symbols.specs.Size.{maxMacroblocks, macroblockCount}
 use Rattle.symbols.specs.declared.header.Header.{Header}
 use Rattle.decode_coefficients.specs.Matrices.{defaultMatrices}
 use Rattle.decode_coefficients.specs.declared.matrices.Matrices.{Matrices}
@@ -27,7 +28,7 @@ use Rattle.format3_header.specs.declared.file_start.FileStart.the-variants as F
 use Rattle.format3_picture.specs.State.{startState}
 use Rattle.format3_picture.specs.declared.state.PictureState.{PictureState}
 use Rattle.format3_picture.specs.Reconstruction.{macroblocksMadeFrom, macroblocksOf, reconstruction}
-use Rattle.format3_picture.specs.Picture.{Picture, isComplete, Answered, refusedAt, answeredBy, recordsFrom, recordsAfter, symbolsOf, withOutput, pictureOf, pictureRefusing}
+use Rattle.format3_picture.specs.Picture.{Picture, isComplete, Answered, refusedAt, answeredBy, recordsFrom, recordsAfter, symbolsOf, withOutput, pictureWithin, pictureRefusing}
 use Rattle.format3_picture.specs.Requires.{StateWithin}
 use Rattle.format3_picture.specs.Step.{RecordStep}
 use Rattle.format3_picture.specs.Symbols.{Symbol, putInFront}
@@ -77,21 +78,21 @@ counted file =
     (λ s q symbol t way v rest later. (stay s q way v rest (later .0), one-more s q way v rest (later .0) (later .1)))
 
 -- ---- a file whose header is read
-module _ (transform : List ℤ → ℕ → ℤ) (file forward backward output : List ℕ) where
+module _ (limit : ℕ) (transform : List ℤ → ℕ → ℤ) (file forward backward output : List ℕ) where
   abbrev picture : Picture
-  picture = pictureOf transform file forward backward output
+  picture = pictureWithin limit transform file forward backward output
 
-  pub no-header : {refusal : Refusal} {place : ℕ} → fileStartOf file (length output) (length forward) (length backward) ≡ FileStart.Refused refusal place → picture ≡ withOutput (refusedAt refusal place 0 0) output
+  pub no-header : {refusal : Refusal} {place : ℕ} → fileStartOf limit file (length output) (length forward) (length backward) ≡ FileStart.Refused refusal place → picture ≡ withOutput (refusedAt refusal place 0 0) output
   unfolding pictureRefusing
   no-header e = rw e
 
-  module _ {h : Header} {end : ℕ} (e : fileStartOf file (length output) (length forward) (length backward) ≡ FileStart.HeaderRead h end) where
+  module _ {h : Header} {end : ℕ} (e : fileStartOf limit file (length output) (length forward) (length backward) ≡ FileStart.HeaderRead h end) where
     pub header-read-is : picture ≡ withOutput (recordsAfter file h end .answer) (reconstruction transform (references forward backward) h (symbolsOf file h end) output)
     unfolding pictureRefusing
     header-read-is = rw e
 
-    start : Started file forward backward output h end
-    start = header-read file forward backward output e
+    start : Started limit file forward backward output h end
+    start = header-read limit file forward backward output e
 
     -- the file's macroblocks
     pub record Filled (macroblocks : List MadeMacroblock) : Type 0 where
@@ -106,9 +107,9 @@ module _ (transform : List ℤ → ℕ → ℤ) (file forward backward output : 
         subst Filled (sym (made-of-symbols file h end)) (record { last = c .last; order = c .order; inside = c .inside; all = c .all })
 
     pub header-read-long : length (picture .output) ≡ length output
-    header-read-long = rw header-read-is (macroblocks-length transform (references forward backward) (h .size) (start .header .size) 0 (filled .last) (macroblocksOf h (symbolsOf file h end)) output
-        (filled .order) (filled .inside) (start .lent .output-whole)) ∙ sym (start .lent .output-whole)
+    header-read-long = rw header-read-is (macroblocks-length transform (references forward backward) (h .size) (le-refl maxMacroblocks) (start .header .size) 0 (filled .last) (macroblocksOf h (symbolsOf file h end)) output
+        (filled .order) (filled .inside) (start .caller .lent .output-whole)) ∙ sym (start .caller .lent .output-whole)
 
     pub header-read-byte : (i : ℕ) → i < length output → getD (picture .output) i 0 ≡ byteAmong transform (references forward backward) (h .size) (macroblocksOf h (symbolsOf file h end)) i (getD output i 0)
-    header-read-byte i low = rw header-read-is (macroblocks-byte transform (references forward backward) (h .size) (start .header .size) 0 (filled .last) (macroblocksOf h (symbolsOf file h end)) output i
-        (filled .order) (filled .inside) (start .lent .output-whole) (subst (λ (n : ℕ). i < n) (start .lent .output-whole) low))
+    header-read-byte i low = rw header-read-is (macroblocks-byte transform (references forward backward) (h .size) (le-refl maxMacroblocks) (start .header .size) 0 (filled .last) (macroblocksOf h (symbolsOf file h end)) output i
+        (filled .order) (filled .inside) (start .caller .lent .output-whole) (subst (λ (n : ℕ). i < n) (start .caller .lent .output-whole) low))

@@ -8,6 +8,7 @@ use lib.ListN.{length}
 use Rattle.refusals.specs.Refusal.{accepted, numberOf}
 use Rattle.refusals.specs.declared.Refusal.{Refusal}
 use Rattle.refusals.specs.declared.Refusal.the-variants.{FileEnds, BackwardVectorOutside}
+use Rattle.symbols.specs.Size.{maxMacroblocks}
 use Rattle.symbols.specs.declared.header.Header.{Header}
 use Rattle.decode_coefficients.specs.Matrices.{defaultMatrices}
 use Rattle.decode_coefficients.specs.declared.matrices.Matrices.{Matrices}
@@ -88,9 +89,10 @@ module _ (backwardRefusal : Refusal) where
   abbrev pub recordsAfterRefusing : List ℕ → Header → ℕ → Answered
   recordsAfterRefusing file h end = recordsFromRefusing file (length file) end (startState h) defaultMatrices
 
-  -- the whole definition, for any inverse transform: the answer, and what 2.4.4 makes of the symbols in the lent output
-  unfoldable pub pictureRefusing : (List ℤ → ℕ → ℤ) → List ℕ → List ℕ → List ℕ → List ℕ → Picture
-  pictureRefusing transform file forward backward output = go (fileStartOf file (length output) (length forward) (length backward))
+  -- the whole definition, for a reader of pictures within any limit and for any inverse transform: the answer, and what 2.4.4 makes of the symbols
+  -- in the lent output
+  unfoldable pub pictureRefusing : ℕ → (List ℤ → ℕ → ℤ) → List ℕ → List ℕ → List ℕ → List ℕ → Picture
+  pictureRefusing limit transform file forward backward output = go (fileStartOf limit file (length output) (length forward) (length backward))
     where
       go : FileStart → Picture
       go (FileStart.Refused refusal place) = withOutput (refusedAt refusal place 0 0) output
@@ -107,8 +109,13 @@ recordsAfter = recordsAfterRefusing BackwardVectorOutside
 abbrev pub symbolsOf : List ℕ → Header → ℕ → Symbols
 symbolsOf file h end = symbolsIn (recordsAfter file h end)
 
+-- request No. 4: "Both limits hold, each for its caller". The picture as given by a reader that takes at most `limit` macroblocks
+abbrev pub pictureWithin : ℕ → (List ℤ → ℕ → ℤ) → List ℕ → List ℕ → List ℕ → List ℕ → Picture
+pictureWithin = pictureRefusing BackwardVectorOutside
+
+-- "The other panels keep 396": the picture as given by the reader with that limit
 abbrev pub pictureOf : (List ℤ → ℕ → ℤ) → List ℕ → List ℕ → List ℕ → List ℕ → Picture
-pictureOf = pictureRefusing BackwardVectorOutside
+pictureOf = pictureWithin maxMacroblocks
 
 -- the answer without the output, as the code gives it
 abbrev pub answerOf : Picture → Answer

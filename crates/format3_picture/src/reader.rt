@@ -6,7 +6,7 @@ ghost use Rattle.symbols.specs.Requires.{HeaderWithin};
 ghost use Rattle.decode_idct.specs.Transform.{inverseTransform};
 ghost use Rattle.decode_macroblock.specs.Compensation.{references};
 ghost use Rattle.format3_picture.specs.Reconstruction.{reconstruction};
-ghost use Rattle.format3_picture.specs.Picture.{answerOf, isComplete, refusedAt, endAnswer, recordsAfter, symbolsOf, pictureOf};
+ghost use Rattle.format3_picture.specs.Picture.{answerOf, isComplete, refusedAt, endAnswer, recordsAfter, symbolsOf, pictureWithin};
 ghost use Rattle.format3_picture.specs.Requires.{LentLengths};
 use crate::records;
 use crate::state;
@@ -132,12 +132,18 @@ fn read_records(
     answer_at_end(file.len(), picture)
 }
 
-// The entry: reconstructs the picture of a Format 3 file from its references, in the lent output.
-pub fn reconstruct(file: &[u8], forward: &[u8], backward: &[u8], output: &mut [u8]) -> Answer
-    ensures { λ r. ⌜ r ≡ answerOf (pictureOf inverseTransform (now (file .entry)) (now (forward .entry)) (now (backward .entry)) (now (output .entry))) ⌝ }
-    ensures { λ _. ⌜ now (output .exit) ≡ pictureOf inverseTransform (now (file .entry)) (now (forward .entry)) (now (backward .entry)) (now (output .entry)) .output ⌝ }
+// Reconstructs the picture of a Format 3 file from its references, in the lent output, if it has at most `limit` macroblocks.
+pub fn reconstruct_within(
+    limit: usize,
+    file: &[u8],
+    forward: &[u8],
+    backward: &[u8],
+    output: &mut [u8],
+) -> Answer
+    ensures { λ r. ⌜ r ≡ answerOf (pictureWithin limit inverseTransform (now (file .entry)) (now (forward .entry)) (now (backward .entry)) (now (output .entry))) ⌝ }
+    ensures { λ _. ⌜ now (output .exit) ≡ pictureWithin limit inverseTransform (now (file .entry)) (now (forward .entry)) (now (backward .entry)) (now (output .entry)) .output ⌝ }
 {
-    match file_start::read_file_start(file, output.len(), forward.len(), backward.len()) {
+    match file_start::read_file_start(limit, file, output.len(), forward.len(), backward.len()) {
         FileStart::Refused(refusal, place) => refused_at(refusal, place, 0, 0),
         FileStart::HeaderRead(header, end) => {
             read_records(file, end, header, forward, backward, output)

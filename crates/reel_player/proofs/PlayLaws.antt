@@ -9,7 +9,7 @@ use lib.ListN.{length, take, replicate, length-replicate}
 use lib.Seq.{length-take-le}
 use borrow.Author.Tests.{eqb-true, leb-true}
 use Rattle.refusals.specs.Refusal.{accepted}
-use Rattle.symbols.specs.Size.{macroblockCount}
+use Rattle.symbols.specs.Size.{maxMacroblocks, macroblockCount}
 use Rattle.decode_idct.specs.Transform.{inverseTransform}
 use Rattle.format3_header.specs.FileStart.{firstHeader}
 use Rattle.format3_header.specs.declared.file_start.FileStart.{FileStart}
@@ -59,7 +59,7 @@ pub made-alike : (file : List ℕ) (carried : Carried) (output : List ℕ) → l
 unfolding pictureInto
 made-alike file carried output lent =
     let start = firstHeader file in
-    rw lent at (picture-alone inverseTransform file (forwardFor start (carried .older) (carried .newer)) (backwardFor start (carried .newer))
+    rw lent at (picture-alone maxMacroblocks inverseTransform file (forwardFor start (carried .older) (carried .newer)) (backwardFor start (carried .newer))
     output (replicate (lentBytes start) 0) (lent ∙ sym (length-replicate (lentBytes start) 0)))
 
 -- so playing either gives the same result

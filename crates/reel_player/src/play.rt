@@ -16,6 +16,7 @@ use reel_parts::part::Part;
 use reel_parts::references;
 use reel_parts::references::Kept;
 use symbols::header::B_PICTURE;
+use symbols::size::PictureSize;
 
 // The most macroblocks for which the player lends an output buffer.
 const MAX_LENT_MACROBLOCKS: usize = 40;
@@ -98,7 +99,13 @@ fn make<'a>(
 {
     let forward = references::forward_for(start, kept, older, newer);
     let backward = references::backward_for(start, kept, newer);
-    reader::reconstruct(file, forward, backward, output)
+    reader::reconstruct_within(
+        PictureSize::MAX_MACROBLOCKS,
+        file,
+        forward,
+        backward,
+        output,
+    )
 }
 
 // Keeps an accepted picture as a reference, if its type is I or P.

@@ -40,6 +40,7 @@ byNumber =
     R.SliceCode ∷
     R.SliceCut ∷
     R.RecordsLength ∷
+    R.MacroblockLimit ∷
     []
 
 refusalOf : ℕ → Refusal
@@ -66,6 +67,7 @@ back R.Coefficient = refl
 back R.DcCoefficient = refl
 back R.ForwardVectorOutside = refl
 back R.BackwardVectorOutside = refl
+back R.MacroblockLimit = refl
 back R.OutputLength = refl
 back R.ForwardLength = refl
 back R.BackwardLength = refl

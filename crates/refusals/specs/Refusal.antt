@@ -21,6 +21,7 @@ use Rattle.refusals.specs.declared.Refusal.the-variants.{
   DcCoefficient,
   ForwardVectorOutside,
   BackwardVectorOutside,
+  MacroblockLimit,
   OutputLength,
   ForwardLength,
   BackwardLength,
@@ -86,3 +87,5 @@ numberOf SliceCode = 24
 numberOf SliceCut = 25
 -- "26 when the records don't fit the buffer, tested last"
 numberOf RecordsLength = 26
+-- request No. 4: "27 when a header that 8 lets through has more than 99 macroblocks on the cab's panel": more than the reader's limit
+numberOf MacroblockLimit = 27

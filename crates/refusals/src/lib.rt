@@ -25,6 +25,8 @@ pub enum Refusal {
     DcCoefficient,
     ForwardVectorOutside,
     BackwardVectorOutside,
+    // Caused by the encoder, or by the caller, who chooses the reader.
+    MacroblockLimit,
     // Caused by the caller.
     OutputLength,
     ForwardLength,
@@ -63,6 +65,7 @@ pub fn number(refusal: Refusal) -> u32
         Refusal::DcCoefficient => 17,
         Refusal::ForwardVectorOutside => 18,
         Refusal::BackwardVectorOutside => 23,
+        Refusal::MacroblockLimit => 27,
         Refusal::OutputLength => 19,
         Refusal::ForwardLength => 20,
         Refusal::BackwardLength => 21,

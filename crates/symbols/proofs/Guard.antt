@@ -5,11 +5,14 @@ use Prim.Native.Nat.{ℕ}
 use native.Mathlib.Omega.{arith}
 use Rattle.symbols.specs.Guard.{require_else_then_}
 
--- what holds for the answer, and for the rest if the test passes, holds for the whole
-pub require-all : {A : Type 0} (P : A → Type 0) (test : Bool) (answer rest : A) → P answer → (test ≡ true → P rest) → P (require test else answer then rest)
+-- what holds for the answer if the test fails, and for the rest if it passes, holds for the whole
+pub require-cases : {A : Type 0} (P : A → Type 0) (test : Bool) (answer rest : A) → (test ≡ false → P answer) → (test ≡ true → P rest) → P (require test else answer then rest)
 unfolding require_else_then_
-require-all P true answer rest a r = r refl
-require-all P false answer rest a r = a
+require-cases P true answer rest a r = r refl
+require-cases P false answer rest a r = a refl
+
+pub require-all : {A : Type 0} (P : A → Type 0) (test : Bool) (answer rest : A) → P answer → (test ≡ true → P rest) → P (require test else answer then rest)
+require-all P test answer rest a r = require-cases P test answer rest (λ f. a) r
 
 -- both tests of a conjunction pass
 pub both : (a b : Bool) → a && b ≡ true → (a ≡ true) × (b ≡ true)

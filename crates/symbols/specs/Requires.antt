@@ -8,11 +8,11 @@ use Rattle.symbols.specs.declared.header.VectorCoding.{VectorCoding}
 use Rattle.symbols.specs.declared.header.Header.{Header}
 use Rattle.symbols.specs.Header.{typeI, typeB, usesForward, usesBackward}
 
--- a size of at least 1 by 1 and at most `most` macroblocks
-pub record SizeWithin (most : ℕ) (s : PictureSize) : Type 0 where
+-- a size of at least 1 by 1 and at most `limit` macroblocks
+pub record SizeWithin (limit : ℕ) (s : PictureSize) : Type 0 where
   pub wide : 1 ≤ s .width
   pub high : 1 ≤ s .height
-  pub few : macroblockCount s ≤ most
+  pub few : macroblockCount s ≤ limit
 
 -- what the code relies on in a legal header; maxWidth and maxHeight are not needed
 pub record CodingWithin (used : Bool) (c : VectorCoding) : Type 0 where

@@ -27,6 +27,17 @@ sizeOf width height = require legalSize width height else Beyond then Fits (reco
 abbrev pub macroblockCount : PictureSize → ℕ
 macroblockCount s = s .width * s .height
 
+-- request No. 4: "a panel with memory for 99 macroblocks. The other panels keep 396": the limit of the small reader, beside maxMacroblocks
+abbrev pub maxMacroblocksSmall : ℕ
+maxMacroblocksSmall = 99
+
+-- "Both limits hold, each for its caller": whether a size is within a reader's limit, and the size if it is
+abbrev pub withinLimit : ℕ → PictureSize → Bool
+withinLimit limit s = leb (macroblockCount s) limit
+
+unfoldable pub sizeWithin : ℕ → PictureSize → NewSize
+sizeWithin limit s = require withinLimit limit s else Beyond then Fits s
+
 -- "With N macroblocks it is 384 × N bytes": 256 of Y, 64 of Cb and 64 of Cr for each macroblock
 abbrev pub pictureBytes : PictureSize → ℕ
 pictureBytes s = 384 * macroblockCount s

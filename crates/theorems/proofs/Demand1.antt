@@ -24,16 +24,16 @@ pub none-accepted : NeverAccepted
 none-accepted = never-accepted
 
 pub refused-holds : RefusedHolds
-refused-holds transform file forward backward output refusal place before a = record {
-  order = Laws1.before-in-order transform file forward backward output a;
-  held = Laws1.before-own transform file forward backward output a;
-  others = Laws1.before-others transform file forward backward output a;
+refused-holds limit transform file forward backward output refusal place before a = record {
+  order = Laws1.before-in-order limit transform file forward backward output a;
+  held = Laws1.before-own limit transform file forward backward output a;
+  others = Laws1.before-others limit transform file forward backward output a;
 }
 
 pub seven-missing : SevenMissing
-seven-missing transform file forward backward output number = record {
-  at-end = Laws2.seven-at-end transform file forward backward output number;
-  fewer = Laws2.seven-fewer transform file forward backward output number;
+seven-missing limit transform file forward backward output number = record {
+  at-end = Laws2.seven-at-end limit transform file forward backward output number;
+  fewer = Laws2.seven-fewer limit transform file forward backward output number;
 }
 
 pub worked : Worked

@@ -16,7 +16,7 @@ pub hypotheses-met : HypothesesMet
 hypotheses-met = record { least = least-met; greatest = greatest-met; low = low-met; high = high-met }
 
 pub blocks-meet-demand-3 : BlocksMeetDemand3
-blocks-meet-demand-3 file forward backward output h end = symbols-in-range zeros file forward backward output
+blocks-meet-demand-3 limit file forward backward output h end = symbols-in-range limit zeros file forward backward output
 
 pub zeros-miss : ZerosMiss
 zeros-miss = record { covered = dc-met; misses = Witnesses.zeros-miss }

@@ -4,6 +4,7 @@ pub mod Demand3
 pub mod Request1
 pub mod Request2
 pub mod Request3
+pub mod Request4
 pub mod Request6
 pub mod Records
 pub mod Rules

@@ -28,8 +28,8 @@ pub worked-records : WorkedRecords
 worked-records = record { slice = slice-legal; legal = worked-legal; written = worked-body; read-back = worked-read }
 
 pub every-header : EveryHeader
-every-header transform file forward backward output =
-    let read = as-read transform file forward backward output in
+every-header limit transform file forward backward output =
+    let read = as-read limit transform file forward backward output in
     record {
       number-at-most-8 = number-at-most-8 file;
       same-number = read .same-number;

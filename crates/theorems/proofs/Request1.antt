@@ -7,17 +7,17 @@ use Rattle.theorems_picture.proofs.Worked.{worked-files}
 use Rattle.theorems.specs.Request1.{ForwardIs18, BackwardIs23, BackwardOnlyInB, OnlyTheNumber, WorkedMisfits}
 
 pub forward-is-18 : ForwardIs18
-forward-is-18 transform file forward backward output = (Laws.vector-refused transform file forward backward output (inl refl), Laws.refused-vector transform file forward backward output)
+forward-is-18 limit transform file forward backward output = (Laws.vector-refused limit transform file forward backward output (inl refl), Laws.refused-vector limit transform file forward backward output)
 
 pub backward-is-23 : BackwardIs23
-backward-is-23 transform file forward backward output = (Laws.vector-refused transform file forward backward output (inr refl), Laws.refused-vector transform file forward backward output)
+backward-is-23 limit transform file forward backward output = (Laws.vector-refused limit transform file forward backward output (inr refl), Laws.refused-vector limit transform file forward backward output)
 
 pub backward-only-in-B : BackwardOnlyInB
-backward-only-in-B transform file forward backward output h end e number = Laws.backward-only-in-B transform file forward backward output number h end e
+backward-only-in-B limit transform file forward backward output h end e number = Laws.backward-only-in-B limit transform file forward backward output number h end e
 
 pub only-the-number : OnlyTheNumber
-only-the-number backwardRefusal transform file forward backward output =
-    let alike = picture-alike backwardRefusal transform file forward backward output in
+only-the-number backwardRefusal limit transform file forward backward output =
+    let alike = picture-alike backwardRefusal limit transform file forward backward output in
     record {
       place = place-alike backwardRefusal alike;
       made = made-alike backwardRefusal alike;

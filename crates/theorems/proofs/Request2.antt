@@ -39,16 +39,16 @@ pub accepted-is-framed : AcceptedWellFramed
 accepted-is-framed = accepted-framed
 
 pub raw-slices-read-all : RawSlicesReadAll
-raw-slices-read-all fields h slices legal read transform forward backward output whole = record {
-  header-read = Laws.accepted-header-read fields h slices legal (slices-fit read) transform forward backward output whole;
-  symbols = Laws.accepted-symbols fields h slices legal (slices-fit read) transform forward backward output whole;
-  equal = Laws.accepted-output fields h slices legal (slices-fit read) transform forward backward output whole;
+raw-slices-read-all fields h slices legal read limit transform forward backward output whole = record {
+  header-read = Laws.accepted-header-read fields h slices legal (slices-fit read) limit transform forward backward output whole;
+  symbols = Laws.accepted-symbols fields h slices legal (slices-fit read) limit transform forward backward output whole;
+  equal = Laws.accepted-output fields h slices legal (slices-fit read) limit transform forward backward output whole;
 }
 
 pub raw-slices-read-beginning : RawSlicesReadBeginning
-raw-slices-read-beginning fields h slices legal read transform forward backward output end e = record {
-  beginning = Laws.reads-beginning fields h slices legal (slices-fit read) transform forward backward output end e;
-  before = Laws.reads-before fields h slices legal (slices-fit read) transform forward backward output end e;
+raw-slices-read-beginning fields h slices legal read limit transform forward backward output end e = record {
+  beginning = Laws.reads-beginning fields h slices legal (slices-fit read) limit transform forward backward output end e;
+  before = Laws.reads-before fields h slices legal (slices-fit read) limit transform forward backward output end e;
 }
 
 pub worked-slices : WorkedSlices

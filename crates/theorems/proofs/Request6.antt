@@ -41,17 +41,17 @@ pub none-if-not-coded : NoneIfNotCoded
 none-if-not-coded = record { no-block = none-coded-rows; skipped = predicted-rows }
 
 pub picture-rows : PictureRows
-picture-rows transform file forward backward output = record {
+picture-rows limit transform file forward backward output = record {
   sum = λ h end e. let s = stopped file h end in record {
     reached = s .reached;
     passing = s .passing;
-    count = Laws.made-reached transform file forward backward output e (s .passing) (s .stop);
-    rows = Laws.rows-reached transform file forward backward output e (s .passing) (s .stop);
+    count = Laws.made-reached limit transform file forward backward output e (s .passing) (s .stop);
+    rows = Laws.rows-reached limit transform file forward backward output e (s .passing) (s .stop);
     of-symbols = sym (stops file h end (s .passing) (s .stop) .macroblocks);
   };
-  refused = Laws.rows-refused transform file forward backward output;
-  no-header = λ refusal place e. Laws.rows-no-header transform file forward backward output e;
-  most = Laws.rows-most transform file forward backward output;
+  refused = Laws.rows-refused limit transform file forward backward output;
+  no-header = λ refusal place e. Laws.rows-no-header limit transform file forward backward output e;
+  most = Laws.rows-most limit transform file forward backward output;
 }
 
 pub any-transform : AnyTransform

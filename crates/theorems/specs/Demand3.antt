@@ -54,7 +54,7 @@ pub record HypothesesMet : Type 0 where
 -- every coded block of a picture, accepted or refused, meets the first hypothesis: its coefficients are in range
 abbrev pub BlocksMeetDemand3 : Type 0
 BlocksMeetDemand3 =
-    (file forward backward output : List ℕ) (h : Header) (end : ℕ) → fileStart file forward backward output ≡ HeaderRead h end
+    (limit : ℕ) (file forward backward output : List ℕ) (h : Header) (end : ℕ) → fileStart limit file forward backward output ≡ HeaderRead h end
     → Each (λ m. (block : ℕ) → isCoded (m .pattern) block ≡ true → CoefficientsInRange (coefficientsAt (m .coefficients) block)) (macroblocksOf h (symbolsOf file h end))
 
 -- "A transform of zeros misses the 9/16 at DC 2040" (document 01, "Reviewer's checklist"): demand 3 covers that block, and 0 is near the

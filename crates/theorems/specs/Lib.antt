@@ -11,6 +11,8 @@ pub mod Request1
 pub mod Request2
 -- one pass over the block: what a block holds after each of its pairs
 pub mod Request3
+-- a limit for each caller: when 27 is given, and that within any two limits the picture is the same; the facts about sizes
+pub mod Request4
 -- rows worked: what the number is, its bounds, and that a picture's is the total over the macroblocks made
 pub mod Request6
 -- the writer and the reader of a record undo one another

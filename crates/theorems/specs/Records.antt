@@ -25,7 +25,7 @@ use Rattle.format3_macroblock.specs.Slice.{sliceOf}
 use Rattle.format3_macroblock.specs.declared.macroblock.MacroblockContext.{MacroblockContext}
 use Rattle.format3_macroblock.specs.Macroblock.{macroblockOf}
 use Rattle.format3_writer.specs.Records.{sliceBody, macroblockBody}
-use Rattle.format3_picture.specs.Picture.{Picture, pictureOf}
+use Rattle.format3_picture.specs.Picture.{Picture, pictureWithin}
 use Rattle.theorems_records.specs.Legal.{LegalSlice, LegalMacroblock}
 use Rattle.theorems_records.specs.WorkedRecords.{workedSlice, worked, predictedContext, workedBody}
 use Rattle.theorems_picture.specs.Worked.{twoSlices}
@@ -63,8 +63,8 @@ pub record WorkedRecords : Type 0 where
   pub written : macroblockBody worked ≡ workedBody
   pub read-back : macroblockOf predictedContext workedBody ≡ parsed worked []
 
--- A file's start and the picture of the same file, with any references and output
-pub record HeaderAsRead (told : FileHeader) (picture : Picture) (output : List ℕ) : Type 0 where
+-- A file's start and the picture of the same file from a reader with a limit, with any references and output
+pub record HeaderAsRead (limit : ℕ) (told : FileHeader) (picture : Picture) (output : List ℕ) : Type 0 where
   -- the start is accepted, or refused by 1 to 8
   pub number-at-most-8 : told .number ≤ 8
   -- if it is refused, the picture is refused by the same number, nothing is made, and the output is what it was
@@ -76,15 +76,15 @@ pub record HeaderAsRead (told : FileHeader) (picture : Picture) (output : List �
   pub size-legal :
       told .number ≡ accepted
       → (1 ≤ told .width) × (told .width ≤ maxWidth) × (1 ≤ told .height) × (told .height ≤ maxHeight) × (told .width * told .height ≤ maxMacroblocks)
-  -- and the picture's place is before the next record only if a lent buffer has the wrong length
-  pub lengths-only : told .number ≡ accepted → picture .place < told .«records_start» → (19 ≤ picture .number) × (picture .number ≤ 21)
+  -- and the place of a picture within the reader's limit is before the next record only if a lent buffer has the wrong length
+  pub lengths-only : told .number ≡ accepted → told .width * told .height ≤ limit → picture .place < told .«records_start» → (19 ≤ picture .number) × (picture .number ≤ 21)
   -- if the picture is accepted, the output is as long as the size says
   pub output-length : picture .number ≡ accepted → length output ≡ pictureBytes (record { width = told .width; height = told .height })
 
 abbrev pub EveryHeader : Type 0
 EveryHeader =
-    (transform : List ℤ → ℕ → ℤ) (file forward backward output : List ℕ)
-    → HeaderAsRead (fileHeaderOf (firstHeader file)) (pictureOf transform file forward backward output) output
+    (limit : ℕ) (transform : List ℤ → ℕ → ℤ) (file forward backward output : List ℕ)
+    → HeaderAsRead limit (fileHeaderOf (firstHeader file)) (pictureWithin limit transform file forward backward output) output
 
 -- The header of a worked file (crates/theorems_picture/specs/Worked.antt): an I picture, two macroblocks wide and one high; the next record starts at
 -- byte 11

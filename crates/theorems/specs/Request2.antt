@@ -24,7 +24,7 @@ use Rattle.decode_macroblock.specs.Compensation.{references}
 use Rattle.format3_header.specs.Header.{headerOf}
 use Rattle.format3_header.specs.declared.file_start.FileStart.the-variants.{HeaderRead}
 use Rattle.format3_writer.specs.Records.{sliceBytes}
-use Rattle.format3_picture.specs.Picture.{symbolsOf, pictureOf}
+use Rattle.format3_picture.specs.Picture.{symbolsOf, pictureWithin, pictureOf}
 use Rattle.format3_picture.specs.Reconstruction.{reconstruction}
 use Rattle.mpeg1_bits.specs.declared.BitPosition.{BitPosition}
 use Rattle.mpeg1_slice.specs.Slice.{rawSliceOf}
@@ -86,38 +86,38 @@ BufferLongEnough =
 abbrev pub AcceptedWellFramed : Type 0
 AcceptedWellFramed =
     (given : HeaderFields) (bytes buffer : List ℕ) → rawSliceOutcome given bytes buffer .answer .number ≡ accepted
-    → (transform : List ℤ → ℕ → ℤ) (fields forward backward output : List ℕ) → length fields ≡ 7
-    → WellFramed (pictureOf transform (fileOf fields (take (rawSliceOutcome given bytes buffer .answer .written) (rawSliceOutcome given bytes buffer .buffer))) forward backward output .number)
+    → (limit : ℕ) (transform : List ℤ → ℕ → ℤ) (fields forward backward output : List ℕ) → length fields ≡ 7
+    → WellFramed (pictureWithin limit transform (fileOf fields (take (rawSliceOutcome given bytes buffer .answer .written) (rawSliceOutcome given bytes buffer .buffer))) forward backward output .number)
 
 -- these records stand for the slices: if the strict reader accepts the file of a header and of the records of slices that were read,
 -- its symbols are exactly these slices with the default matrices, and its output is what clause 2.4.4 makes of them
-pub record ReadsExactly (transform : List ℤ → ℕ → ℤ) (fields : List ℕ) (h : Header) (slices : List Slice) (forward backward output : List ℕ) : Type 0 where
-  pub header-read : fileStart (slicesFile fields slices) forward backward output ≡ HeaderRead h 11
+pub record ReadsExactly (limit : ℕ) (transform : List ℤ → ℕ → ℤ) (fields : List ℕ) (h : Header) (slices : List Slice) (forward backward output : List ℕ) : Type 0 where
+  pub header-read : fileStart limit (slicesFile fields slices) forward backward output ≡ HeaderRead h 11
   pub symbols : symbolsOf (slicesFile fields slices) h 11 ≡ record { matrices = defaultMatrices; slices = slices }
   pub equal :
-      pictureOf transform (slicesFile fields slices) forward backward output .output
+      pictureWithin limit transform (slicesFile fields slices) forward backward output .output
       ≡ reconstruction transform (references forward backward) h (record { matrices = defaultMatrices; slices = slices }) output
 
 abbrev pub RawSlicesReadAll : Type 0
 RawSlicesReadAll =
     (fields : List ℕ) (h : Header) (slices : List Slice) → headerOf fields ≡ Legal h → AllRead slices
-    → (transform : List ℤ → ℕ → ℤ) (forward backward output : List ℕ)
-    → pictureOf transform (slicesFile fields slices) forward backward output .number ≡ accepted
-    → ReadsExactly transform fields h slices forward backward output
+    → (limit : ℕ) (transform : List ℤ → ℕ → ℤ) (forward backward output : List ℕ)
+    → pictureWithin limit transform (slicesFile fields slices) forward backward output .number ≡ accepted
+    → ReadsExactly limit transform fields h slices forward backward output
 
 -- if the header of such a file is read, whether the file is accepted or refused, the reader has read a beginning of these slices,
 -- and the file up to the answer's place is exactly the file of that beginning
-pub record ReadUpTo (transform : List ℤ → ℕ → ℤ) (fields : List ℕ) (h : Header) (end : ℕ) (slices : List Slice) (forward backward output : List ℕ) : Type 0 where
+pub record ReadUpTo (limit : ℕ) (transform : List ℤ → ℕ → ℤ) (fields : List ℕ) (h : Header) (end : ℕ) (slices : List Slice) (forward backward output : List ℕ) : Type 0 where
   pub beginning : Beginning (symbolsOf (slicesFile fields slices) h end .slices) slices
   pub before :
-      take (pictureOf transform (slicesFile fields slices) forward backward output .place) (slicesFile fields slices)
+      take (pictureWithin limit transform (slicesFile fields slices) forward backward output .place) (slicesFile fields slices)
       ≡ slicesFile fields (symbolsOf (slicesFile fields slices) h end .slices)
 
 abbrev pub RawSlicesReadBeginning : Type 0
 RawSlicesReadBeginning =
     (fields : List ℕ) (h : Header) (slices : List Slice) → headerOf fields ≡ Legal h → AllRead slices
-    → (transform : List ℤ → ℕ → ℤ) (forward backward output : List ℕ) (end : ℕ) → fileStart (slicesFile fields slices) forward backward output ≡ HeaderRead h end
-    → ReadUpTo transform fields h end slices forward backward output
+    → (limit : ℕ) (transform : List ℤ → ℕ → ℤ) (forward backward output : List ℕ) (end : ℕ) → fileStart limit (slicesFile fields slices) forward backward output ≡ HeaderRead h end
+    → ReadUpTo limit transform fields h end slices forward backward output
 
 -- Seventeen slices and their outcomes: each refusal 8, 24, 25 and 26, and slices that are accepted
 abbrev pub WorkedSlices : Type 0

@@ -3,8 +3,8 @@
 -- coded blocks, at most 48 a macroblock. On a refused picture it is the total over the macroblocks made. Values and the accuracy rule are as before."
 --
 -- The number is in the contracts, as an equation at each level: `inverse_transform` and the entry (`rowsWorked`, `transformRows`), `write_macroblock`
--- (`macroblockRows`), a record (`planApplied`), and `reconstruct` (`pictureOf`, field `rows`). The definitions of the residues and of the picture's bytes
--- do not mention it, and no refusal depends on it. The reader of a block's pairs marks each coefficient that is not 0 (`Marked`, in the crate
+-- (`macroblockRows`), a record (`planApplied`), and the readers (`pictureWithin`, field `rows`). The definitions of the residues and of the picture's
+-- bytes do not mention it, and no refusal depends on it. The reader of a block's pairs marks each coefficient that is not 0 (`Marked`, in the crate
 -- decode_coefficients); the transform works the rows that have a mark, and counts them.
 use mathlib.Core.Bool.{true}
 use mathlib.Core.List.{List, _∷_, _++_}
@@ -26,7 +26,7 @@ use Rattle.decode_macroblock.specs.declared.compensation.Motion.{Motion}
 use Rattle.decode_macroblock.specs.Macroblock.{MadeMacroblock, predictedOnlyFrom}
 use Rattle.decode_macroblock.specs.Rows.{macroblockRows, rowsOf}
 use Rattle.format3_header.specs.declared.file_start.FileStart.the-variants as FileStart
-use Rattle.format3_picture.specs.Picture.{pictureOf, symbolsOf}
+use Rattle.format3_picture.specs.Picture.{pictureWithin, symbolsOf}
 use Rattle.format3_picture.specs.Reconstruction.{macroblocksOf}
 use Rattle.theorems_picture.specs.Applies.{Reached, Passing, fileStart, Applies}
 use Rattle.theorems_picture.specs.Worked.{rowCases, answers, expectations}
@@ -55,11 +55,11 @@ abbrev pub AtMost48 : Type 0
 AtMost48 = (pattern : ℕ) (c : List (List ℤ)) → macroblockRows pattern c ≤ 48
 
 -- the sum over the macroblocks that the picture's records made: all records, or those before the refused one
-pub record SumOverRecords (transform : List ℤ → ℕ → ℤ) (file forward backward output : List ℕ) (h : Header) (end : ℕ) : Type 0 where
+pub record SumOverRecords (limit : ℕ) (transform : List ℤ → ℕ → ℤ) (file forward backward output : List ℕ) (h : Header) (end : ℕ) : Type 0 where
   pub reached : Reached
   pub passing : Passing file h end reached
-  pub count : pictureOf transform file forward backward output .made ≡ length (reached .macroblocks)
-  pub rows : pictureOf transform file forward backward output .rows ≡ rowsOf (reached .macroblocks)
+  pub count : pictureWithin limit transform file forward backward output .made ≡ length (reached .macroblocks)
+  pub rows : pictureWithin limit transform file forward backward output .rows ≡ rowsOf (reached .macroblocks)
   -- these macroblocks are the ones that clause 2.4.4 makes of the symbols (demand 2)
   pub of-symbols : reached .macroblocks ≡ macroblocksOf h (symbolsOf file h end)
 
@@ -69,24 +69,24 @@ pub record NoneIfNotCoded : Type 0 where
   pub skipped : (first n : ℕ) (m : Motion) → rowsOf (predictedOnlyFrom first n m) ≡ 0
 
 -- "the total over the macroblocks made"
-pub record TotalOverMade (transform : List ℤ → ℕ → ℤ) (file forward backward output : List ℕ) : Type 0 where
-  pub sum : (h : Header) (end : ℕ) → fileStart file forward backward output ≡ FileStart.HeaderRead h end → SumOverRecords transform file forward backward output h end
+pub record TotalOverMade (limit : ℕ) (transform : List ℤ → ℕ → ℤ) (file forward backward output : List ℕ) : Type 0 where
+  pub sum : (h : Header) (end : ℕ) → fileStart limit file forward backward output ≡ FileStart.HeaderRead h end → SumOverRecords limit transform file forward backward output h end
   -- "On a refused picture it is the total over the macroblocks made": those that the records before the refused one made
-  pub refused : (refusal : Refusal) (place : ℕ) (before : List MadeMacroblock) → Applies file forward backward output refusal place before
-      → pictureOf transform file forward backward output .rows ≡ rowsOf before
+  pub refused : (refusal : Refusal) (place : ℕ) (before : List MadeMacroblock) → Applies limit file forward backward output refusal place before
+      → pictureWithin limit transform file forward backward output .rows ≡ rowsOf before
   -- none is made before a header is accepted
-  pub no-header : (refusal : Refusal) (place : ℕ) → fileStart file forward backward output ≡ FileStart.Refused refusal place
-      → pictureOf transform file forward backward output .rows ≡ 0
-  pub most : pictureOf transform file forward backward output .rows ≤ 48 * pictureOf transform file forward backward output .made
+  pub no-header : (refusal : Refusal) (place : ℕ) → fileStart limit file forward backward output ≡ FileStart.Refused refusal place
+      → pictureWithin limit transform file forward backward output .rows ≡ 0
+  pub most : pictureWithin limit transform file forward backward output .rows ≤ 48 * pictureWithin limit transform file forward backward output .made
 
 abbrev pub PictureRows : Type 0
-PictureRows = (transform : List ℤ → ℕ → ℤ) (file forward backward output : List ℕ) → TotalOverMade transform file forward backward output
+PictureRows = (limit : ℕ) (transform : List ℤ → ℕ → ℤ) (file forward backward output : List ℕ) → TotalOverMade limit transform file forward backward output
 
 -- the number is the same with any inverse transform
 abbrev pub AnyTransform : Type 0
 AnyTransform =
-    (transform other : List ℤ → ℕ → ℤ) (file forward backward output : List ℕ)
-    → pictureOf transform file forward backward output .rows ≡ pictureOf other file forward backward output .rows
+    (limit : ℕ) (transform other : List ℤ → ℕ → ℤ) (file forward backward output : List ℕ)
+    → pictureWithin limit transform file forward backward output .rows ≡ pictureWithin limit other file forward backward output .rows
 
 -- ---- worked blocks and files
 -- a block that is 0 except for one coefficient

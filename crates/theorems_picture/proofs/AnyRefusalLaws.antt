@@ -22,7 +22,7 @@ use Rattle.format3_records.specs.declared.verdict.Verdict.the-variants.{Passed,
 use Rattle.format3_header.specs.declared.file_start.FileStart.{FileStart}
 use Rattle.format3_header.specs.declared.file_start.FileStart.the-variants as FileStart
 use Rattle.format3_picture.specs.MacroblockRecord.{refusedRecord, recordFit, planAppliedRefusing}
-use Rattle.format3_picture.specs.Picture.{Picture, isComplete, Answered, refusedAt, endAnswer, answeredBy, followed, recordsFrom, recordsFromRefusing, symbolsIn, withOutput, pictureOf, pictureRefusing}
+use Rattle.format3_picture.specs.Picture.{Picture, isComplete, Answered, refusedAt, endAnswer, answeredBy, followed, recordsFrom, recordsFromRefusing, symbolsIn, withOutput, pictureWithin, pictureRefusing}
 use Rattle.format3_picture.specs.Reconstruction.{planFor, reconstruction}
 use Rattle.format3_picture.specs.State.{startState}
 use Rattle.format3_picture.specs.Step.{RecordStep, stepAt, stepAtRefusing}
@@ -118,7 +118,7 @@ module _ (other : Refusal) where
     differ : (place made rows : ℕ) (output : List ℕ)
         → PictureAlike (withOutput (refusedAt BackwardVectorOutside place made rows) output) (withOutput (refusedAt other place made rows) output)
 
-  module _ (transform : List ℤ → ℕ → ℤ) (file forward backward output : List ℕ) where
+  module _ (limit : ℕ) (transform : List ℤ → ℕ → ℤ) (file forward backward output : List ℕ) where
     abbrev drawn : Header → Answered → Picture
     drawn h a = withOutput (a .answer) (reconstruction transform (references forward backward) h (symbolsIn a) output)
 
@@ -126,12 +126,12 @@ module _ (other : Refusal) where
     drawn-alike h (same a not) = same _ not
     drawn-alike h (differ place made rows g) = differ place made rows _
 
-    pub picture-alike : PictureAlike (pictureOf transform file forward backward output) (pictureRefusing other transform file forward backward output)
+    pub picture-alike : PictureAlike (pictureWithin limit transform file forward backward output) (pictureRefusing other limit transform file forward backward output)
     unfolding pictureRefusing
-    picture-alike = go (fileStart file forward backward output) refl (start-listed file (length output) (length forward) (length backward))
+    picture-alike = go (fileStart limit file forward backward output) refl (start-listed limit file (length output) (length forward) (length backward))
       where
-        go : (x : FileStart) → fileStart file forward backward output ≡ x → StartListed file (fileStart file forward backward output) → PictureAlike (pictureOf transform file forward backward output) (pictureRefusing other transform file forward backward output)
-        go (FileStart.Refused refusal place) e l = let few = rw e at l in rw e (same (withOutput (refusedAt refusal place 0 0) output) (λ n. omega (arith, few .is-listed)))
+        go : (x : FileStart) → fileStart limit file forward backward output ≡ x → StartListed limit file (fileStart limit file forward backward output) → PictureAlike (pictureWithin limit transform file forward backward output) (pictureRefusing other limit transform file forward backward output)
+        go (FileStart.Refused refusal place) e l = let few = rw e at l in rw e (same (withOutput (refusedAt refusal place 0 0) output) (few .not-backward))
         go (FileStart.HeaderRead h end) e l = rw e (drawn-alike h (records-alike file (length file) end (startState h) defaultMatrices))
 
   -- ---- what that means for each part

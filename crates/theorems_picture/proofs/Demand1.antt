@@ -12,9 +12,9 @@ use Rattle.math.specs.Each.{Each}
 use Rattle.math.proofs.Each.{each-map}
 use Rattle.refusals.specs.Refusal.{accepted, numberOf}
 use Rattle.refusals.specs.declared.Refusal.{Refusal}
-use Rattle.refusals.specs.declared.Refusal.the-variants.{FileEnds, BackwardVectorOutside}
+use Rattle.refusals.specs.declared.Refusal.the-variants.{FileEnds, BackwardVectorOutside, MacroblockLimit}
 use Rattle.symbols.specs.Pattern.{isCoded}
-use Rattle.symbols.specs.Size.{macroblockCount}
+use Rattle.symbols.specs.Size.{maxMacroblocks, macroblockCount}
 use Rattle.symbols.specs.declared.header.Header.{Header}
 use Rattle.decode_macroblock.specs.Block.{coefficientsAt}
 use Rattle.decode_macroblock.specs.Byte.{byteOf}
@@ -24,7 +24,7 @@ use Rattle.decode_macroblock.specs.Owner.{ownerOf}
 use Rattle.format3_records.specs.declared.verdict.Verdict.the-variants.{Refused}
 use Rattle.format3_header.specs.declared.file_start.FileStart.{FileStart}
 use Rattle.format3_header.specs.declared.file_start.FileStart.the-variants as FileStart
-use Rattle.format3_picture.specs.Picture.{Picture, isComplete, withOutput, symbolsOf, pictureOf}
+use Rattle.format3_picture.specs.Picture.{Picture, isComplete, withOutput, symbolsOf, pictureWithin}
 use Rattle.format3_picture.specs.Reconstruction.{macroblocksOf}
 use Rattle.format3_picture.proofs.PictureLaws.{no-header, header-read-is, header-read-byte, header-read-long}
 use Rattle.format3_picture.proofs.StartLaws.{Started, header-read}
@@ -35,9 +35,9 @@ use Rattle.theorems_picture.proofs.DecidingLaws.{RefusedByVector, why-r
 use Rattle.theorems_picture.proofs.FileStartLaws.{NeitherEndNorVector, StartListed, start-listed}
 use Rattle.theorems_picture.proofs.PassingLaws.{Stands, stands, Stop, at-record, at-end, answerAt, stops, stopped}
 
--- the numbers of the reader: up to 21, and 23
-abbrev pub Listed : ℕ → Type 0
-Listed n = (n ≤ 21) ⊎ (n ≡ numberOf BackwardVectorOutside)
+-- the numbers of a reader with this limit: up to 21, 23, and 27 if the limit is less than the format's
+abbrev pub Listed : ℕ → ℕ → Type 0
+Listed limit n = (n ≤ 21) ⊎ (n ≡ numberOf BackwardVectorOutside) ⊎ ((n ≡ numberOf MacroblockLimit) × (limit < maxMacroblocks))
 
 -- a record is refused by a listed refusal that is not 7
 module _ (file : List ℕ) (r : Reached) {refusal : Refusal} (v : verdictAt file r ≡ Refused refusal) where
@@ -48,13 +48,13 @@ module _ (file : List ℕ) (r : Reached) {refusal : Refusal} (v : verdictAt file
       go (inl neither) = inl neither
       go (inr vector) = inr (refused-of vector)
 
-  pub record-listed : Listed (numberOf refusal)
-  record-listed = go why
+  pub record-listed : (limit : ℕ) → Listed limit (numberOf refusal)
+  record-listed limit = go why
     where
-      go : NeitherEndNorVector refusal ⊎ OfVector refusal → Listed (numberOf refusal)
+      go : NeitherEndNorVector refusal ⊎ OfVector refusal → Listed limit (numberOf refusal)
       go (inl neither) = inl (neither .is-listed)
       go (inr (inl e)) = inl (subst (λ (n : ℕ). n ≤ 21) (sym (ap numberOf e)) (lit≤ tt))
-      go (inr (inr e)) = inr (ap numberOf e)
+      go (inr (inr e)) = inr (inl (ap numberOf e))
 
   pub record-not-end : numberOf refusal ≡ numberOf FileEnds → ⊥
   record-not-end seven = go why
@@ -64,14 +64,14 @@ module _ (file : List ℕ) (r : Reached) {refusal : Refusal} (v : verdictAt file
       go (inr (inl e)) = omega (arith, seven, ap numberOf e)
       go (inr (inr e)) = omega (arith, seven, ap numberOf e)
 
-module _ (transform : List ℤ → ℕ → ℤ) (file forward backward output : List ℕ) where
+module _ (limit : ℕ) (transform : List ℤ → ℕ → ℤ) (file forward backward output : List ℕ) where
   abbrev picture : Picture
-  picture = pictureOf transform file forward backward output
+  picture = pictureWithin limit transform file forward backward output
 
   -- ---- a picture whose header is read, at the record that is refused or at the file's end
-  module _ {h : Header} {end : ℕ} (e : fileStart file forward backward output ≡ FileStart.HeaderRead h end) where
-    pub start : Started file forward backward output h end
-    start = header-read file forward backward output e
+  module _ {h : Header} {end : ℕ} (e : fileStart limit file forward backward output ≡ FileStart.HeaderRead h end) where
+    pub start : Started limit file forward backward output h end
+    start = header-read limit file forward backward output e
 
     pub stands-at : {r : Reached} → Passing file h end r → Stands file h end r
     stands-at passing = stands file h end (start .header) (start .in-file) passing
@@ -93,21 +93,21 @@ module _ (transform : List ℤ → ℕ → ℤ) (file forward backward output : 
       pub stopped-is : (s : Stop file h end r) → picture ≡ withOutput (answerAt file h end s) (withMacroblocks transform (references forward backward) (h .size) (r .macroblocks) output)
       stopped-is s =
           let ends = stops file h end passing s in
-          header-read-is transform file forward backward output e
+          header-read-is limit transform file forward backward output e
           ∙ (λ i. withOutput (ends .answer i) (withMacroblocks transform (references forward backward) (h .size) (ends .macroblocks i) output))
 
-      stopped-listed : Stop file h end r → Listed (picture .number)
+      stopped-listed : Stop file h end r → Listed limit (picture .number)
       stopped-listed s = rw (stopped-is s) (by-stop s)
         where
-          by-stop : (x : Stop file h end r) → Listed (answerAt file h end x .number)
-          by-stop (at-record inside refusal v) = record-listed file r v
+          by-stop : (x : Stop file h end r) → Listed limit (answerAt file h end x .number)
+          by-stop (at-record inside refusal v) = record-listed file r v limit
           by-stop (at-end past) = go (isComplete (r .state .turn))
             where
-              go : (complete : Bool) → Listed (cond complete accepted (numberOf FileEnds))
+              go : (complete : Bool) → Listed limit (cond complete accepted (numberOf FileEnds))
               go true = inl (lit≤ tt)
               go false = inl (lit≤ tt)
 
-    header-read-listed : Listed (picture .number)
+    header-read-listed : Listed limit (picture .number)
     header-read-listed = let s = stopped file h end in stopped-listed (s .passing) (s .stop)
 
     -- ---- its bytes, by the macroblocks of its symbols
@@ -116,12 +116,12 @@ module _ (transform : List ℤ → ℕ → ℤ) (file forward backward output : 
 
     pub symbols-own : Each (λ m. (i : ℕ) → i < length output → ownerOf (h .size) i ≡ m .address → getD (picture .output) i 0 ≡ byteOf transform (references forward backward) (h .size) m i) (macroblocksOf h (symbolsOf file h end))
     symbols-own =
-        each-map (λ m own i low owner. header-read-byte transform file forward backward output e i low ∙ own i (getD output i 0) owner) (macroblocksOf h (symbolsOf file h end))
+        each-map (λ m own i low owner. header-read-byte limit transform file forward backward output e i low ∙ own i (getD output i 0) owner) (macroblocksOf h (symbolsOf file h end))
         (among-own transform (references forward backward) (h .size) 0 _ (macroblocksOf h (symbolsOf file h end)) symbols-order)
 
     symbols-others : (i : ℕ) → i < length output → length (macroblocksOf h (symbolsOf file h end)) ≤ ownerOf (h .size) i → getD (picture .output) i 0 ≡ getD output i 0
     symbols-others i low past =
-        header-read-byte transform file forward backward output e i low
+        header-read-byte limit transform file forward backward output e i low
         ∙ among-others transform (references forward backward) (h .size) 0 _ (macroblocksOf h (symbolsOf file h end)) symbols-order i (getD output i 0) past
 
     -- the coefficients of each coded block are in range
@@ -131,25 +131,29 @@ module _ (transform : List ℤ → ℕ → ℤ) (file forward backward output : 
         rw (stops file h end (s .passing) (s .stop) .macroblocks)
         (each-map (λ m range block coded. record { each = λ k low. range .all block .all k }) (s .reached .macroblocks) (stands-at (s .passing) .in-range))
 
-  keeps : (x : FileStart) → fileStart file forward backward output ≡ x → length (picture .output) ≡ length output
-  keeps (FileStart.Refused refusal place) e = rw (no-header transform file forward backward output e)
-  keeps (FileStart.HeaderRead h end) e = header-read-long transform file forward backward output e
+  keeps : (x : FileStart) → fileStart limit file forward backward output ≡ x → length (picture .output) ≡ length output
+  keeps (FileStart.Refused refusal place) e = rw (no-header limit transform file forward backward output e)
+  keeps (FileStart.HeaderRead h end) e = header-read-long limit transform file forward backward output e
 
-  listed : (x : FileStart) → fileStart file forward backward output ≡ x → StartListed file x → Listed (picture .number)
-  listed (FileStart.Refused refusal place) e p = rw (no-header transform file forward backward output e) (inl (p .is-listed))
+  listed : (x : FileStart) → fileStart limit file forward backward output ≡ x → StartListed limit file x → Listed limit (picture .number)
+  listed (FileStart.Refused refusal place) e p = rw (no-header limit transform file forward backward output e) (go (p .is-listed))
+    where
+      go : (numberOf refusal ≤ 21) ⊎ ((refusal ≡ MacroblockLimit) × (limit < maxMacroblocks)) → Listed limit (numberOf refusal)
+      go (inl few) = inl few
+      go (inr (same, less)) = inr (inr (ap numberOf same, less))
   listed (FileStart.HeaderRead h end) e p = header-read-listed e
 
-  -- ---- the lent memory keeps its length, and the numbers are 0 to 21 and 23
+  -- ---- the lent memory keeps its length, and the numbers are 0 to 21, 23 and 27
   pub keeps-length : length (picture .output) ≡ length output
   keeps-length = keeps _ refl
 
-  pub number-listed : Listed (picture .number)
-  number-listed = listed _ refl (start-listed file (length output) (length forward) (length backward))
+  pub number-listed : Listed limit (picture .number)
+  number-listed = listed _ refl (start-listed limit file (length output) (length forward) (length backward))
 
   -- ---- a refusal applies
   -- the macroblocks of the records before the refused one are those of the symbols
-  pub before-of-symbols : {refusal : Refusal} {place : ℕ} {before : List MadeMacroblock} → Applies file forward backward output refusal place before
-      → (h : Header) (end : ℕ) → fileStart file forward backward output ≡ FileStart.HeaderRead h end → before ≡ macroblocksOf h (symbolsOf file h end)
+  pub before-of-symbols : {refusal : Refusal} {place : ℕ} {before : List MadeMacroblock} → Applies limit file forward backward output refusal place before
+      → (h : Header) (end : ℕ) → fileStart limit file forward backward output ≡ FileStart.HeaderRead h end → before ≡ macroblocksOf h (symbolsOf file h end)
   before-of-symbols (to-start refusal place e) g start other = let z : _≡_ {A = ℕ} 0 1 = cc in absurd (omega arith)
   before-of-symbols (to-record h end e r passing inside refusal v) g start other =
       let same : _≡_ {A = Header} h g = cc in
@@ -160,24 +164,24 @@ module _ (transform : List ℤ → ℕ → ℤ) (file forward backward output : 
       let at : _≡_ {A = ℕ} end start = cc in
       rw (sym same, sym at) (sym (stops file h end passing (at-end past) .macroblocks))
 
-  pub before-in-order : {refusal : Refusal} {place : ℕ} {before : List MadeMacroblock} → Applies file forward backward output refusal place before → InOrder 0 before (length before)
+  pub before-in-order : {refusal : Refusal} {place : ℕ} {before : List MadeMacroblock} → Applies limit file forward backward output refusal place before → InOrder 0 before (length before)
   before-in-order (to-start refusal place e) = refl
   before-in-order (to-record h end e r passing inside refusal v) = in-order e passing
   before-in-order (to-end h end e r passing past missing) = in-order e passing
 
   -- each of their bytes
-  pub before-own : {refusal : Refusal} {place : ℕ} {before : List MadeMacroblock} → Applies file forward backward output refusal place before
-      → (h : Header) (end : ℕ) → fileStart file forward backward output ≡ FileStart.HeaderRead h end
+  pub before-own : {refusal : Refusal} {place : ℕ} {before : List MadeMacroblock} → Applies limit file forward backward output refusal place before
+      → (h : Header) (end : ℕ) → fileStart limit file forward backward output ≡ FileStart.HeaderRead h end
       → Each (λ m. (i : ℕ) → i < length output → ownerOf (h .size) i ≡ m .address → getD (picture .output) i 0 ≡ byteOf transform (references forward backward) (h .size) m i) before
   before-own a h end e = rw (before-of-symbols a h end e) (symbols-own e)
 
   -- every other byte
-  pub before-others : {refusal : Refusal} {place : ℕ} {before : List MadeMacroblock} → Applies file forward backward output refusal place before
+  pub before-others : {refusal : Refusal} {place : ℕ} {before : List MadeMacroblock} → Applies limit file forward backward output refusal place before
       → (i : ℕ) → i < length output
-      → ((h : Header) (end : ℕ) → fileStart file forward backward output ≡ FileStart.HeaderRead h end → length before ≤ ownerOf (h .size) i)
+      → ((h : Header) (end : ℕ) → fileStart limit file forward backward output ≡ FileStart.HeaderRead h end → length before ≤ ownerOf (h .size) i)
       → getD (picture .output) i 0 ≡ getD output i 0
-  before-others {before = before} a i low none = go (fileStart file forward backward output) refl
+  before-others {before = before} a i low none = go (fileStart limit file forward backward output) refl
     where
-      go : (x : FileStart) → fileStart file forward backward output ≡ x → getD (picture .output) i 0 ≡ getD output i 0
-      go (FileStart.Refused refusal place) e = rw (no-header transform file forward backward output e)
+      go : (x : FileStart) → fileStart limit file forward backward output ≡ x → getD (picture .output) i 0 ≡ getD output i 0
+      go (FileStart.Refused refusal place) e = rw (no-header limit transform file forward backward output e)
       go (FileStart.HeaderRead h end) e = symbols-others e i low (subst (λ (l : List MadeMacroblock). length l ≤ ownerOf (h .size) i) (before-of-symbols a h end e) (none h end e))

@@ -1,32 +1,37 @@
--- Reading a record or a file's start causes refusals up to 21, never 18, and 7 only at the file's end. Assumes nothing.
+-- Reading a record causes refusals up to 21, never 18. So does reading a file's start, which also causes 27 beyond the reader's limit, and 7 only at
+-- the file's end. Assumes nothing.
 use mathlib.Core.Bool.{Bool, true, false, cond, _&&_}
 use mathlib.Core.List.{List}
-use mathlib.Core.Path.{_≡_, refl, subst}
-use Prim.Native.Nat.{ℕ, _≤_}
+use mathlib.Core.Logic.{_⊎_, inl, inr}
+use mathlib.Core.Path.{_≡_, refl, ap, subst}
+use Prim.Native.Nat.{ℕ, _≤_, _<_}
 use native.Mathlib.Omega.{arith}
 use borrow.Author.Tests.{leb-true, leb-false}
 use lib.Dec.{T, leb, eqb, lit≤}
 use lib.ListN.{length, getD, take, drop}
 use Rattle.refusals.specs.Refusal.{numberOf}
 use Rattle.refusals.specs.declared.Refusal.{Refusal}
-use Rattle.refusals.specs.declared.Refusal.the-variants.{FileEmpty, Version, FileEnds, ForwardVectorOutside}
+use Rattle.refusals.specs.declared.Refusal.the-variants.{FileEmpty, Version, FileEnds, ForwardVectorOutside, BackwardVectorOutside, MacroblockLimit}
 use Rattle.refusals.proofs.Laws.{ofReading}
 use Rattle.symbols.specs.Guard.{require_else_then_}
 use Rattle.symbols.specs.Header.{headerWith}
+use Rattle.symbols.specs.Size.{maxMacroblocks, macroblockCount}
 use Rattle.symbols.specs.declared.header.Header.{Header}
 use Rattle.symbols.specs.declared.header.HeaderAnswer.{HeaderAnswer}
 use Rattle.symbols.specs.declared.header.HeaderAnswer.the-variants as Answer
-use Rattle.symbols.proofs.Guard.{require-all}
+use Rattle.symbols.proofs.Guard.{require-cases, require-all}
 use Rattle.format3_records.specs.Record.{recordOf}
 use Rattle.format3_records.specs.declared.record.Record.{Record}
 use Rattle.format3_records.specs.declared.record.Record.the-variants as Record
 use Rattle.format3_records.specs.declared.verdict.Verdict.{Verdict}
 use Rattle.format3_records.specs.declared.verdict.Verdict.the-variants.{Passed, Refused}
 use Rattle.format3_header.specs.Header.{headerOf}
-use Rattle.format3_header.specs.Lengths.{lentLengths}
+use Rattle.format3_header.specs.Lengths.{callerVerdict}
 use Rattle.format3_header.specs.FileStart.{version, firstHeader, fileStartOf}
 use Rattle.format3_header.specs.declared.file_start.FileStart.{FileStart}
 use Rattle.format3_header.specs.declared.file_start.FileStart.the-variants as FileStart
+use Rattle.format3_header.proofs.Laws.Caller.{CallerRefusal, RefusedByCaller, caller-refusal}
+use Rattle.format3_header.proofs.Laws.FileStart.{begun}
 use Rattle.theorems_picture.proofs.RefusalLaws.{FoundOf, of-found}
 
 -- ---- at most 21, and neither the file's end (7) nor a vector (18)
@@ -66,7 +71,7 @@ of-reading refusal t = go (leb 3 n) (leb n 6) (leb 9 n) (leb n 17) refl refl ref
     go true false false d e f g p = absurd p
     go false b c d e f g p = absurd p
 
--- those of a header's body, and of the lengths of the lent buffers
+-- those of a header's body
 abbrev HeaderNeither : HeaderAnswer → Type 0
 HeaderNeither (Answer.Legal h) = T true
 HeaderNeither (Answer.Refused refusal) = NeitherEndNorVector refusal
@@ -77,27 +82,12 @@ header-neither body =
     require-all HeaderNeither _ _ _ (neither _ tt) λ long.
     require-all HeaderNeither _ _ _ (neither _ tt) λ legal. tt
 
-abbrev LengthsNeither : Verdict → Type 0
-LengthsNeither Passed = T true
-LengthsNeither (Refused refusal) = NeitherEndNorVector refusal
-
-lengths-neither : (h : Header) (output forward backward : ℕ) → LengthsNeither (lentLengths h output forward backward)
-unfolding lentLengths
-lengths-neither h output forward backward =
-    require-all LengthsNeither _ _ _ (neither _ tt) λ a.
-    require-all LengthsNeither _ _ _ (neither _ tt) λ b.
-    require-all LengthsNeither _ _ _ (neither _ tt) λ c. tt
-
 -- ---- the file's start
-require-cases : {A : Type 0} (P : A → Type 0) (test : Bool) (answer rest : A) → (test ≡ false → P answer) → (test ≡ true → P rest) → P (require test else answer then rest)
-unfolding require_else_then_
-require-cases P true answer rest a r = r refl
-require-cases P false answer rest a r = a refl
-
-module _ (file : List ℕ) where
+module _ (limit : ℕ) (file : List ℕ) where
   pub record ListedAt (refusal : Refusal) (place : ℕ) : Type 0 where
-    pub is-listed : numberOf refusal ≤ 21
+    pub is-listed : (numberOf refusal ≤ 21) ⊎ ((refusal ≡ MacroblockLimit) × (limit < maxMacroblocks))
     pub not-forward : numberOf refusal ≡ numberOf ForwardVectorOutside → ⊥
+    pub not-backward : numberOf refusal ≡ numberOf BackwardVectorOutside → ⊥
     pub at-end : numberOf refusal ≡ numberOf FileEnds → place ≡ length file
 
   abbrev pub StartListed : FileStart → Type 0
@@ -105,7 +95,7 @@ module _ (file : List ℕ) where
   StartListed (FileStart.Refused refusal place) = ListedAt refusal place
 
   anywhere : {refusal : Refusal} {place : ℕ} → NeitherEndNorVector refusal → ListedAt refusal place
-  anywhere o = record { is-listed = o .is-listed; not-forward = o .not-forward; at-end = λ e. absurd (o .not-end e) }
+  anywhere o = record { is-listed = inl (o .is-listed); not-forward = o .not-forward; not-backward = λ e. omega (arith, o .is-listed); at-end = λ e. absurd (o .not-end e) }
 
   tests-listed : (rest : FileStart) → StartListed rest → StartListed (
       require leb 1 (length file) else FileStart.Refused FileEmpty 0 then
@@ -115,7 +105,7 @@ module _ (file : List ℕ) where
   tests-listed rest p =
       require-cases StartListed _ _ _ (λ f. anywhere (neither _ tt)) λ some.
       require-cases StartListed _ _ _ (λ f. anywhere (neither _ tt)) λ same.
-      require-cases StartListed _ _ _ (λ f. record { is-listed = lit≤ tt; not-forward = λ e. omega arith; at-end = λ e. omega (arith, leb-true 1 (length file) some, leb-false 2 (length file) f) }) λ more. p
+      require-cases StartListed _ _ _ (λ f. record { is-listed = inl (lit≤ tt); not-forward = λ e. omega arith; not-backward = λ e. omega arith; at-end = λ e. omega (arith, leb-true 1 (length file) some, leb-false 2 (length file) f) }) λ more. p
 
   first-listed : StartListed (firstHeader file)
   unfolding firstHeader
@@ -129,14 +119,24 @@ module _ (file : List ℕ) where
       found (Record.Refused refusal) e t = rw e (tests-listed _ (anywhere (of-reading refusal t)))
       found (Record.Found kind start n) e t = legal kind start n e (headerOf (take n (drop start file))) refl (header-neither (take n (drop start file)))
 
-  pub start-listed : (output forward backward : ℕ) → StartListed (fileStartOf file output forward backward)
+  -- the reader's limit, and the lengths of the lent buffers
+  by-caller : {refusal : Refusal} (h : Header) → macroblockCount (h .size) ≤ maxMacroblocks → CallerRefusal limit h refusal → ListedAt refusal 1
+  by-caller {refusal} h few (inl (same, more)) = record {
+    is-listed = inr (same, omega (arith, few, more));
+    not-forward = λ e. omega (arith, ap numberOf same, e);
+    not-backward = λ e. omega (arith, ap numberOf same, e);
+    at-end = λ e. absurd (omega (arith, ap numberOf same, e));
+  }
+  by-caller h few (inr (low, high)) = anywhere (record { is-listed = high; not-end = λ e. omega (arith, low, e); not-forward = λ e. omega (arith, low, e) })
+
+  pub start-listed : (output forward backward : ℕ) → StartListed (fileStartOf limit file output forward backward)
   unfolding fileStartOf
   start-listed output forward backward = go (firstHeader file) refl first-listed
     where
-      lent : (h : Header) (end : ℕ) → firstHeader file ≡ FileStart.HeaderRead h end → (v : Verdict) → lentLengths h output forward backward ≡ v → LengthsNeither v → StartListed (fileStartOf file output forward backward)
+      lent : (h : Header) (end : ℕ) → firstHeader file ≡ FileStart.HeaderRead h end → (v : Verdict) → callerVerdict limit h output forward backward ≡ v → RefusedByCaller limit h v → StartListed (fileStartOf limit file output forward backward)
       lent h end e Passed l o = rw (e, l) tt
-      lent h end e (Refused refusal) l o = rw (e, l) (anywhere o)
+      lent h end e (Refused refusal) l o = rw (e, l) (by-caller h (begun file e .header .size .few) o)
 
-      go : (x : FileStart) → firstHeader file ≡ x → StartListed x → StartListed (fileStartOf file output forward backward)
+      go : (x : FileStart) → firstHeader file ≡ x → StartListed x → StartListed (fileStartOf limit file output forward backward)
       go (FileStart.Refused refusal place) e p = rw e p
-      go (FileStart.HeaderRead h end) e p = lent h end e (lentLengths h output forward backward) refl (lengths-neither h output forward backward)
+      go (FileStart.HeaderRead h end) e p = lent h end e (callerVerdict limit h output forward backward) refl (caller-refusal limit h output forward backward)

@@ -2,35 +2,38 @@
 -- Assumes nothing.
 use mathlib.Core.Bool.{true}
 use mathlib.Core.List.{List}
+use mathlib.Core.Logic.{inl, inr}
 use mathlib.Core.Path.{_≡_, refl, sym, _∙_, ap, subst}
 use Prim.Native.Nat.{ℕ, _*_, _≤_, _<_}
 use native.Mathlib.Omega.{arith}
-use borrow.Author.Tests.{leb-true}
 use lib.Dec.{T, leb, eqb, lit≤}
 use lib.IntN.{ℤ}
 use lib.ListN.{length, getD, take, drop}
 use Rattle.refusals.specs.Refusal.{accepted, numberOf}
+use Rattle.refusals.specs.declared.Refusal.{Refusal}
 use Rattle.refusals.specs.declared.Refusal.the-variants.{FileEmpty, Version, FileEnds}
 use Rattle.refusals.proofs.Laws.{never-accepted}
 use Rattle.symbols.specs.Guard.{require_else_then_}
 use Rattle.symbols.specs.Header.{typeI, typeB, legalHeader, headerWith}
-use Rattle.symbols.specs.Size.{maxWidth, maxHeight, maxMacroblocks, legalSize, pictureBytes}
+use Rattle.symbols.specs.Size.{legalSize, macroblockCount, pictureBytes}
 use Rattle.symbols.specs.declared.header.Header.{Header}
 use Rattle.symbols.specs.declared.header.HeaderAnswer.{HeaderAnswer}
 use Rattle.symbols.specs.declared.header.HeaderAnswer.the-variants as Answer
 use Rattle.symbols.proofs.Guard.{require-all, both}
+use Rattle.symbols.proofs.Laws.Size.{SizeLegal, size-legal}
 use Rattle.format3_records.specs.Record.{recordOf}
 use Rattle.format3_records.specs.declared.record.Record.{Record}
 use Rattle.format3_records.specs.declared.record.Record.the-variants as Record
 use Rattle.format3_records.specs.declared.verdict.Verdict.{Verdict}
 use Rattle.format3_records.specs.declared.verdict.Verdict.the-variants as Verdict
 use Rattle.format3_header.specs.Header.{headerOf}
-use Rattle.format3_header.specs.Lengths.{lentLengths}
+use Rattle.format3_header.specs.Lengths.{callerVerdict}
 use Rattle.format3_header.specs.FileStart.{version, firstHeader, fileStartOf, fileHeaderOf}
 use Rattle.format3_header.specs.declared.file_start.FileStart.{FileStart}
 use Rattle.format3_header.specs.declared.file_start.FileStart.the-variants as FileStart
+use Rattle.format3_header.proofs.Laws.Caller.{CallerRefusal, RefusedByCaller, caller-refusal}
 use Rattle.format3_header.proofs.Laws.FileStart.{begun}
-use Rattle.format3_picture.specs.Picture.{Picture, pictureOf}
+use Rattle.format3_picture.specs.Picture.{Picture, pictureWithin}
 use Rattle.format3_picture.proofs.InvariantLaws.{step-ends}
 use Rattle.format3_picture.proofs.PictureLaws.{no-header, header-read-is}
 use Rattle.format3_picture.proofs.StartLaws.{header-read}
@@ -38,18 +41,6 @@ use Rattle.theorems_picture.specs.Applies.{Reached, Passing, none, one-m
 use Rattle.theorems_picture.proofs.PassingLaws.{Stop, at-record, at-end, answerAt, stops, stopped}
 
 -- ---- the refusals of a start are 1 to 8, and a header that is read has a legal size
-abbrev SizeFew : ℕ → ℕ → Type 0
-SizeFew w h = (1 ≤ w) × (w ≤ maxWidth) × (1 ≤ h) × (h ≤ maxHeight) × (w * h ≤ maxMacroblocks)
-
-size-legal : (w h : ℕ) → legalSize w h ≡ true → SizeFew w h
-unfolding legalSize
-size-legal w h e =
-    let all = both _ (leb (w * h) maxMacroblocks) e in
-    let high = both _ (leb h maxHeight) (all .0) in
-    let low = both _ (leb 1 h) (high .0) in
-    let wide = both (leb 1 w) _ (low .0) in
-    (leb-true 1 w (wide .0), leb-true w maxWidth (wide .1), leb-true 1 h (low .1), leb-true h maxHeight (high .1), leb-true (w * h) maxMacroblocks (all .1))
-
 abbrev FoundFew : Record → Type 0
 FoundFew (Record.Found kind start n) = T true
 FoundFew (Record.Refused refusal) = numberOf refusal ≤ 8
@@ -63,7 +54,7 @@ found-few file at =
     require-all FoundFew _ _ _ (lit≤ tt) λ kind. tt
 
 abbrev HeaderFew : HeaderAnswer → Type 0
-HeaderFew (Answer.Legal h) = SizeFew (h .size .width) (h .size .height)
+HeaderFew (Answer.Legal h) = SizeLegal (h .size .width) (h .size .height)
 HeaderFew (Answer.Refused refusal) = numberOf refusal ≤ 8
 
 header-few : (body : List ℕ) → HeaderFew (headerOf body)
@@ -74,7 +65,7 @@ header-few body =
 
 module _ (file : List ℕ) where
   abbrev StartFew : FileStart → Type 0
-  StartFew (FileStart.HeaderRead h end) = SizeFew (h .size .width) (h .size .height)
+  StartFew (FileStart.HeaderRead h end) = SizeLegal (h .size .width) (h .size .height)
   StartFew (FileStart.Refused refusal place) = numberOf refusal ≤ 8
 
   tests-few : (rest : FileStart) → StartFew rest → StartFew (
@@ -107,27 +98,20 @@ module _ (file : List ℕ) where
       go (FileStart.HeaderRead h end) few = lit≤ tt
       go (FileStart.Refused refusal place) few = few
 
--- ---- the reader of pictures refuses the same starts, and refuses an accepted one only for the lengths of the lent buffers
-abbrev OfLengths : Verdict → Type 0
-OfLengths Verdict.Passed = T true
-OfLengths (Verdict.Refused refusal) = (19 ≤ numberOf refusal) × (numberOf refusal ≤ 21)
+-- ---- the reader of pictures refuses the same starts, and refuses an accepted one within its limit only for the lengths of the lent buffers
+lengths-within : (limit : ℕ) (h : Header) {refusal : Refusal} → CallerRefusal limit h refusal → macroblockCount (h .size) ≤ limit → (19 ≤ numberOf refusal) × (numberOf refusal ≤ 21)
+lengths-within limit h (inl (same, more)) within = absurd (omega (arith, more, within))
+lengths-within limit h (inr lengths) within = lengths
 
-of-lengths : (h : Header) (output forward backward : ℕ) → OfLengths (lentLengths h output forward backward)
-unfolding lentLengths
-of-lengths h output forward backward =
-    require-all OfLengths _ _ _ (lit≤ tt, lit≤ tt) λ a.
-    require-all OfLengths _ _ _ (lit≤ tt, lit≤ tt) λ b.
-    require-all OfLengths _ _ _ (lit≤ tt, lit≤ tt) λ c. tt
-
-module _ (transform : List ℤ → ℕ → ℤ) (file forward backward output : List ℕ) where
+module _ (limit : ℕ) (transform : List ℤ → ℕ → ℤ) (file forward backward output : List ℕ) where
   abbrev picture : Picture
-  picture = pictureOf transform file forward backward output
+  picture = pictureWithin limit transform file forward backward output
 
   -- if the start is read, the picture's place is the next record or after it
-  place-after : {h : Header} {end : ℕ} → fileStart file forward backward output ≡ FileStart.HeaderRead h end → end ≤ picture .place
+  place-after : {h : Header} {end : ℕ} → fileStart limit file forward backward output ≡ FileStart.HeaderRead h end → end ≤ picture .place
   place-after {h} {end} e =
       let s = stopped file h end in
-      rw (header-read-is transform file forward backward output e, stops file h end (s .passing) (s .stop) .answer) (by-stop (s .passing) (s .stop))
+      rw (header-read-is limit transform file forward backward output e, stops file h end (s .passing) (s .stop) .answer) (by-stop (s .passing) (s .stop))
     where
       passed : {r : Reached} → Passing file h end r → end ≤ r .offset
       passed none = omega arith
@@ -135,47 +119,47 @@ module _ (transform : List ℤ → ℕ → ℤ) (file forward backward output : 
 
       by-stop : {r : Reached} → Passing file h end r → (s : Stop file h end r) → end ≤ answerAt file h end s .place
       by-stop passing (at-record inside refusal v) = passed passing
-      by-stop passing (at-end past) = header-read file forward backward output e .in-file
+      by-stop passing (at-end past) = header-read limit file forward backward output e .in-file
 
   pub record AsRead (x : FileStart) : Type 0 where
     pub same-number : ¬ (fileHeaderOf x .number ≡ accepted) → picture .number ≡ fileHeaderOf x .number
     pub nothing-made : ¬ (fileHeaderOf x .number ≡ accepted) → picture .made ≡ 0
     pub unchanged : ¬ (fileHeaderOf x .number ≡ accepted) → picture .output ≡ output
     pub type-legal : fileHeaderOf x .number ≡ accepted → (typeI ≤ fileHeaderOf x .«coding_type») × (fileHeaderOf x .«coding_type» ≤ typeB)
-    pub size-legal : fileHeaderOf x .number ≡ accepted → SizeFew (fileHeaderOf x .width) (fileHeaderOf x .height)
-    pub lengths-only : fileHeaderOf x .number ≡ accepted → picture .place < fileHeaderOf x .«records_start» → (19 ≤ picture .number) × (picture .number ≤ 21)
+    pub size-legal : fileHeaderOf x .number ≡ accepted → SizeLegal (fileHeaderOf x .width) (fileHeaderOf x .height)
+    pub lengths-only : fileHeaderOf x .number ≡ accepted → fileHeaderOf x .width * fileHeaderOf x .height ≤ limit → picture .place < fileHeaderOf x .«records_start» → (19 ≤ picture .number) × (picture .number ≤ 21)
     pub output-length : picture .number ≡ accepted → length output ≡ pictureBytes (record { width = fileHeaderOf x .width; height = fileHeaderOf x .height })
 
   pub as-read : AsRead (firstHeader file)
   unfolding fileHeaderOf fileStartOf
   as-read = go (firstHeader file) refl
     where
-      read : {h : Header} {end : ℕ} → firstHeader file ≡ FileStart.HeaderRead h end → (v : Verdict) → lentLengths h (length output) (length forward) (length backward) ≡ v → OfLengths v
-          → (picture .place < end → (19 ≤ picture .number) × (picture .number ≤ 21)) × (picture .number ≡ accepted → length output ≡ pictureBytes (h .size))
-      read e (Verdict.Refused refusal) l few =
-          let start : fileStart file forward backward output ≡ FileStart.Refused refusal 1 = rw (e, l) in
-          let r = no-header transform file forward backward output start in
-          ((λ early. rw r few), (λ a. absurd (never-accepted refusal (sym (ap (λ (p : Picture). p .number) r) ∙ a))))
+      read : {h : Header} {end : ℕ} → firstHeader file ≡ FileStart.HeaderRead h end → (v : Verdict) → callerVerdict limit h (length output) (length forward) (length backward) ≡ v → RefusedByCaller limit h v
+          → (macroblockCount (h .size) ≤ limit → picture .place < end → (19 ≤ picture .number) × (picture .number ≤ 21)) × (picture .number ≡ accepted → length output ≡ pictureBytes (h .size))
+      read {h} e (Verdict.Refused refusal) l few =
+          let start : fileStart limit file forward backward output ≡ FileStart.Refused refusal 1 = rw (e, l) in
+          let r = no-header limit transform file forward backward output start in
+          ((λ within early. rw r (lengths-within limit h few within)), (λ a. absurd (never-accepted refusal (sym (ap (λ (p : Picture). p .number) r) ∙ a))))
       read {h} {end} e Verdict.Passed l few =
-          let start : fileStart file forward backward output ≡ FileStart.HeaderRead h end = rw (e, l) in
-          ((λ early. absurd (omega (arith, place-after start))), (λ a. header-read file forward backward output start .lent .output-whole))
+          let start : fileStart limit file forward backward output ≡ FileStart.HeaderRead h end = rw (e, l) in
+          ((λ within early. absurd (omega (arith, place-after start))), (λ a. header-read limit file forward backward output start .caller .lent .output-whole))
 
       go : (x : FileStart) → firstHeader file ≡ x → AsRead x
       go (FileStart.HeaderRead h end) e =
           let legal = begun file e .header in
-          let lent = read e (lentLengths h (length output) (length forward) (length backward)) refl (of-lengths h (length output) (length forward) (length backward)) in
+          let lent = read e (callerVerdict limit h (length output) (length forward) (length backward)) refl (caller-refusal limit h (length output) (length forward) (length backward)) in
           record {
             same-number = λ no. absurd (no refl);
             nothing-made = λ no. absurd (no refl);
             unchanged = λ no. absurd (no refl);
             type-legal = λ a. (legal .first-type, legal .last-type);
             size-legal = λ a. subst (StartFew file) e (first-few file);
-            lengths-only = λ a. lent .0;
+            lengths-only = λ a within. lent .0 within;
             output-length = lent .1;
           }
       go (FileStart.Refused refusal place) e =
-          let start : fileStart file forward backward output ≡ FileStart.Refused refusal place = rw e in
-          let r = no-header transform file forward backward output start in
+          let start : fileStart limit file forward backward output ≡ FileStart.Refused refusal place = rw e in
+          let r = no-header limit transform file forward backward output start in
           record {
             same-number = λ no. ap (λ (p : Picture). p .number) r;
             nothing-made = λ no. ap (λ (p : Picture). p .made) r;

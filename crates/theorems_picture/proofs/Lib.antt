@@ -9,5 +9,6 @@ pub mod Demand2
 pub mod AnyRefusalLaws
 pub mod MisfitLaws
 pub mod Request1
+pub mod Request4
 pub mod Request6
 pub mod Worked

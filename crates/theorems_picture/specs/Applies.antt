@@ -1,4 +1,4 @@
--- The records of a file that pass, and the refusals that apply to it (document 01, "Refusals by who can cause them"; request No. 1).
+-- The records of a file that pass, and the refusals that apply to it (document 01, "Refusals by who can cause them"; requests No. 1 and No. 4).
 use mathlib.Core.List.{List, [], _++_}
 use mathlib.Core.Path.{_≡_}
 use Prim.Native.Nat.{ℕ, _≤_, _<_}
@@ -47,29 +47,29 @@ pub data Passing (file : List ℕ) (h : Header) (end : ℕ) : Reached → Type 0
   none : Passing file h end (afterHeader h end)
   one-more : {r : Reached} → Passing file h end r → verdictAt file r ≡ Passed → Passing file h end (afterRecord file r)
 
--- the file's start, with the lengths of the lent buffers
-abbrev pub fileStart : List ℕ → List ℕ → List ℕ → List ℕ → FileStart
-fileStart file forward backward output = fileStartOf file (length output) (length forward) (length backward)
+-- the file's start, with the reader's limit and the lengths of the lent buffers
+abbrev pub fileStart : ℕ → List ℕ → List ℕ → List ℕ → List ℕ → FileStart
+fileStart limit file forward backward output = fileStartOf limit file (length output) (length forward) (length backward)
 
 -- a refusal applies: which one, at which place, and the macroblocks that the records before it made
-pub data Applies (file forward backward output : List ℕ) : Refusal → ℕ → List MadeMacroblock → Type 0 where
-  -- to the file's start: 1, 2, and those of the first record, which "ends with 19, 20, 21"
-  to-start : (refusal : Refusal) (place : ℕ) → fileStart file forward backward output ≡ FileStart.Refused refusal place
-      → Applies file forward backward output refusal place []
+pub data Applies (limit : ℕ) (file forward backward output : List ℕ) : Refusal → ℕ → List MadeMacroblock → Type 0 where
+  -- to the file's start: 1, 2, and those of the first record, which "ends with 19, 20, 21"; 27 comes before these
+  to-start : (refusal : Refusal) (place : ℕ) → fileStart limit file forward backward output ≡ FileStart.Refused refusal place
+      → Applies limit file forward backward output refusal place []
   -- to a record: all before it pass, and it is refused. "Place is the offset of the refused record's length"
-  to-record : (h : Header) (end : ℕ) → fileStart file forward backward output ≡ FileStart.HeaderRead h end
+  to-record : (h : Header) (end : ℕ) → fileStart limit file forward backward output ≡ FileStart.HeaderRead h end
       → (r : Reached) → Passing file h end r → r .offset < length file
       → (refusal : Refusal) → verdictAt file r ≡ Refused refusal
-      → Applies file forward backward output refusal (r .offset) (r .macroblocks)
+      → Applies limit file forward backward output refusal (r .offset) (r .macroblocks)
   -- "7 file ends with macroblocks .. missing": all records pass. Its place is "file length for 7, where all records count as before it"
-  to-end : (h : Header) (end : ℕ) → fileStart file forward backward output ≡ FileStart.HeaderRead h end
+  to-end : (h : Header) (end : ℕ) → fileStart limit file forward backward output ≡ FileStart.HeaderRead h end
       → (r : Reached) → Passing file h end r → length file ≤ r .offset
       → r .state .made < macroblockCount (h .size)
-      → Applies file forward backward output FileEnds (length file) (r .macroblocks)
+      → Applies limit file forward backward output FileEnds (length file) (r .macroblocks)
 
 -- some refusal applies
-pub record AppliesTo (file forward backward output : List ℕ) : Type 0 where
+pub record AppliesTo (limit : ℕ) (file forward backward output : List ℕ) : Type 0 where
   pub refusal : Refusal
   pub place : ℕ
   pub before : List MadeMacroblock
-  pub applies : Applies file forward backward output refusal place before
+  pub applies : Applies limit file forward backward output refusal place before

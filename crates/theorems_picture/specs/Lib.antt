@@ -1,3 +1,4 @@
 pub mod Applies
+pub mod Limit
 pub mod Misfit
 pub mod Worked

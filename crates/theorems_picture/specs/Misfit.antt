@@ -49,10 +49,10 @@ macroblocksOfRecord r m =
     macroblocksOfPlan (planFor (r .state .header) (r .state .next) (r .state .slice) m) (coefficientsFor (r .matrices) (r .state .slice) m)
 
 -- a record is refused for a vector: all before it pass, it is a macroblock record in turn, its symbols are legal, and a vector doesn't fit
-pub record VectorRefused (file forward backward output : List ℕ) (refusal : Refusal) : Type 0 where
+pub record VectorRefused (limit : ℕ) (file forward backward output : List ℕ) (refusal : Refusal) : Type 0 where
   pub header : Header
   pub end : ℕ
-  pub header-read : fileStart file forward backward output ≡ HeaderRead header end
+  pub header-read : fileStart limit file forward backward output ≡ HeaderRead header end
   pub reached : Reached
   pub passing : Passing file header end reached
   -- the next record, with its body

@@ -1,4 +1,5 @@
--- Files worked by the definition: each of the refusals 1 to 21 and 23, pictures that are accepted, and the rows worked for pictures.
+-- Files worked by the definition: each of the refusals 1 to 21 and 23, pictures that are accepted, the rows worked for pictures, and headers around
+-- the readers' limits (27).
 use mathlib.Core.Bool.{false, cond}
 use mathlib.Core.List.{List, [], _∷_, _++_}
 use Prim.Native.Nat.{ℕ, suc}
@@ -7,8 +8,9 @@ use lib.IntN.{ℤ, pos}
 use lib.ListN.{length, replicate}
 use Rattle.refusals.specs.Refusal.{numberOf}
 use Rattle.refusals.specs.declared.Refusal.{Refusal}
-use Rattle.refusals.specs.declared.Refusal.the-variants.{ForwardVectorOutside, BackwardVectorOutside}
+use Rattle.refusals.specs.declared.Refusal.the-variants.{ForwardVectorOutside, BackwardVectorOutside, MacroblockLimit}
 use Rattle.symbols.specs.Header.{typeI}
+use Rattle.symbols.specs.Size.{maxMacroblocks}
 use Rattle.symbols.specs.declared.header.Header.{Header}
 use Rattle.symbols.specs.MacroblockType.{intraPart as intraType}
 use Rattle.symbols.specs.Pattern.{allBlocks}
@@ -16,7 +18,7 @@ use Rattle.symbols.specs.Block.{coded}
 use Rattle.symbols.specs.Macroblock.{Macroblock}
 use Rattle.symbols.specs.VectorCodes.{noCodes}
 use Rattle.decode_coefficients.specs.Matrices.{defaultMatrices}
-use Rattle.format3_picture.specs.Picture.{answerOf, pictureRefusing}
+use Rattle.format3_picture.specs.Picture.{refusedAt, answerOf, pictureRefusing}
 use Rattle.format3_picture.specs.Reconstruction.{Symbols}
 use Rattle.format3_picture.specs.declared.reader.Answer.{Answer}
 
@@ -198,13 +200,17 @@ rowCases =
 abbrev pub zeros : List ℤ → ℕ → ℤ
 zeros c k = pos 0
 
--- the answers with any refusal for a backward misfit, and the reader's
-abbrev pub answersRefusing : Refusal → List Case → List Answer
-answersRefusing backwardRefusal [] = []
-answersRefusing backwardRefusal (c ∷ cs) = answerOf (pictureRefusing backwardRefusal zeros (c .file) (c .forward) (c .backward) (c .output)) ∷ answersRefusing backwardRefusal cs
+-- the answers with any refusal for a backward misfit and any limit, those of a reader with a limit, and those with the format's limit
+abbrev pub answersRefusing : Refusal → ℕ → List Case → List Answer
+answersRefusing backwardRefusal limit [] = []
+answersRefusing backwardRefusal limit (c ∷ cs) =
+    answerOf (pictureRefusing backwardRefusal limit zeros (c .file) (c .forward) (c .backward) (c .output)) ∷ answersRefusing backwardRefusal limit cs
+
+abbrev pub answersWithin : ℕ → List Case → List Answer
+answersWithin = answersRefusing BackwardVectorOutside
 
 abbrev pub answers : List Case → List Answer
-answers = answersRefusing BackwardVectorOutside
+answers = answersWithin maxMacroblocks
 
 abbrev pub expectations : List Case → List Answer
 expectations [] = []
@@ -218,18 +224,32 @@ abbrev pub expectationsAs18 : List Case → List Answer
 expectationsAs18 [] = []
 expectationsAs18 (c ∷ cs) = countedAs18 (c .expected) ∷ expectationsAs18 cs
 
+-- ---- limits (request No. 4)
+-- a file of a header alone, by size, type and forward f_code
+abbrev pub sizedFile : ℕ → ℕ → ℕ → ℕ → List ℕ
+sizedFile width height type code = 3 ∷ recordWith 1 (width ∷ height ∷ type ∷ 0 ∷ code ∷ 0 ∷ 0 ∷ [])
+
+-- its header, if it is an I picture
+abbrev pub intraHeader : ℕ → ℕ → Header
+intraHeader width height = record {
+  size = record { width = width; height = height };
+  «coding_type» = typeI;
+  forward = record { «full_pel» = false; «f_code» = 0 };
+  backward = record { «full_pel» = false; «f_code» = 0 };
+}
+
+-- 27 for each case
+abbrev pub expectationsBeyond : List Case → List Answer
+expectationsBeyond [] = []
+expectationsBeyond (c ∷ cs) = refusedAt MacroblockLimit 1 0 0 ∷ expectationsBeyond cs
+
 -- ---- a file with its symbols: two slices of one macroblock each, and a record that is cut
 abbrev pub twoSlices : List ℕ
 twoSlices = 3 ∷ recordWith 1 (2 ∷ 1 ∷ 1 ∷ 0 ∷ 0 ∷ 0 ∷ 0 ∷ []) ++ recordWith 3 (8 ∷ 0 ∷ 0 ∷ []) ++ grey ++ recordWith 3 (4 ∷ 0 ∷ 1 ∷ []) ++ grey ++ 0 ∷ []
 
 -- an I picture, two macroblocks wide and one high
 abbrev pub twoWide : Header
-twoWide = record {
-  size = record { width = 2; height = 1 };
-  «coding_type» = typeI;
-  forward = record { «full_pel» = false; «f_code» = 0 };
-  backward = record { «full_pel» = false; «f_code» = 0 };
-}
+twoWide = intraHeader 2 1
 
 -- the symbols of the intra macroblock: six blocks of a DC difference of 0 and no pair
 abbrev pub greySymbols : Macroblock

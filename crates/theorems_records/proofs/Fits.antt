@@ -3,7 +3,6 @@ use mathlib.Core.Bool.{Bool, true, false, not}
 use mathlib.Core.List.{List}
 use mathlib.Core.Path.{refl, subst}
 use Prim.Native.Nat.{ℕ, zero, suc, _+_, _-_, _*_, _^_, _<_, _≤_}
-use native.Mathlib.Nat.{mul-comm, mul-le-mul-left}
 use native.Mathlib.Omega.{arith}
 use borrow.Author.Tests.{eqb-true, leb-true}
 use lib.Dec.{ltb, eqb, leb}
@@ -12,6 +11,7 @@ use lib.ListN.{length}
 use lib.Pow.{pow-mono}
 use mir.Syntax.{w8, w16}
 use mir.Val.{Fits, SFits}
+use Rattle.symbols.specs.Size.{maxMacroblocks}
 use Rattle.math.proofs.Bound.{within-fits, within-cond}
 use Rattle.symbols.specs.Parsed.{optional_default_read_}
 use Rattle.symbols.specs.Requires.{HeaderWithin}
@@ -24,6 +24,7 @@ use Rattle.symbols.specs.declared.vector_codes.Vectors.{Vectors}
 use Rattle.symbols.specs.VectorCodes.{noCodes}
 use Rattle.symbols.proofs.Guard.{require-all}
 use Rattle.symbols.proofs.Parsed.{All, here, none, all-then, all-require, all-cond, all-any}
+use Rattle.symbols.proofs.Laws.Size.{rows-within}
 use Rattle.mpeg1_bits.specs.Bits.{bitsFrom}
 use Rattle.mpeg1_bits.specs.declared.BitPosition.{BitPosition}
 use Rattle.mpeg1_tables.specs.AnnexB.{increments, incrementsAfterEscape, stuffing, incrementEscape, typesOf, motionCodes}
@@ -59,14 +60,14 @@ module _ (bytes : List ℕ) where
       all-then (word-between bytes at increments increment-read) λ v p k.
       all-cond (eqb v stuffing) _ _ _ (λ t. first-small n p) (λ t. here (k .1))
 
-  escape-small : (n sum : ℕ) (at : BitPosition) → sum ≤ 396 → All (λ v p. v ≤ 431) (afterEscape n sum bytes at)
+  escape-small : (n sum : ℕ) (at : BitPosition) → sum ≤ maxMacroblocks → All (λ v p. v ≤ 431) (afterEscape n sum bytes at)
   unfolding afterEscape
   escape-small zero sum at h = none
   escape-small (suc n) sum at h =
       all-then (word-between bytes at incrementsAfterEscape increment-after-escape-read) λ v p k.
-      all-require (leb (sum + amountOf v) 396) _ _ p λ t.
+      all-require (leb (sum + amountOf v) maxMacroblocks) _ _ p λ t.
       all-cond (eqb v incrementEscape) _ _ _
-      (λ u. escape-small n (sum + 33) p (omega (arith, leb-true (sum + amountOf v) 396 t, escape-amount v (eqb-true v incrementEscape u))))
+      (λ u. escape-small n (sum + 33) p (omega (arith, leb-true (sum + amountOf v) maxMacroblocks t, escape-amount v (eqb-true v incrementEscape u))))
       (λ u. here (omega (arith, k .1)))
 
   pub increment-small : (at : BitPosition) → All (λ v p. v ≤ 431) (incrementAt bytes at)
@@ -193,5 +194,5 @@ pub start-fits : (h : Header) (row increment : ℕ) → HeaderWithin h → row �
 unfolding startAddress
 start-fits h row increment within rows small =
     let above : row - 1 ≤ h .size .height = omega arith in
-    let few : (row - 1) * h .size .width ≤ 396 = rw (mul-comm (row - 1) (h .size .width)) (omega (arith, mul-le-mul-left (h .size .width) above, within .size .few)) in
+    let few = rows-within (within .size) (row - 1) above in
     record { fits = omega arith }

@@ -1,6 +1,7 @@
 -- The strict reader never answers 3, 4 or 6 to records that the writer wrote, put after a header. Assumes nothing.
 use mathlib.Core.Bool.{Bool, true, false, cond}
 use mathlib.Core.List.{List, [], _++_}
+use mathlib.Core.Logic.{inl, inr}
 use mathlib.Core.Path.{_≡_, refl, ap}
 use Prim.Native.Nat.{ℕ, zero, suc, _+_, _≤_}
 use native.Mathlib.Omega.{arith}
@@ -26,10 +27,11 @@ use Rattle.format3_records.specs.declared.record.Record.the-variants.{Found}
 use Rattle.format3_records.specs.declared.verdict.Verdict.{Verdict}
 use Rattle.format3_records.specs.declared.verdict.Verdict.the-variants.{Passed, Refused}
 use Rattle.format3_header.specs.Header.{fieldsOf, headerOf}
-use Rattle.format3_header.specs.Lengths.{lentLengths}
+use Rattle.format3_header.specs.Lengths.{callerVerdict}
 use Rattle.format3_header.specs.FileStart.{firstHeader, fileStartOf}
 use Rattle.format3_header.specs.declared.file_start.FileStart.{FileStart}
 use Rattle.format3_header.specs.declared.file_start.FileStart.the-variants as FileStart
+use Rattle.format3_header.proofs.Laws.Caller.{CallerRefusal, RefusedByCaller, caller-refusal}
 use Rattle.format3_writer.specs.Bytes.{bigEndianBytes}
 use Rattle.format3_writer.specs.Records.{recordHead, recordBytes, macroblockRecord, sliceRecords}
 use Rattle.format3_writer.proofs.Laws.Lengths.{FewPairs}
@@ -37,7 +39,7 @@ use Rattle.format3_picture.specs.State.{startState}
 use Rattle.format3_picture.specs.declared.state.PictureState.{PictureState}
 use Rattle.format3_picture.specs.Step.{stepAt}
 use Rattle.format3_picture.specs.Symbols.{Symbol, symbolAt}
-use Rattle.format3_picture.specs.Picture.{isComplete, refusedAt, Answered, answeredBy, followed, recordsFrom, recordsFromRefusing, pictureOf, pictureRefusing}
+use Rattle.format3_picture.specs.Picture.{isComplete, refusedAt, Answered, answeredBy, followed, recordsFrom, recordsFromRefusing, pictureWithin, pictureRefusing}
 use Rattle.theorems_records.specs.WellFramed.{WellFramed}
 use Rattle.theorems_records.specs.FieldFit.{Matching}
 use Rattle.theorems_records.proofs.Framed.{framed}
@@ -101,13 +103,13 @@ header-framed : (fields : List ℕ) → length fields ≡ 7 → HeaderFramed (he
 unfolding headerOf require_else_then_
 header-framed fields seven = rw (eq-eqb (length fields) 7 seven) (numbers-framed (fieldsOf fields))
 
-lengths-framed : (h : Header) (output forward backward : ℕ) → VerdictFramed (lentLengths h output forward backward)
-unfolding lentLengths
-lengths-framed h output forward backward =
-    require-all VerdictFramed _ _ _ (framed _ refl) λ a.
-    require-all VerdictFramed _ _ _ (framed _ refl) λ b.
-    require-all VerdictFramed _ _ _ (framed _ refl) λ c.
-    tt
+caller-framed : (limit : ℕ) (h : Header) (v : Verdict) → RefusedByCaller limit h v → VerdictFramed v
+caller-framed limit h Passed c = tt
+caller-framed limit h (Refused refusal) c = go c
+  where
+    go : CallerRefusal limit h refusal → WellFramed (numberOf refusal)
+    go (inl (same, more)) = rw same (framed _ refl)
+    go (inr (low, high)) = record { not-cut = λ e. omega (arith, low, e); known-kind = λ e. omega (arith, low, e); whole-body = λ e. omega (arith, low, e) }
 
 module _ (fields records : List ℕ) (seven : length fields ≡ 7) where
   abbrev file : List ℕ
@@ -127,26 +129,26 @@ module _ (fields records : List ℕ) (seven : length fields ≡ 7) where
       go (Header.Refused refusal) e framed = rw (long 1 (omega arith), long 2 (omega arith), shown, e) framed
       go (Header.Legal h) e framed = rw (long 1 (omega arith), long 2 (omega arith), shown, e) (rw (record-body file 1 headerKind fields records refl) at e, refl)
 
-  pub file-start-well-framed : (output forward backward : ℕ) → FileStartWellFramed fields (fileStartOf file output forward backward)
+  pub file-start-well-framed : (limit output forward backward : ℕ) → FileStartWellFramed fields (fileStartOf limit file output forward backward)
   unfolding fileStartOf
-  file-start-well-framed output forward backward = go (firstHeader file) refl first-framed
+  file-start-well-framed limit output forward backward = go (firstHeader file) refl first-framed
     where
-      lengths : (h : Header) (end : ℕ) → firstHeader file ≡ FileStart.HeaderRead h end → FileStartWellFramed fields (FileStart.HeaderRead h end) → (v : Verdict) → lentLengths h output forward backward ≡ v → VerdictFramed v
-          → FileStartWellFramed fields (fileStartOf file output forward backward)
+      lengths : (h : Header) (end : ℕ) → firstHeader file ≡ FileStart.HeaderRead h end → FileStartWellFramed fields (FileStart.HeaderRead h end) → (v : Verdict) → callerVerdict limit h output forward backward ≡ v → VerdictFramed v
+          → FileStartWellFramed fields (fileStartOf limit file output forward backward)
       lengths h end e stands (Refused refusal) l framed = rw (e, l) framed
       lengths h end e stands Passed l framed = rw (e, l) stands
 
-      go : (x : FileStart) → firstHeader file ≡ x → FileStartWellFramed fields x → FileStartWellFramed fields (fileStartOf file output forward backward)
+      go : (x : FileStart) → firstHeader file ≡ x → FileStartWellFramed fields x → FileStartWellFramed fields (fileStartOf limit file output forward backward)
       go (FileStart.Refused refusal place) e framed = rw e framed
-      go (FileStart.HeaderRead h end) e stands = lengths h end e stands (lentLengths h output forward backward) refl (lengths-framed h output forward backward)
+      go (FileStart.HeaderRead h end) e stands = lengths h end e stands (callerVerdict limit h output forward backward) refl (caller-framed limit h (callerVerdict limit h output forward backward) (caller-refusal limit h output forward backward))
 
   -- the strict reader never answers 3, 4 or 6 to records that the writer wrote, put after any header: rules out a writer that cuts a record,
   -- counts its bytes or its pairs wrongly, or leaves out a field
-  pub picture-framed : (transform : List ℤ → ℕ → ℤ) (forward backward output : List ℕ) → WellFormedRecords records → WellFramed (pictureOf transform file forward backward output .number)
+  pub picture-framed : (limit : ℕ) (transform : List ℤ → ℕ → ℤ) (forward backward output : List ℕ) → WellFormedRecords records → WellFramed (pictureWithin limit transform file forward backward output .number)
   unfolding pictureRefusing
-  picture-framed transform forward backward output whole = go (fileStartOf file (length output) (length forward) (length backward)) refl (file-start-well-framed (length output) (length forward) (length backward))
+  picture-framed limit transform forward backward output whole = go (fileStartOf limit file (length output) (length forward) (length backward)) refl (file-start-well-framed limit (length output) (length forward) (length backward))
     where
-      go : (x : FileStart) → fileStartOf file (length output) (length forward) (length backward) ≡ x → FileStartWellFramed fields x → WellFramed (pictureOf transform file forward backward output .number)
+      go : (x : FileStart) → fileStartOf limit file (length output) (length forward) (length backward) ≡ x → FileStartWellFramed fields x → WellFramed (pictureWithin limit transform file forward backward output .number)
       go (FileStart.Refused refusal place) e framed = rw e framed
       go (FileStart.HeaderRead h end) e stands = rw (e, stands .1) (records-framed file (length file) (startAfter fields) (startState h) defaultMatrices whole (record-after file 1 headerKind fields records refl))
 

@@ -37,7 +37,7 @@ use Rattle.format3_picture.specs.declared.state.PictureState.{PictureState}
 use Rattle.format3_picture.specs.Reconstruction.{reconstruction}
 use Rattle.format3_picture.specs.Symbols.{Symbol, starts, continues, Gathered, putInFront}
 use Rattle.format3_picture.specs.Step.{stepAt}
-use Rattle.format3_picture.specs.Picture.{endAnswer, refusedAt, Answered, answeredBy, followed, recordsFrom, recordsFromRefusing, recordsAfter, symbolsOf, pictureOf, pictureRefusing}
+use Rattle.format3_picture.specs.Picture.{endAnswer, refusedAt, Answered, answeredBy, followed, recordsFrom, recordsFromRefusing, recordsAfter, symbolsOf, pictureWithin, pictureRefusing}
 use Rattle.theorems_records.proofs.Record.{record-after, record-before}
 use Rattle.theorems_records.specs.WellFormed.{WellFormedRecord, of-slice, of-macroblock}
 use Rattle.theorems_records.specs.Slices.{EncodableMacroblock, EncodableMacroblocks, EncodableSlices, slicesFile, symbolsFor, Beginning}
@@ -190,36 +190,36 @@ module _ (fields : List ℕ) (h : Header) (slices : List Slice) (legal : headerO
       stands = record-after file 1 headerKind fields (recordsFor slices) refl
 
   -- where the file's header is read, its records start after the header
-  header-read-at : (output forward backward : ℕ) {other : Header} {end : ℕ} → fileStartOf file output forward backward ≡ FileStart.HeaderRead other end → FileStartWellFramed fields (FileStart.HeaderRead other end)
-  header-read-at output forward backward e = subst (FileStartWellFramed fields) e (file-start-well-framed fields (recordsFor slices) (seven-bytes fields legal) output forward backward)
+  header-read-at : (limit output forward backward : ℕ) {other : Header} {end : ℕ} → fileStartOf limit file output forward backward ≡ FileStart.HeaderRead other end → FileStartWellFramed fields (FileStart.HeaderRead other end)
+  header-read-at limit output forward backward e = subst (FileStartWellFramed fields) e (file-start-well-framed fields (recordsFor slices) (seven-bytes fields legal) limit output forward backward)
 
-  module _ (transform : List ℤ → ℕ → ℤ) (forward backward output : List ℕ) where
-    module _ (end : ℕ) (e : fileStartOf file (length output) (length forward) (length backward) ≡ FileStart.HeaderRead h end) where
+  module _ (limit : ℕ) (transform : List ℤ → ℕ → ℤ) (forward backward output : List ℕ) where
+    module _ (end : ℕ) (e : fileStartOf limit file (length output) (length forward) (length backward) ≡ FileStart.HeaderRead h end) where
       header-read-gathers : Gathers file (startAfter fields) [] slices defaultMatrices (recordsAfter file h end)
-      header-read-gathers = rw (header-read-at (length output) (length forward) (length backward) e .1) all-gathers
+      header-read-gathers = rw (header-read-at limit (length output) (length forward) (length backward) e .1) all-gathers
 
       -- the slices that were read are a beginning of these, and they are all that comes before the answer's place
       pub reads-beginning : Beginning (symbolsOf file h end .slices) slices
       reads-beginning = slices-begun (header-read-gathers .begun)
 
-      pub reads-before : take (pictureOf transform file forward backward output .place) file ≡ slicesFile fields (symbolsOf file h end .slices)
+      pub reads-before : take (pictureWithin limit transform file forward backward output .place) file ≡ slicesFile fields (symbolsOf file h end .slices)
       unfolding pictureRefusing joined
       reads-before = rw e (header-read-gathers .before ∙ rw (record-before file 1 headerKind fields (recordsFor slices) refl, none-before (header-read-gathers .begun)))
 
-      header-read-symbols : pictureOf transform file forward backward output .number ≡ accepted → symbolsOf file h end ≡ symbolsFor slices
+      header-read-symbols : pictureWithin limit transform file forward backward output .number ≡ accepted → symbolsOf file h end ≡ symbolsFor slices
       unfolding pictureRefusing
       header-read-symbols whole = let g = header-read-gathers in rw (g .same, g .all (rw e at whole) .1)
 
     -- ---- the file is accepted: its header of seven bytes is read, and exactly these slices are read
-    module _ (whole : pictureOf transform file forward backward output .number ≡ accepted) where
-      pub accepted-header-read : fileStartOf file (length output) (length forward) (length backward) ≡ FileStart.HeaderRead h 11
+    module _ (whole : pictureWithin limit transform file forward backward output .number ≡ accepted) where
+      pub accepted-header-read : fileStartOf limit file (length output) (length forward) (length backward) ≡ FileStart.HeaderRead h 11
       unfolding pictureRefusing
-      accepted-header-read = go (fileStartOf file (length output) (length forward) (length backward)) refl
+      accepted-header-read = go (fileStartOf limit file (length output) (length forward) (length backward)) refl
         where
-          go : (x : FileStart) → fileStartOf file (length output) (length forward) (length backward) ≡ x → fileStartOf file (length output) (length forward) (length backward) ≡ FileStart.HeaderRead h 11
+          go : (x : FileStart) → fileStartOf limit file (length output) (length forward) (length backward) ≡ x → fileStartOf limit file (length output) (length forward) (length backward) ≡ FileStart.HeaderRead h 11
           go (FileStart.Refused refusal place) e = absurd (never-accepted refusal (rw e at whole))
           go (FileStart.HeaderRead other end) e =
-              let stands = header-read-at (length output) (length forward) (length backward) e in
+              let stands = header-read-at limit (length output) (length forward) (length backward) e in
               let read : headerOf fields ≡ Header.Legal other = stands .0 in
               let same : other ≡ h = cc in
               let behind : end ≡ 11 = omega (arith, stands .1, seven-bytes fields legal) in
@@ -228,6 +228,6 @@ module _ (fields : List ℕ) (h : Header) (slices : List Slice) (legal : headerO
       pub accepted-symbols : symbolsOf file h 11 ≡ symbolsFor slices
       accepted-symbols = header-read-symbols 11 accepted-header-read whole
 
-      pub accepted-output : pictureOf transform file forward backward output .output ≡ reconstruction transform (references forward backward) h (symbolsFor slices) output
+      pub accepted-output : pictureWithin limit transform file forward backward output .output ≡ reconstruction transform (references forward backward) h (symbolsFor slices) output
       unfolding pictureRefusing
       accepted-output = rw (accepted-header-read, accepted-symbols)

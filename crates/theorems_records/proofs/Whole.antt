@@ -22,7 +22,7 @@ use Rattle.symbols.specs.Slice.{Slice}
 use Rattle.symbols.proofs.Parsed.{All, here, all-then, all-cond, all-more, all-both, all-at, all-any}
 use Rattle.format3_writer.specs.Records.{sliceBytes}
 use Rattle.format3_writer.proofs.Laws.Lengths.{FewPairs}
-use Rattle.format3_picture.specs.Picture.{pictureOf}
+use Rattle.format3_picture.specs.Picture.{pictureWithin}
 use Rattle.mpeg1_bits.specs.Bits.{allZeros, bitsFrom}
 use Rattle.mpeg1_bits.specs.declared.BitPosition.{BitPosition}
 use Rattle.mpeg1_tables.specs.AnnexB.{patterns}
@@ -134,17 +134,17 @@ each-whole (Slices.more k l) = Whole.more (k .whole) (each-whole l)
 
 -- rules out a writer that cuts a record, counts its bytes or its pairs wrongly, or leaves out a field
 pub slice-framed : (h : Header) (bytes : List ℕ) (slice : Slice) (end : BitPosition) → rawSliceOf h bytes ≡ parsed slice end
-    → (transform : List ℤ → ℕ → ℤ) (fields forward backward output : List ℕ) → length fields ≡ 7
-    → WellFramed (pictureOf transform (fileOf fields (sliceBytes slice)) forward backward output .number)
-slice-framed h bytes slice end e transform fields forward backward output seven =
-    picture-framed fields (sliceBytes slice) seven transform forward backward output (slice-whole (slice .scale) (slice .start) (each-whole (all-at (slice-of h bytes) e .each)))
+    → (limit : ℕ) (transform : List ℤ → ℕ → ℤ) (fields forward backward output : List ℕ) → length fields ≡ 7
+    → WellFramed (pictureWithin limit transform (fileOf fields (sliceBytes slice)) forward backward output .number)
+slice-framed h bytes slice end e limit transform fields forward backward output seven =
+    picture-framed fields (sliceBytes slice) seven limit transform forward backward output (slice-whole (slice .scale) (slice .start) (each-whole (all-at (slice-of h bytes) e .each)))
 
 -- rules out an entry that counts too many bytes or too few, or writes the records elsewhere
 pub accepted-framed : (given : HeaderFields) (bytes buffer : List ℕ) → rawSliceOutcome given bytes buffer .answer .number ≡ accepted
-    → (transform : List ℤ → ℕ → ℤ) (fields forward backward output : List ℕ) → length fields ≡ 7
-    → WellFramed (pictureOf transform (fileOf fields (take (rawSliceOutcome given bytes buffer .answer .written) (rawSliceOutcome given bytes buffer .buffer))) forward backward output .number)
-accepted-framed given bytes buffer number transform fields forward backward output seven =
+    → (limit : ℕ) (transform : List ℤ → ℕ → ℤ) (fields forward backward output : List ℕ) → length fields ≡ 7
+    → WellFramed (pictureWithin limit transform (fileOf fields (take (rawSliceOutcome given bytes buffer .answer .written) (rawSliceOutcome given bytes buffer .buffer))) forward backward output .number)
+accepted-framed given bytes buffer number limit transform fields forward backward output seven =
     let t = accepted-is-slice given bytes buffer number in
     let records = sliceBytes (t .slice) in
     rw (accepted-slice-written given bytes buffer t, take-append-seam records (drop (length records) buffer))
-    (slice-framed (t .header) bytes (t .slice) (t .end) (t .is) transform fields forward backward output seven)
+    (slice-framed (t .header) bytes (t .slice) (t .end) (t .is) limit transform fields forward backward output seven)

@@ -19,7 +19,7 @@ use Rattle.decode_state.specs.Vectors.{predictsForward, predictsBackward, ownMo
 use Rattle.format3_records.specs.Field.{twosComplement, byte, twoBytes, signedTwoBytes}
 use Rattle.format3_records.specs.Record.{recordLengthAt, kindAt, recordOf}
 use Rattle.format3_header.specs.Header.{headerOf}
-use Rattle.format3_header.specs.Lengths.{lentLengths}
+use Rattle.format3_header.specs.Lengths.{lentLengths, callerVerdict}
 use Rattle.format3_header.specs.FileStart.{firstHeader, fileStartOf}
 use Rattle.format3_macroblock.specs.Pairs.{pairsOf}
 use Rattle.format3_macroblock.specs.Blocks.{legalDifference, legalDc, differenceOf, legalCount, countOf, levelsOf, blockOf, blocksOf}
@@ -41,5 +41,5 @@ unfolding headerOf headerWith legalHeader legalSize legalCodings require_else_th
 one-header = refl
 
 pub one-slice-accepted : (transform : List ℤ → ℕ → ℤ) → pictureOf transform (slicesFile oneMacroblockFields (oneSliceSymbols ∷ [])) [] [] (replicate 384 7) .number ≡ accepted
-unfolding symbolAt require_else_then_ twosComplement byte twoBytes signedTwoBytes recordLengthAt kindAt recordOf legalSize legalCodings legalHeader headerWith headerOf lentLengths firstHeader fileStartOf scaleOf sliceFieldsOf sliceOf legalType legalIncrement headOf legalDifference legalDc differenceOf legalCount countOf levelsOf blockOf dcPastOf withDcPast isCoded blocksOf macroblockSymbols startingDcPasts blocksToEndOf macroblockOf vectorsOf directionFits fitOf firstMisfit planOf predictsForward predictsBackward ownMotion recordFit planAppliedRefusing symbolsAppliedRefusing recordsFromRefusing sliceStarted recordAppliedRefusing stepAtRefusing pairsOf joined recordHead recordBytes sliceBody sliceRecords blockBytes levelsBytes headBytes patternBytes macroblockBody complement bigEndianBytes pictureRefusing
+unfolding symbolAt require_else_then_ twosComplement byte twoBytes signedTwoBytes recordLengthAt kindAt recordOf legalSize legalCodings legalHeader headerWith headerOf lentLengths callerVerdict firstHeader fileStartOf scaleOf sliceFieldsOf sliceOf legalType legalIncrement headOf legalDifference legalDc differenceOf legalCount countOf levelsOf blockOf dcPastOf withDcPast isCoded blocksOf macroblockSymbols startingDcPasts blocksToEndOf macroblockOf vectorsOf directionFits fitOf firstMisfit planOf predictsForward predictsBackward ownMotion recordFit planAppliedRefusing symbolsAppliedRefusing recordsFromRefusing sliceStarted recordAppliedRefusing stepAtRefusing pairsOf joined recordHead recordBytes sliceBody sliceRecords blockBytes levelsBytes headBytes patternBytes macroblockBody complement bigEndianBytes pictureRefusing
 one-slice-accepted transform = refl

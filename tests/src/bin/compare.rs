@@ -1,15 +1,16 @@
-//! `compare [--panel PROGRAM] [COUNT [SEED]]`: compares the exported library with the other decoder on COUNT single pictures, ten
-//! times as many raw slices, and the edges of every other entry; and the program `panel`, if given, on COUNT reels and one that is far
-//! too long. A small COUNT fails, because its cases don't produce every answer.
+//! `compare [--panel PROGRAM] [COUNT [SEED]]`: compares the exported library with the other decoder on COUNT single pictures, by
+//! both readers, ten times as many raw slices, and the edges of every other entry; and the program `panel`, if given, on COUNT
+//! reels and one that is far too long. A small COUNT fails, because its cases don't produce every answer.
 
 use std::process::ExitCode;
 
 use format3_tests::compare::{
     changed_fields, coefficients, header_answers, headers, panel, picture_answers, pictures,
-    require_every_answer, transforms, vectors,
+    require_every_answer, small_picture_answers, transforms, vectors, ReaderCounts,
 };
 use format3_tests::compare_blocks::blocks;
 use format3_tests::compare_cases::Compared;
+use format3_tests::compare_limits::limits;
 use format3_tests::compare_misfits::misfits;
 use format3_tests::compare_room_slices::room_slices;
 use format3_tests::compare_rows::{row_masks, rows};
@@ -62,19 +63,38 @@ fn compare_entries(count: u64, seed: u64) -> Result<(), String> {
     for seed in seed..seed + 4 {
         println!("{} changed fields", changed_fields(&ENTRIES, seed)?);
     }
-    let counts = pictures(&ENTRIES, seed, count)?;
-    println!("{count} pictures, by answer: {counts:?}");
-    require_every_answer(&counts, picture_answers())?;
-    let Compared { answers, kinds } = misfits(&ENTRIES, seed)?;
-    let occurred = kinds.len();
-    println!("{occurred} arrangements of vectors that fit or don't, by answer: {answers:?}");
-    let Compared { answers, kinds } = blocks(&ENTRIES, seed)?;
-    let occurred = kinds.len();
-    println!("{occurred} stages of blocks, pair by pair, by answer: {answers:?}");
-    let Compared { answers, kinds } = rows(&ENTRIES, seed)?;
-    let occurred = kinds.len();
-    println!("{occurred} kinds of blocks and ends for the count of rows, by answer: {answers:?}");
+    compare_pictures(count, seed)?;
     compare_slices(10 * count, seed)
+}
+
+fn compare_pictures(count: u64, seed: u64) -> Result<(), String> {
+    let counts = pictures(&ENTRIES, seed, count)?;
+    print_answers(&format!("{count} pictures"), &counts);
+    require_every_answer(&counts.large, picture_answers())?;
+    require_every_answer(&counts.small, small_picture_answers())?;
+    print_kinds("headers around the limits", &limits(&ENTRIES, seed)?);
+    let compared = misfits(&ENTRIES, seed)?;
+    print_kinds("arrangements of vectors that fit or don't", &compared);
+    let compared = blocks(&ENTRIES, seed)?;
+    print_kinds("stages of blocks, pair by pair", &compared);
+    let compared = rows(&ENTRIES, seed)?;
+    print_kinds("kinds of blocks and ends for the count of rows", &compared);
+    Ok(())
+}
+
+fn print_kinds<Kind>(what: &str, compared: &Compared<Kind>) {
+    let occurred = compared.kinds.len();
+    print_answers(&format!("{occurred} {what}"), &compared.answers);
+}
+
+/// Prints the counts of both readers, or those of one if the other has the same.
+fn print_answers(what: &str, counts: &ReaderCounts) {
+    let ReaderCounts { large, small } = counts;
+    if large == small {
+        println!("{what}, by answer of each reader: {large:?}");
+    } else {
+        println!("{what}, by answer: {large:?}, of the small reader: {small:?}");
+    }
 }
 
 fn compare_slices(count: u64, seed: u64) -> Result<(), String> {

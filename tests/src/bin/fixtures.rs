@@ -68,10 +68,11 @@ fn run(arguments: &[String]) -> Result<(), String> {
     for fixture in stream_fixtures() {
         let headers = fixture.check_headers(ENTRIES.read_header)?;
         fixture.check(ENTRIES.reconstruct)?;
+        fixture.check_small(ENTRIES.reconstruct_small)?;
         let slices = fixture.check_slices(ENTRIES.read_slice)?;
         fixture.check_stream(&ENTRIES)?;
         println!(
-            "{}: as expected by the library, its {headers} headers and its stream of {slices} slices too",
+            "{}: as expected by both readers of the library, its {headers} headers and its stream of {slices} slices too",
             fixture.name
         );
     }

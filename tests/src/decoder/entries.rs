@@ -1,4 +1,4 @@
-//! The public entries other than `reconstruct`, each with its refusal, and all entries as one table.
+//! The public entries other than the readers of pictures, each with its refusal, and all entries as one table.
 
 use super::coefficients::{intra_ac, non_intra};
 use super::file::{first_header, record};
@@ -45,6 +45,8 @@ pub type Transform = fn(&[i16; 64]) -> (u32, Transformed);
 pub struct Entries {
     pub read_header: ReadHeader,
     pub reconstruct: Reconstruct,
+    /// For pictures of at most 99 macroblocks.
+    pub reconstruct_small: Reconstruct,
     pub transform: Transform,
     pub intra_coefficient: fn(i32, i32, i32) -> (u32, i16),
     pub non_intra_coefficient: fn(i32, i32, i32) -> (u32, i16),
@@ -57,6 +59,7 @@ pub struct Entries {
 pub const ENTRIES: Entries = Entries {
     read_header,
     reconstruct: super::picture::reconstruct,
+    reconstruct_small: super::picture::reconstruct_small,
     transform,
     intra_coefficient: |level, scale, weight| coefficient(intra_ac, level, scale, weight),
     non_intra_coefficient: |level, scale, weight| coefficient(non_intra, level, scale, weight),

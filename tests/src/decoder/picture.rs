@@ -4,14 +4,37 @@ use super::coefficients::Block;
 use super::file::{self, Header, PictureType};
 use super::macroblock::{component, macroblock, Last, Macroblock, SliceState};
 use super::refusals::{require, Answer, Refusal};
+use super::size::{MAX_MACROBLOCKS, MAX_MACROBLOCKS_SMALL};
 use super::transform::{inverse_transform, rows_worked};
 use super::vectors::{fits, prediction, Vector, Vectors};
 
-/// Makes the picture of a file. "Order: 1, 2; in each record 3, 4, 5", then the tests of its kind.
-/// The output is written record by record, so a refusal leaves the macroblocks of the records before it.
+/// Makes the picture of a file, for a caller with memory for 396 macroblocks.
 pub fn reconstruct(file: &[u8], forward: &[u8], backward: &[u8], output: &mut [u8]) -> Answer {
+    reconstruct_within(MAX_MACROBLOCKS, file, [forward, backward], output)
+}
+
+/// Makes the picture of a file, for a caller with memory for 99 macroblocks.
+pub fn reconstruct_small(
+    file: &[u8],
+    forward: &[u8],
+    backward: &[u8],
+    output: &mut [u8],
+) -> Answer {
+    reconstruct_within(MAX_MACROBLOCKS_SMALL, file, [forward, backward], output)
+}
+
+/// Makes the picture of a file, of at most `limit` macroblocks. Request No. 4: "Both limits hold, each for its caller".
+/// "Order: 1, 2; in each record 3, 4, 5", then the tests of its kind. The output is written record by record, so a refusal leaves
+/// the macroblocks of the records before it.
+pub fn reconstruct_within(
+    limit: usize,
+    file: &[u8],
+    references: [&[u8]; 2],
+    output: &mut [u8],
+) -> Answer {
     let mut picture = Picture {
-        references: [forward, backward],
+        limit,
+        references,
         output,
         header: None,
         matrices: [None; 2],
@@ -34,6 +57,8 @@ pub fn reconstruct(file: &[u8], forward: &[u8], backward: &[u8], output: &mut [u
 }
 
 struct Picture<'a> {
+    /// The most macroblocks that it may have.
+    limit: usize,
     /// Forward, then backward.
     references: [&'a [u8]; 2],
     output: &'a mut [u8],
@@ -100,10 +125,12 @@ impl Picture<'_> {
             .is_some_and(|header| self.made == header.size.macroblocks())
     }
 
-    /// Tests the header's fields, then "19 output, 20 forward, 21 backward length. Output is 384 × N; a used reference too, an
-    /// unused one is empty."
+    /// Tests the header's fields. Request No. 4: "27 when a header that 8 lets through has more than 99 macroblocks .., before 19."
+    /// Then "19 output, 20 forward, 21 backward length. Output is 384 × N; a used reference too, an unused one is empty."
     fn act_header(&mut self, body: &[u8]) -> Result<(), Refusal> {
         let header = file::header(body)?;
+        let within = header.size.macroblocks() <= self.limit;
+        require(within, Refusal::MacroblockLimit)?;
         let bytes = header.size.bytes();
         let [forward, backward] = header
             .picture_type

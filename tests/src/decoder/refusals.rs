@@ -28,6 +28,7 @@ pub enum Refusal {
     SliceCode = 24,
     SliceCut = 25,
     RecordsLength = 26,
+    MacroblockLimit = 27,
 }
 
 impl Refusal {

@@ -4,6 +4,9 @@ const MAX_WIDTH: usize = 48;
 const MAX_HEIGHT: usize = 36;
 pub const MAX_MACROBLOCKS: usize = 396;
 
+/// Request No. 4: "memory for 99 macroblocks. The other panels keep 396."
+pub const MAX_MACROBLOCKS_SMALL: usize = 99;
+
 /// "With N macroblocks it is 384 × N bytes".
 pub const MACROBLOCK_BYTES: usize = 384;
 

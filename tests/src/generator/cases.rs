@@ -5,7 +5,7 @@ use super::file::File;
 use super::picture::{numbered_header, picture, random_header, Style};
 use super::TYPES;
 use crate::decoder::file::{Header, PictureType};
-use crate::decoder::size::{Size, MACROBLOCK_BYTES};
+use crate::decoder::size::{Size, MACROBLOCK_BYTES, MAX_MACROBLOCKS, MAX_MACROBLOCKS_SMALL};
 use crate::random::Random;
 
 /// One call of `reconstruct`.
@@ -18,6 +18,19 @@ pub struct Case {
     pub output: Vec<u8>,
     /// Nothing was damaged, so the picture must be accepted.
     pub legal: bool,
+}
+
+impl Case {
+    /// A file without references or output. It is not legal, since every picture needs an output.
+    pub fn with_nothing_lent(file: Vec<u8>) -> Case {
+        Case {
+            file,
+            forward: Vec::new(),
+            backward: Vec::new(),
+            output: Vec::new(),
+            legal: false,
+        }
+    }
 }
 
 /// What is wrong with a case.
@@ -98,12 +111,20 @@ fn lend_other_lengths(random: &mut Random, case: &mut Case) {
     let surely = random.below(3);
     for (index, lent) in lent.into_iter().enumerate() {
         if index == surely || random.once_in(3) {
-            let length = lent.len();
-            let longer = [length + 1, length + MACROBLOCK_BYTES];
-            let shorter = [0, length.saturating_sub(1)];
-            lent.resize(random.pick(&[longer, shorter].concat()), 77);
+            lend_other_length(random, lent);
         }
     }
+}
+
+/// Lends another length: none, a byte or a macroblock more or fewer, or that of the largest picture for a reader.
+pub fn lend_other_length(random: &mut Random, lent: &mut Vec<u8>) {
+    let length = lent.len();
+    let longer = [length + 1, length + MACROBLOCK_BYTES];
+    let shorter = [1, MACROBLOCK_BYTES].map(|fewer| length.saturating_sub(fewer));
+    let largest = [MAX_MACROBLOCKS_SMALL, MAX_MACROBLOCKS].map(|most| MACROBLOCK_BYTES * most);
+    let mut others = [&[0], &longer[..], &shorter, &largest].concat();
+    others.retain(|other| *other != length);
+    lent.resize(random.pick(&others), 77);
 }
 
 /// A small legal picture of each type, to be changed field by field.

@@ -2,6 +2,9 @@
 
 use crate::decoder::file::VERSION;
 
+/// Where the record after the header starts: the version has 1 byte, and a header's record 2 bytes of length, the kind and 7 bytes.
+pub const HEADER_END: usize = 11;
+
 /// A Format 3 file, with what is needed to damage it.
 #[derive(Clone)]
 pub struct File {

@@ -5,6 +5,7 @@ mod cases;
 pub mod codes;
 mod damage;
 mod file;
+mod limits;
 mod misfits;
 mod picture;
 mod reels;
@@ -18,7 +19,8 @@ mod strip;
 
 pub use blocks::{all_stages, stage_cases, Fault, Next, Pairs, Scaled, Stage};
 pub use cases::{case, small_cases, Case};
-pub use file::File;
+pub use file::{File, HEADER_END};
+pub use limits::{all_limit_kinds, limit_cases, LimitKind};
 pub use misfits::{all_arrangements, misfit_cases, Arrangement, Fit};
 pub use reels::{reel, Reel};
 pub use room_slices::{

@@ -33,6 +33,14 @@ pub const LANDED: &[Landed] = &[
         files: &[],
     },
     Landed {
+        request: 4,
+        files: &[RequestFile {
+            name: "no04.txt",
+            programs: &[],
+            check: reconstruct::check_both_readers,
+        }],
+    },
+    Landed {
         request: 6,
         files: &[
             RequestFile {

@@ -1,19 +1,18 @@
 -- How the first reading of a slice decides the answer, and which header numbers are legal. Assumes nothing.
-use mathlib.Core.Bool.{true, false}
+use mathlib.Core.Bool.{true}
 use mathlib.Core.List.{List, _++_}
 use mathlib.Core.Path.{_≡_, sym, ap, subst, _∙_}
-use Prim.Native.Nat.{ℕ, _+_, _*_, _<_, _≤_}
+use Prim.Native.Nat.{ℕ, _+_, _<_, _≤_}
 use native.Mathlib.Omega.{arith}
-use lib.Dec.{leb}
 use lib.ListN.{length, take, drop, length-append}
 use lib.Seq.{length-take-le}
-use borrow.Author.Tests.{leb-true, le-leb, lt-leb}
+use borrow.Author.Tests.{le-leb, lt-leb}
 use Rattle.refusals.specs.declared.Refusal.{Refusal}
 use Rattle.refusals.specs.declared.Refusal.the-variants as Refusal
 use Rattle.math.specs.Joined.{joined}
 use Rattle.symbols.specs.Guard.{require_else_then_}
 use Rattle.symbols.specs.Parsed.{parsed, refused}
-use Rattle.symbols.specs.Size.{legalSize}
+use Rattle.symbols.specs.Size.{maxWidth, maxHeight, legalSize}
 use Rattle.symbols.specs.Header.{legalHeader, headerValue, headerWith}
 use Rattle.symbols.specs.declared.header.Header.{Header}
 use Rattle.symbols.specs.declared.header.HeaderFields.{HeaderFields}
@@ -22,6 +21,7 @@ use Rattle.symbols.specs.Slice.{Slice}
 use Rattle.symbols.proofs.Guard.{both}
 use Rattle.symbols.proofs.Parsed.{all-at}
 use Rattle.symbols.proofs.Laws.Header.{made-within}
+use Rattle.symbols.proofs.Laws.Size.{size-legal}
 use Rattle.format3_writer.specs.Written.{written, maxOffset, saturatingAdd}
 use Rattle.format3_writer.proofs.Laws.Written.{written-append, written-take, written-whole, written-back}
 use Rattle.format3_writer.specs.Records.{macroblockRecord, sliceBytes}
@@ -141,20 +141,11 @@ module _ {h : Header} {bytes : List ℕ} {capacity : ℕ} (x : Read Slice) {p : 
 
 -- ---- the numbers of a legal header
 pub record Small (f : HeaderFields) : Type 0 where
-  pub wide : f .width ≤ 48
-  pub high : f .height ≤ 36
+  pub wide : f .width ≤ maxWidth
+  pub high : f .height ≤ maxHeight
   pub type : f .«coding_type» ≤ 3
   pub forward : f .«forward_f_code» ≤ 7
   pub backward : f .«backward_f_code» ≤ 7
-
-size-small : (w h : ℕ) → legalSize w h ≡ true → (w ≤ 48) × (h ≤ 36)
-unfolding legalSize
-size-small w h e =
-    let all = both _ (leb (w * h) 396) e in
-    let high = both _ (leb h 36) (all .0) in
-    let low = both _ (leb 1 h) (high .0) in
-    let wide = both (leb 1 w) _ (low .0) in
-    (leb-true w 48 (wide .1), leb-true h 36 (high .1))
 
 legal-made : (f : HeaderFields) → legalHeader f ≡ true → headerWith f ≡ Header.Legal (headerValue f)
 unfolding headerWith require_else_then_
@@ -166,15 +157,15 @@ front f e = both (legalSize (f .width) (f .height)) _ e .0
 
 pub legal-small : (f : HeaderFields) → legalHeader f ≡ true → Small f
 legal-small f e =
-    let size = size-small (f .width) (f .height) (front f e) in
+    let size = size-legal (f .width) (f .height) (front f e) in
     let within = made-within f .within (headerValue f) (legal-made f e) in
-    record { wide = size .0; high = size .1; type = within .last-type; forward = within .forward .most; backward = within .backward .most }
+    record { wide = size .1; high = size .3; type = within .last-type; forward = within .forward .most; backward = within .backward .most }
 
 pub illegal : (f : HeaderFields) → (Small f → ⊥) → Header.Refused Refusal.Header ≡ headerWith f
 unfolding headerWith require_else_then_
 illegal f large = case (legalHeader f) (λ t. absurd (large (legal-small f t))) (λ t. rw t)
 
-pub legal-height : (f : HeaderFields) {h : Header} → headerWith f ≡ Header.Legal h → h .size .height ≤ 36
+pub legal-height : (f : HeaderFields) {h : Header} → headerWith f ≡ Header.Legal h → h .size .height ≤ maxHeight
 unfolding headerWith require_else_then_
 legal-height f {h} e =
     case (legalHeader f)

@@ -6,40 +6,37 @@ use native.Mathlib.Omega.{arith}
 use lib.Dec.{eqb, leb}
 use lib.ListN.{length, length-append}
 use borrow.Author.Tests.{leb-true}
+use Rattle.symbols.specs.Size.{maxMacroblocks}
 use Rattle.math.specs.Joined.{joined}
 use Rattle.symbols.specs.Parsed.{parsed, refused, bind, _then_, give}
 use Rattle.symbols.specs.declared.header.Header.{Header}
 use Rattle.symbols.specs.Macroblock.{Macroblock}
 use Rattle.symbols.specs.Slice.{Slice}
-use Rattle.symbols.proofs.Parsed.{All, here, none, all-then, all-require, all-cond, all-any}
-use Rattle.format3_records.specs.Record.{macroblockKind}
+use Rattle.symbols.proofs.Parsed.{All, here, none, all-then, all-require, all-cond}
 use Rattle.format3_writer.specs.Written.{written, saturatingAdd}
 use Rattle.format3_writer.specs.Bytes.{bigEndianBytes}
 use Rattle.format3_writer.proofs.Laws.Written.{written-length, written-append}
-use Rattle.format3_writer.specs.Records.{recordHead, recordBytes, sliceBody, sliceRecord, headBytes, macroblockBody, macroblockRecord, sliceRecords, sliceBytes}
-use Rattle.format3_writer.proofs.Laws.Lengths.{record-length, head-short}
+use Rattle.format3_writer.specs.Records.{recordHead, recordBytes, sliceBody, sliceRecord, macroblockRecord, sliceRecords, sliceBytes}
 use Rattle.mpeg1_bits.specs.Bits.{bitsFrom}
 use Rattle.mpeg1_bits.specs.declared.BitPosition.{BitPosition}
 use Rattle.mpeg1_tables.specs.AnnexB.{stuffing, incrementEscape}
 use Rattle.mpeg1_vlc.proofs.Laws.Range.{increment-read, increment-after-escape-read}
 use Rattle.mpeg1_slice.specs.Read.{Stop, stop, Read}
 use Rattle.mpeg1_slice.specs.Increment.{afterStuffing, amountOf, afterEscape, incrementAt}
-use Rattle.mpeg1_slice.specs.Macroblock.{HeadFields, VectorsAndBlocks, headAt, macroblockOfFields, macroblockAt}
+use Rattle.mpeg1_slice.specs.Macroblock.{macroblockAt}
 use Rattle.mpeg1_slice.specs.Slice.{macroblocksAt, startAddress, firstBit, sliceHeadAt, afterHeadAt, rawSliceOf}
 use Rattle.mpeg1_slice.proofs.Laws.Read.{word-between}
-use Rattle.mpeg1_reader.specs.WriteAnswer.{WrittenAt, vectorsAndBlocksBytes}
+use Rattle.mpeg1_reader.specs.WriteAnswer.{WrittenAt}
 use Rattle.mpeg1_reader.specs.declared.write_answer.Checkpoint.{Checkpoint}
 use Rattle.mpeg1_reader.specs.declared.write_answer.RecordsAnswer.{RecordsAnswer}
 use Rattle.mpeg1_reader.specs.declared.write_answer.RecordsAnswer.the-variants.{Done}
-use Rattle.mpeg1_reader.proofs.Laws.Few.{rest-short}
-use Rattle.mpeg1_reader.proofs.Laws.Macroblock.{body-of}
 use Rattle.mpeg1_reader.specs.RecordLengths.{sliceRecordBytes}
 use Rattle.mpeg1_reader.specs.RecordOffsets.{ResumesAt, RecordsAnswered, done, stopped}
 
 -- ---- an increment that is read is 1 to 396
 pub record Legal (v : ℕ) : Type 0 where
   pub least : 1 ≤ v
-  pub most : v ≤ 396
+  pub most : v ≤ maxMacroblocks
 
 stuffing-legal : (n : ℕ) (bytes : List ℕ) (at : BitPosition) → All (λ v p. (1 ≤ v) × (v ≤ 35)) (afterStuffing n bytes at)
 unfolding afterStuffing
@@ -53,10 +50,10 @@ unfolding afterEscape amountOf
 escape-legal zero sum bytes at = none
 escape-legal (suc n) sum bytes at =
     all-then (word-between bytes at _ increment-after-escape-read) λ v p k.
-    all-require (leb (sum + amountOf v) 396) _ _ p λ few.
+    all-require (leb (sum + amountOf v) maxMacroblocks) _ _ p λ few.
     all-cond (eqb v incrementEscape) _ _ _
     (λ t. escape-legal n (sum + 33) bytes p)
-    (λ t. here (record { least = omega (arith, k .0); most = leb-true (sum + v) 396 (rw t at few) }))
+    (λ t. here (record { least = omega (arith, k .0); most = leb-true (sum + v) maxMacroblocks (rw t at few) }))
 
 pub increment-legal : (bytes : List ℕ) (at : BitPosition) → All (λ v p. Legal v) (incrementAt bytes at)
 unfolding incrementAt

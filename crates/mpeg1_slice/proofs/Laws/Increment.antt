@@ -5,6 +5,7 @@ use Prim.Native.Nat.{ℕ, zero, suc, _+_, _*_, _<_, _≤_}
 use native.Mathlib.Omega.{arith}
 use lib.ListN.{length}
 use borrow.Author.Tests.{eq-eqb, ne-eqb, le-leb, lt-leb}
+use Rattle.symbols.specs.Size.{maxMacroblocks}
 use Rattle.refusals.specs.declared.Refusal.the-variants.{SliceCode}
 use Rattle.symbols.specs.Guard.{require_else_then_}
 use Rattle.symbols.specs.Parsed.{parsed, refused}
@@ -78,7 +79,7 @@ escape-amount v h = rw (eq-eqb v incrementEscape h)
 pub record Escaped (bytes : List ℕ) (whole : Read ℕ) (sum : ℕ) (at : BitPosition) : Type 0 where
   pub fuel : ℕ
   pub left : sum + 33 * fuel ≡ 429
-  pub small : sum ≤ 396
+  pub small : sum ≤ maxMacroblocks
   pub inside : InBytes bytes at
   pub same : afterEscape fuel sum bytes at ≡ whole
 
@@ -87,26 +88,26 @@ module _ (bytes : List ℕ) (at : BitPosition) where
   escaped-start within = record { fuel = 12; left = refl; small = omega arith; inside = within; same = refl }
 
   module _ {whole : Read ℕ} (sum : ℕ) where
-    escape-refused-from : (n : ℕ) {reason : Stop} → sum + 33 * n ≡ 429 → sum ≤ 396 → afterEscape n sum bytes at ≡ whole
+    escape-refused-from : (n : ℕ) {reason : Stop} → sum + 33 * n ≡ 429 → sum ≤ maxMacroblocks → afterEscape n sum bytes at ≡ whole
         → wordAt incrementsAfterEscape bytes at ≡ refused reason → whole ≡ refused reason
     unfolding afterEscape
     escape-refused-from zero h k f e = absurd (omega arith)
     escape-refused-from (suc n) h k f e = sym (rw e at f)
 
-    escape-past-from : (n : ℕ) {v : ℕ} {p : BitPosition} → sum + 33 * n ≡ 429 → sum ≤ 396 → afterEscape n sum bytes at ≡ whole
-        → wordAt incrementsAfterEscape bytes at ≡ parsed v p → 396 < sum + amountOf v → whole ≡ refused (stop SliceCode at)
+    escape-past-from : (n : ℕ) {v : ℕ} {p : BitPosition} → sum + 33 * n ≡ 429 → sum ≤ maxMacroblocks → afterEscape n sum bytes at ≡ whole
+        → wordAt incrementsAfterEscape bytes at ≡ parsed v p → maxMacroblocks < sum + amountOf v → whole ≡ refused (stop SliceCode at)
     unfolding afterEscape require_else_then_
     escape-past-from zero h k f e g = absurd (omega arith)
-    escape-past-from (suc n) {v} h k f e g = sym (rw (e, lt-leb (sum + amountOf v) 396 g) at f)
+    escape-past-from (suc n) {v} h k f e g = sym (rw (e, lt-leb (sum + amountOf v) maxMacroblocks g) at f)
 
-    escape-read-from : (n : ℕ) {v : ℕ} {p : BitPosition} → sum + 33 * n ≡ 429 → sum ≤ 396 → afterEscape n sum bytes at ≡ whole
-        → wordAt incrementsAfterEscape bytes at ≡ parsed v p → sum + amountOf v ≤ 396 → (v ≡ incrementEscape → ⊥) → whole ≡ parsed (sum + amountOf v) p
+    escape-read-from : (n : ℕ) {v : ℕ} {p : BitPosition} → sum + 33 * n ≡ 429 → sum ≤ maxMacroblocks → afterEscape n sum bytes at ≡ whole
+        → wordAt incrementsAfterEscape bytes at ≡ parsed v p → sum + amountOf v ≤ maxMacroblocks → (v ≡ incrementEscape → ⊥) → whole ≡ parsed (sum + amountOf v) p
     unfolding afterEscape require_else_then_
     escape-read-from zero h k f e g i = absurd (omega arith)
-    escape-read-from (suc n) {v} h k f e g i = rw (plain-amount v i) (sym (rw (e, le-leb (sum + amountOf v) 396 g, ne-eqb v incrementEscape i) at f))
+    escape-read-from (suc n) {v} h k f e g i = rw (plain-amount v i) (sym (rw (e, le-leb (sum + amountOf v) maxMacroblocks g, ne-eqb v incrementEscape i) at f))
 
-    escape-again-from : (n : ℕ) {v : ℕ} {p : BitPosition} → sum + 33 * n ≡ 429 → sum ≤ 396 → afterEscape n sum bytes at ≡ whole
-        → wordAt incrementsAfterEscape bytes at ≡ parsed v p → sum + amountOf v ≤ 396 → v ≡ incrementEscape → InBytes bytes p → Escaped bytes whole (sum + amountOf v) p
+    escape-again-from : (n : ℕ) {v : ℕ} {p : BitPosition} → sum + 33 * n ≡ 429 → sum ≤ maxMacroblocks → afterEscape n sum bytes at ≡ whole
+        → wordAt incrementsAfterEscape bytes at ≡ parsed v p → sum + amountOf v ≤ maxMacroblocks → v ≡ incrementEscape → InBytes bytes p → Escaped bytes whole (sum + amountOf v) p
     unfolding afterEscape require_else_then_
     escape-again-from zero h k f e g i w = absurd (omega arith)
     escape-again-from (suc n) {v} h k f e g i w = record {
@@ -114,21 +115,21 @@ module _ (bytes : List ℕ) (at : BitPosition) where
       left = rw (escape-amount v i) (omega arith);
       small = g;
       inside = w;
-      same = rw (escape-amount v i) (rw (e, le-leb (sum + amountOf v) 396 g, eq-eqb v incrementEscape i) at f);
+      same = rw (escape-amount v i) (rw (e, le-leb (sum + amountOf v) maxMacroblocks g, eq-eqb v incrementEscape i) at f);
     }
 
     module _ (s : Escaped bytes whole sum at) where
       pub escaped-refused : {reason : Stop} → wordAt incrementsAfterEscape bytes at ≡ refused reason → whole ≡ refused reason
       escaped-refused e = escape-refused-from (s .fuel) (s .left) (s .small) (s .same) e
 
-      pub escaped-past : {v : ℕ} {p : BitPosition} → wordAt incrementsAfterEscape bytes at ≡ parsed v p → 396 < sum + amountOf v → whole ≡ refused (stop SliceCode at)
+      pub escaped-past : {v : ℕ} {p : BitPosition} → wordAt incrementsAfterEscape bytes at ≡ parsed v p → maxMacroblocks < sum + amountOf v → whole ≡ refused (stop SliceCode at)
       escaped-past e g = escape-past-from (s .fuel) (s .left) (s .small) (s .same) e g
 
-      pub escaped-read : {v : ℕ} {p : BitPosition} → wordAt incrementsAfterEscape bytes at ≡ parsed v p → sum + amountOf v ≤ 396 → (v ≡ incrementEscape → ⊥) → whole ≡ parsed (sum + amountOf v) p
+      pub escaped-read : {v : ℕ} {p : BitPosition} → wordAt incrementsAfterEscape bytes at ≡ parsed v p → sum + amountOf v ≤ maxMacroblocks → (v ≡ incrementEscape → ⊥) → whole ≡ parsed (sum + amountOf v) p
       escaped-read e g i = escape-read-from (s .fuel) (s .left) (s .small) (s .same) e g i
 
       pub after-escape-ahead : {v : ℕ} {p : BitPosition} → wordAt incrementsAfterEscape bytes at ≡ parsed v p → Ahead bytes (1 + bitOffset at) p
       after-escape-ahead e = all-at (word-ahead (standing (s .inside)) _ increment-after-escape-read) e
 
-      pub escaped-again : {v : ℕ} {p : BitPosition} → wordAt incrementsAfterEscape bytes at ≡ parsed v p → sum + amountOf v ≤ 396 → v ≡ incrementEscape → Escaped bytes whole (sum + amountOf v) p
+      pub escaped-again : {v : ℕ} {p : BitPosition} → wordAt incrementsAfterEscape bytes at ≡ parsed v p → sum + amountOf v ≤ maxMacroblocks → v ≡ incrementEscape → Escaped bytes whole (sum + amountOf v) p
       escaped-again e g i = escape-again-from (s .fuel) (s .left) (s .small) (s .same) e g i (after-escape-ahead e .inside)

@@ -4,6 +4,7 @@ use mathlib.Core.List.{List}
 use Prim.Native.Nat.{ℕ, zero, suc, _+_, _-_}
 use lib.Dec.{eqb, ltb, leb}
 use lib.ListN.{length}
+use Rattle.symbols.specs.Size.{maxMacroblocks}
 use Rattle.symbols.specs.declared.header.Header.{Header}
 use Rattle.symbols.specs.MacroblockType.{hasScale, hasForward, hasBackward, hasPattern, isIntra}
 use Rattle.symbols.specs.Pair.{firstPosition}
@@ -36,7 +37,7 @@ module _ (bytes : List ℕ) where
   escape-onward zero sum h = none
   escape-onward (suc n) sum h =
       all-then (word-onward h _ increment-after-escape-read) λ v p k.
-      all-require (leb (sum + amountOf v) 396) _ _ p λ t.
+      all-require (leb (sum + amountOf v) maxMacroblocks) _ _ p λ t.
       all-cond (eqb v incrementEscape) _ _ _ (λ t. escape-onward n (sum + 33) k) (λ t. here k)
 
   module _ {least : ℕ} {at : BitPosition} (h : Ahead bytes least at) where

@@ -1,73 +1,83 @@
--- Facts about the picture's size, for any limit of up to 396 macroblocks. Assumes nothing.
+-- Facts about the picture's size, for any limit on its macroblocks. Assumes nothing.
 use mathlib.Core.Path.{_≡_, refl}
 use mathlib.Core.Bool.{Bool, true, false}
-use Prim.Native.Nat.{ℕ, _+_, _*_, _≤_, _<_}
+use Prim.Native.Nat.{ℕ, _*_, _≤_, _<_}
 use native.Mathlib.Omega.{arith}
-use native.Mathlib.Nat.{le-trans, le-mul-of-pos-right, div-lt-iff-lt-mul, mod-lt, mul-comm}
+use native.Mathlib.Nat.{le-trans, le-mul-of-pos-right, div-lt-iff-lt-mul, mod-lt, mul-comm, mul-le-mul-left}
 use lib.Dec.{leb}
 use borrow.Author.Tests.{leb-true}
 use Rattle.symbols.specs.Guard.{require_else_then_}
 use Rattle.symbols.specs.declared.size.PictureSize.{PictureSize}
-use Rattle.symbols.specs.declared.size.NewSize.{NewSize}
 use Rattle.symbols.specs.declared.size.NewSize.the-variants.{Fits, Beyond}
-use Rattle.symbols.specs.Size.{legalSize, sizeOf, macroblockCount, pictureBytes, startOfCb, startOfCr, columnOfAddress, rowOfAddress}
+use Rattle.symbols.specs.Size.{maxWidth, maxHeight, maxMacroblocks, legalSize, sizeOf, withinLimit, sizeWithin, macroblockCount, pictureBytes, columnOfAddress, rowOfAddress}
 use Rattle.symbols.specs.Requires.{SizeWithin}
-use Rattle.symbols.proofs.Guard.{require-all, both}
+use Rattle.symbols.proofs.Guard.{both}
 
-pub legal-within : (w h : ℕ) → legalSize w h ≡ true → SizeWithin 396 (record { width = w; height = h })
+-- the tests of a legal size, as facts
+abbrev pub SizeLegal : ℕ → ℕ → Type 0
+SizeLegal w h = (1 ≤ w) × (w ≤ maxWidth) × (1 ≤ h) × (h ≤ maxHeight) × (w * h ≤ maxMacroblocks)
+
+pub size-legal : (w h : ℕ) → legalSize w h ≡ true → SizeLegal w h
 unfolding legalSize
-legal-within w h e =
-    let all = both _ (leb (w * h) 396) e in
-    let high = both _ (leb h 36) (all .0) in
+size-legal w h e =
+    let all = both _ (leb (w * h) maxMacroblocks) e in
+    let high = both _ (leb h maxHeight) (all .0) in
     let low = both _ (leb 1 h) (high .0) in
     let wide = both (leb 1 w) _ (low .0) in
-    record { wide = leb-true 1 w (wide .0); high = leb-true 1 h (low .1); few = leb-true (w * h) 396 (all .1) }
+    (leb-true 1 w (wide .0), leb-true w maxWidth (wide .1), leb-true 1 h (low .1), leb-true h maxHeight (high .1), leb-true (w * h) maxMacroblocks (all .1))
 
--- a size that was accepted is within the limits
-pub record AcceptedSizeWithin (n : NewSize) : Type 0 where
-  pub within : (s : PictureSize) → n ≡ Fits s → SizeWithin 396 s
+pub legal-within : (w h : ℕ) → legalSize w h ≡ true → SizeWithin maxMacroblocks (record { width = w; height = h })
+legal-within w h e = let legal = size-legal w h e in record { wide = legal .0; high = legal .2; few = legal .4 }
 
-pub made-within : (w h : ℕ) → AcceptedSizeWithin (sizeOf w h)
-unfolding sizeOf
-made-within w h = require-all AcceptedSizeWithin (legalSize w h) Beyond (Fits (record { width = w; height = h }))
-    (record { within = λ s e. absurd (let z : _≡_ {A = ℕ} 0 1 = cc in omega arith) })
-    (λ legal. record { within = λ s e. let p : _≡_ {A = PictureSize} (record { width = w; height = h }) s = cc in rw (← p) (legal-within w h legal) })
+-- ---- what a constructor's answer implies
+fits-if : (test : Bool) (made s : PictureSize) → (require test else Beyond then Fits made) ≡ Fits s → (test ≡ true) × (s ≡ made)
+unfolding require_else_then_
+fits-if true made s e = (refl, cc)
+fits-if false made s e = absurd (let z : _≡_ {A = ℕ} 0 1 = cc in omega arith)
 
--- what the answer implies for the two numbers
+beyond-if : (test : Bool) (made : PictureSize) → (require test else Beyond then Fits made) ≡ Beyond → test ≡ false
+unfolding require_else_then_
+beyond-if true made e = absurd (let z : _≡_ {A = ℕ} 0 1 = cc in omega arith)
+beyond-if false made e = refl
+
 pub made : (w h : ℕ) (s : PictureSize) → sizeOf w h ≡ Fits s → (legalSize w h ≡ true) × (s ≡ record { width = w; height = h })
-unfolding sizeOf require_else_then_
-made w h s e = go (legalSize w h) e
-  where
-    go : (b : Bool) → (require b else Beyond then Fits (record { width = w; height = h })) ≡ Fits s → (b ≡ true) × (s ≡ record { width = w; height = h })
-    go true e = (refl, cc)
-    go false e = absurd (let z : _≡_ {A = ℕ} 0 1 = cc in omega arith)
+unfolding sizeOf
+made w h s e = fits-if (legalSize w h) (record { width = w; height = h }) s e
 
 pub not-made : (w h : ℕ) → sizeOf w h ≡ Beyond → legalSize w h ≡ false
-unfolding sizeOf require_else_then_
-not-made w h e = go (legalSize w h) e
-  where
-    go : (b : Bool) → (require b else Beyond then Fits (record { width = w; height = h })) ≡ Beyond → b ≡ false
-    go true e = absurd (let z : _≡_ {A = ℕ} 0 1 = cc in omega arith)
-    go false e = refl
+unfolding sizeOf
+not-made w h e = beyond-if (legalSize w h) (record { width = w; height = h }) e
 
--- a size within a smaller limit is within a larger one
+pub kept-within : (limit : ℕ) (t s : PictureSize) → sizeWithin limit t ≡ Fits s → (withinLimit limit t ≡ true) × (s ≡ t)
+unfolding sizeWithin
+kept-within limit t s e = fits-if (withinLimit limit t) t s e
+
+pub not-within : (limit : ℕ) (t : PictureSize) → sizeWithin limit t ≡ Beyond → withinLimit limit t ≡ false
+unfolding sizeWithin
+not-within limit t e = beyond-if (withinLimit limit t) t e
+
+-- a size is within any limit that its count is within, and so within a larger one
+pub few-within : {a b : ℕ} {s : PictureSize} → SizeWithin a s → macroblockCount s ≤ b → SizeWithin b s
+few-within size few = record { wide = size .wide; high = size .high; few = few }
+
 pub within-more : {a b : ℕ} {s : PictureSize} → SizeWithin a s → a ≤ b → SizeWithin b s
-within-more size h = record { wide = size .wide; high = size .high; few = le-trans (size .few) h }
+within-more size h = few-within size (le-trans (size .few) h)
 
-module _ {most : ℕ} {s : PictureSize} (size : SizeWithin most s) (limit : most ≤ 396) where
-  -- neither side is longer than the count of macroblocks
-  pub width-few : s .width ≤ 396
+module _ {limit : ℕ} {s : PictureSize} (size : SizeWithin limit s) where
+  -- neither side is longer than the limit
+  pub width-few : s .width ≤ limit
   width-few = omega (arith, le-mul-of-pos-right (s .width) (size .high), size .few)
 
-  pub height-few : s .height ≤ 396
+  pub height-few : s .height ≤ limit
   height-few = omega (arith, le-mul-of-pos-right (s .height) (size .wide), mul-comm (s .height) (s .width), size .few)
 
-  -- lengths and plane starts, far below the largest machine number
-  pub bytes-few : pictureBytes s ≤ 152064
-  bytes-few = omega (arith, size .few)
+  -- some of the picture's rows have no more macroblocks than the limit
+  pub rows-within : (rows : ℕ) → rows ≤ s .height → rows * s .width ≤ limit
+  rows-within rows h = rw (mul-comm rows (s .width)) (omega (arith, mul-le-mul-left (s .width) h, size .few))
 
-  pub planes-inside : (startOfCb s + 64 * macroblockCount s ≡ startOfCr s) × (startOfCr s + 64 * macroblockCount s ≡ pictureBytes s)
-  planes-inside = (omega arith, omega arith)
+  -- the picture fits memory for the limit
+  pub bytes-few : pictureBytes s ≤ 384 * limit
+  bytes-few = omega (arith, size .few)
 
   -- the column and the row of an address are inside the picture
   pub column-inside : (address : ℕ) → columnOfAddress s address < s .width

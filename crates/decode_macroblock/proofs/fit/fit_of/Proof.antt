@@ -1,7 +1,9 @@
 -- `fit::fit_of` meets its contract: it tests forward before backward, as the definition does. Assumes nothing.
 use borrow.Author.Tests.{not-true, not-false}
 use mathlib.Core.Path.{_≡_, _∙_, ap, sym}
+use native.Mathlib.Nat.{le-refl}
 use borrow.Author.Needs.{needs}
+use Rattle.symbols.specs.Size.{maxMacroblocks}
 use Rattle.decode_macroblock.specs.declared.location.MacroblockPosition.{MacroblockPosition}
 use Rattle.decode_macroblock.specs.Location.{macroblockPosition}
 use Rattle.decode_macroblock.specs.Requires.{Inside}
@@ -11,7 +13,7 @@ use Rattle.decode_macroblock.proofs.fit.fit_of.Statement.{statement}
 use Rattle.decode_macroblock.proofs.fit.fit_of.Tie as tie
 
 inside : (c : tie.After-macroblock-position) → Inside (c .macroblock-position .result)
-inside c = let s = c .before in rw (c .macroblock-position .ensures) (position-inside (s .args .address) (s .pre .0) (s .pre .1))
+inside c = let s = c .before in rw (c .macroblock-position .ensures) (position-inside (s .args .address) (le-refl maxMacroblocks) (s .pre .0) (s .pre .1))
 
 forward-is : (c : tie.After-direction-fits) → let a = c .before .before .before .args in directionFits (a .motion .forward) (macroblockPosition (a .size) (a .address)) (a .motion .«forward_vector») ≡ c .direction-fits .result
 forward-is c = let a = c .before .before .before .args in sym (c .direction-fits .ensures ∙ ap (λ (p : MacroblockPosition). directionFits (a .motion .forward) p (a .motion .«forward_vector»)) (c .before .before .macroblock-position .ensures))

@@ -1,6 +1,8 @@
 -- `write::write_macroblock` meets its contract: six blocks at the address, intra if neither direction is used. Assumes nothing.
 use mathlib.Core.Path.{_∙_}
+use native.Mathlib.Nat.{le-refl}
 use borrow.Author.Tests.{not-true}
+use Rattle.symbols.specs.Size.{maxMacroblocks}
 use Rattle.decode_coefficients.specs.BlockArray.{sixBlocks}
 use Rattle.decode_idct.specs.Transform.{inverseTransform}
 use Rattle.decode_macroblock.specs.Location.{macroblockPosition}
@@ -18,7 +20,7 @@ write-intra-requires : tie.Need-write-intra-requires
 write-intra-requires c κs =
     let at-position = c .before .before .before .before .before in
     let s = at-position .before .before .before .before in
-    rw (at-position .macroblock-position .ensures) (position-inside (s .args .address) (s .pre .0 .size) (s .pre .0 .inside), s .pre .0 .lent .output-whole, s .pre .1)
+    rw (at-position .macroblock-position .ensures) (position-inside (s .args .address) (le-refl maxMacroblocks) (s .pre .0 .size) (s .pre .0 .inside), s .pre .0 .lent .output-whole, s .pre .1)
 
 same-length : tie.Need-same-length
 same-length c = c .before .before .write-intra .kept .0

@@ -2,7 +2,6 @@
 use mathlib.Core.Path.{_≡_}
 use native.Mathlib.Omega.{arith}
 use borrow.Author.Needs.{needs}
-use lib.Dec.{lit≤}
 use Rattle.symbols.proofs.Laws.Size.{width-few, height-few}
 use Rattle.format3_header.specs.declared.file_start.FileStart.the-variants.{HeaderRead}
 use Rattle.format3_header.specs.FileStart.{firstHeader, fileHeaderOf}
@@ -30,10 +29,10 @@ cast-t8 : tie.Need-cast-t8
 cast-t8 c = search needs
 
 cast-t9 : tie.Need-cast-t9
-cast-t9 c = let few = width-few (begun _ (header-read c) .header .size) (lit≤ tt) in record { fits = omega (arith, few) }
+cast-t9 c = let few = width-few (begun _ (header-read c) .header .size) in record { fits = omega (arith, few) }
 
 cast-t10 : tie.Need-cast-t10
-cast-t10 c = let few = height-few (begun _ (header-read (c .before)) .header .size) (lit≤ tt) in record { fits = omega (arith, few) }
+cast-t10 c = let few = height-few (begun _ (header-read (c .before)) .header .size) in record { fits = omega (arith, few) }
 
 returns : tie.Need-returns
 unfolding fileHeaderOf

@@ -20,11 +20,11 @@ enum-known-refusal c = search needs
 enum-known-header : tie.Need-enum-known-header
 enum-known-header c = search needs
 
-lent-lengths-requires : tie.Need-lent-lengths-requires
-lent-lengths-requires c κs = begun _ (header-read c) .header .size
+caller-verdict-requires : tie.Need-caller-verdict-requires
+caller-verdict-requires c κs = begun _ (header-read c) .header .size
 
-enum-known-lengths : tie.Need-enum-known-lengths
-enum-known-lengths c = search needs
+enum-known-verdict : tie.Need-enum-known-verdict
+enum-known-verdict c = search needs
 
 enum-told : tie.Need-enum-told
 enum-told c = search needs
@@ -35,11 +35,11 @@ returns c = rw (← c .before .before .before .first-header .ensures, c .before 
 
 returns-2 : tie.Need-returns-2
 unfolding fileStartOf
-returns-2 c = rw (header-read (c .before .before .before .before), ← c .before .before .before .lent-lengths .ensures, c .before .lengths .given .1)
+returns-2 c = rw (header-read (c .before .before .before .before), ← c .before .before .before .caller-verdict .ensures, c .before .verdict .given .1)
 
 returns-3 : tie.Need-returns-3
 unfolding fileStartOf
-returns-3 c = rw (header-read (c .before .before .before), ← c .before .before .lent-lengths .ensures, c .enum-told .given .1)
+returns-3 c = rw (header-read (c .before .before .before), ← c .before .before .caller-verdict .ensures, c .enum-told .given .1)
 
 pub read-file-start-spec : {M : Type 1} → statement M
 read-file-start-spec =
@@ -48,8 +48,8 @@ read-file-start-spec =
     first-header-requires
     enum-known-refusal
     enum-known-header
-    lent-lengths-requires
-    enum-known-lengths
+    caller-verdict-requires
+    enum-known-verdict
     enum-told
     returns
     returns-2

@@ -1,18 +1,17 @@
--- `start_address` meets its contract: with at most 396 macroblocks no step overflows, and the address fits two bytes. Assumes nothing.
+-- `start_address` meets its contract: no step overflows, as the picture is within the format's limit, and the address fits two bytes.
+-- Assumes nothing.
 use mathlib.Core.Path.{refl}
 use Prim.Native.Nat.{_-_, _*_, _≤_}
-use native.Mathlib.Nat.{mul-comm, mul-le-mul-left}
 use native.Mathlib.Omega.{arith}
 use borrow.Author.Needs.{needs}
+use Rattle.symbols.specs.Size.{maxMacroblocks}
+use Rattle.symbols.proofs.Laws.Size.{rows-within}
 use Rattle.mpeg1_slice.specs.Slice.{startAddress}
 use Rattle.mpeg1_reader.proofs.slice.start_address.Statement.{statement}
 use Rattle.mpeg1_reader.proofs.slice.start_address.Tie as tie
 
-above-small : (s : tie.Start) → (s .args .row - 1) * s .args .header .size .width ≤ 396
-above-small s =
-    let size = s .args .header .size in
-    let rows : s .args .row - 1 ≤ size .height = omega (arith, s .pre .2) in
-    rw (mul-comm (s .args .row - 1) (size .width)) (omega (arith, mul-le-mul-left (size .width) rows, s .pre .0 .size .few))
+above-small : (s : tie.Start) → (s .args .row - 1) * s .args .header .size .width ≤ maxMacroblocks
+above-small s = rows-within (s .pre .0 .size) (s .args .row - 1) (omega (arith, s .pre .2))
 
 sub-above : tie.Need-sub-above
 sub-above c = search needs

@@ -3,6 +3,7 @@ use mathlib.Core.Path.{_≡_}
 use Prim.Native.Nat.{ℕ, _+_, _-_, _<_, _≤_}
 use native.Mathlib.Omega.{arith}
 use borrow.Author.Needs.{needs}
+use Rattle.symbols.specs.Size.{maxMacroblocks}
 use Rattle.symbols.specs.Parsed.{parsed}
 use Rattle.mpeg1_tables.specs.AnnexB.{incrementsAfterEscape}
 use Rattle.mpeg1_slice.specs.Read.{wordAt}
@@ -16,7 +17,7 @@ abbrev Inv-loop : tie.InvT-loop
 Inv-loop codes bytes at₀ sum₀ at sum = Escaped bytes (afterEscape 12 33 bytes at₀) sum at
 
 abbrev μ-loop : tie.MeasureT-loop
-μ-loop codes bytes at₀ sum₀ at sum = 396 - sum
+μ-loop codes bytes at₀ sum₀ at sum = maxMacroblocks - sum
 
 loop-holds : tie.Need-loop-holds Inv-loop μ-loop
 loop-holds c = escaped-start _ _ (c .before .pre .1)
@@ -51,10 +52,10 @@ module _ (c : tie.After-amount Inv-loop μ-loop) where
   code : wordAt incrementsAfterEscape (looped .before .before .args .bytes .now) (looped .loop .at) ≡ parsed value (c .before .before .value .given .0 .1 .0)
   code = step-read _ (called .next-after-escape .ensures) (c .before .before .value .given .1)
 
-  past : 396 - looped .loop .sum < c .amount .result → 396 < looped .loop .sum + amountOf value
+  past : maxMacroblocks - looped .loop .sum < c .amount .result → maxMacroblocks < looped .loop .sum + amountOf value
   past h = omega (arith, c .amount .ensures, looped .loop .inv .small)
 
-  fitting : c .amount .result ≤ 396 - looped .loop .sum → looped .loop .sum + amountOf value ≤ 396
+  fitting : c .amount .result ≤ maxMacroblocks - looped .loop .sum → looped .loop .sum + amountOf value ≤ maxMacroblocks
   fitting h = omega (arith, c .amount .ensures, looped .loop .inv .small)
 
 sub-if1 : tie.Need-sub-if1 Inv-loop μ-loop

@@ -1,18 +1,18 @@
--- `reader::reconstruct` meets its contract: once the header is read, the records follow; a refusal leaves the output as it was.
+-- `reader::reconstruct_within` meets its contract: once the header is read, the records follow; a refusal leaves the output as it was.
 -- Assumes nothing.
 use mathlib.Core.Path.{sym, _∙_}
 use borrow.Author.Needs.{needs}
 use Rattle.format3_picture.proofs.StartLaws.{Started, header-read}
 use Rattle.format3_picture.specs.Picture.{pictureRefusing}
-use Rattle.format3_picture.proofs.reader.reconstruct.Statement.{statement}
-use Rattle.format3_picture.proofs.reader.reconstruct.Tie as tie
+use Rattle.format3_picture.proofs.reader.reconstruct_within.Statement.{statement}
+use Rattle.format3_picture.proofs.reader.reconstruct_within.Tie as tie
 
 read-file-start-requires : tie.Need-read-file-start-requires
 read-file-start-requires c κs = search needs
 
 -- the file's start, as the definition reads it
-started : (c : tie.After-header) → let a = c .before .before .before .before .before .before .before .args in Started (a .file .now) (a .forward .now) (a .backward .now) (a .output .now) (c .header .given .0 .0) (c .header .given .0 .1 .0)
-started c = let a = c .before .before .before .before .before .before .before .args in header-read (a .file .now) (a .forward .now) (a .backward .now) (a .output .now) (sym (c .before .before .read-file-start .ensures) ∙ c .header .given .1)
+started : (c : tie.After-header) → let a = c .before .before .before .before .before .before .before .args in Started (a .limit) (a .file .now) (a .forward .now) (a .backward .now) (a .output .now) (c .header .given .0 .0) (c .header .given .0 .1 .0)
+started c = let a = c .before .before .before .before .before .before .before .args in header-read (a .limit) (a .file .now) (a .forward .now) (a .backward .now) (a .output .now) (sym (c .before .before .read-file-start .ensures) ∙ c .header .given .1)
 
 enum-known-refusal : tie.Need-enum-known-refusal
 enum-known-refusal c = search needs
@@ -24,7 +24,7 @@ enum-known-header : tie.Need-enum-known-header
 enum-known-header c = search needs
 
 read-records-requires : tie.Need-read-records-requires
-read-records-requires c κs = let s = started (c .before .before) in (s .header, s .lent, s .in-file)
+read-records-requires c κs = let s = started (c .before .before) in (s .header, s .caller .lent, s .in-file)
 
 returns : tie.Need-returns
 unfolding pictureRefusing
@@ -41,8 +41,8 @@ returns-2 c =
     let e = sym (c .before .before .before .before .before .before .before .read-file-start .ensures) ∙ c .before .before .before .before .before .header .given .1 in
     (rw e (c .before .before .read-records .ensures .0), rw e (c .before .before .read-records .ensures .1))
 
-pub reconstruct-spec : {M : Type 1} → statement M
-reconstruct-spec =
+pub reconstruct-within-spec : {M : Type 1} → statement M
+reconstruct-within-spec =
     tie.close
     (tie.spec
     read-file-start-requires
