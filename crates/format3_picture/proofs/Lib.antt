@@ -1,5 +1,6 @@
 pub mod RecordLaws
 pub mod InvariantLaws
+pub mod CallerLaws
 pub mod StartLaws
 pub mod ReadLaws
 pub mod WriteLaws

@@ -30,8 +30,8 @@ use Rattle.format3_header.specs.Lengths.{callerVerdict}
 use Rattle.format3_header.specs.FileStart.{version, firstHeader, fileStartOf}
 use Rattle.format3_header.specs.declared.file_start.FileStart.{FileStart}
 use Rattle.format3_header.specs.declared.file_start.FileStart.the-variants as FileStart
-use Rattle.format3_header.proofs.Laws.Caller.{CallerRefusal, RefusedByCaller, caller-refusal}
 use Rattle.format3_header.proofs.Laws.FileStart.{begun}
+use Rattle.format3_picture.proofs.CallerLaws.{CallerRefusal, RefusedByCaller, caller-refusal}
 use Rattle.theorems_picture.proofs.RefusalLaws.{FoundOf, of-found}
 
 -- ---- at most 21, and neither the file's end (7) nor a vector (18)

@@ -31,12 +31,12 @@ use Rattle.format3_header.specs.Lengths.{callerVerdict}
 use Rattle.format3_header.specs.FileStart.{version, firstHeader, fileStartOf, fileHeaderOf}
 use Rattle.format3_header.specs.declared.file_start.FileStart.{FileStart}
 use Rattle.format3_header.specs.declared.file_start.FileStart.the-variants as FileStart
-use Rattle.format3_header.proofs.Laws.Caller.{CallerRefusal, RefusedByCaller, caller-refusal}
 use Rattle.format3_header.proofs.Laws.FileStart.{begun}
 use Rattle.format3_picture.specs.Picture.{Picture, pictureWithin}
 use Rattle.format3_picture.proofs.InvariantLaws.{step-ends}
 use Rattle.format3_picture.proofs.PictureLaws.{no-header, header-read-is}
 use Rattle.format3_picture.proofs.StartLaws.{header-read}
+use Rattle.format3_picture.proofs.CallerLaws.{CallerRefusal, RefusedByCaller, caller-refusal}
 use Rattle.theorems_picture.specs.Applies.{Reached, Passing, none, one-more, fileStart}
 use Rattle.theorems_picture.proofs.PassingLaws.{Stop, at-record, at-end, answerAt, stops, stopped}
 

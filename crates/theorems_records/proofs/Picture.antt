@@ -31,7 +31,6 @@ use Rattle.format3_header.specs.Lengths.{callerVerdict}
 use Rattle.format3_header.specs.FileStart.{firstHeader, fileStartOf}
 use Rattle.format3_header.specs.declared.file_start.FileStart.{FileStart}
 use Rattle.format3_header.specs.declared.file_start.FileStart.the-variants as FileStart
-use Rattle.format3_header.proofs.Laws.Caller.{CallerRefusal, RefusedByCaller, caller-refusal}
 use Rattle.format3_writer.specs.Bytes.{bigEndianBytes}
 use Rattle.format3_writer.specs.Records.{recordHead, recordBytes, macroblockRecord, sliceRecords}
 use Rattle.format3_writer.proofs.Laws.Lengths.{FewPairs}
@@ -40,6 +39,7 @@ use Rattle.format3_picture.specs.declared.state.PictureState.{PictureState}
 use Rattle.format3_picture.specs.Step.{stepAt}
 use Rattle.format3_picture.specs.Symbols.{Symbol, symbolAt}
 use Rattle.format3_picture.specs.Picture.{isComplete, refusedAt, Answered, answeredBy, followed, recordsFrom, recordsFromRefusing, pictureWithin, pictureRefusing}
+use Rattle.format3_picture.proofs.CallerLaws.{CallerRefusal, RefusedByCaller, caller-refusal}
 use Rattle.theorems_records.specs.WellFramed.{WellFramed}
 use Rattle.theorems_records.specs.FieldFit.{Matching}
 use Rattle.theorems_records.proofs.Framed.{framed}
