@@ -3,6 +3,7 @@
 
 mod common;
 mod found;
+mod missing;
 
 use std::collections::BTreeSet;
 
@@ -15,6 +16,7 @@ use format3_tests::decoder::{reconstruct, Answer, Entries, Reconstruct, ENTRIES}
 use format3_tests::generator::{all_stages, stage_cases, Case, Fault, Next, Pairs, Scaled, Stage};
 use format3_tests::records::{lengths_before, macroblock_records};
 use found::require_found;
+use missing::require_missing_reported;
 
 const SEED: u64 = 1;
 
@@ -140,12 +142,8 @@ fn missing_stages_are_reported() {
     let all = BTreeSet::from_iter(all_stages());
     assert_eq!(all.len(), whole + refused);
     let made = blocks(&ENTRIES, SEED).expect("the decoder is itself");
-    for missing in all.iter().step_by(97) {
-        let mut counts = made.kinds.clone();
-        counts.remove(missing);
-        let told = format!("no block has {missing:?}");
-        assert_eq!(require_every_stage(&counts), Err(told));
-    }
+    let some = all.iter().step_by(97);
+    require_missing_reported("block", some, &made.kinds, require_every_stage);
 }
 
 /// Pairs land at all 64 raster indices, or at all but that of the DC, and their levels are scaled in 6 ways at each.

@@ -2,6 +2,7 @@
 //! readers are found, such as one with another limit or one that tests it too late.
 
 mod found;
+mod missing;
 
 use std::collections::BTreeSet;
 
@@ -14,6 +15,7 @@ use format3_tests::decoder::{
 };
 use format3_tests::generator::{all_limit_kinds, case, limit_cases, Case, LimitKind, TYPES};
 use found::require_found;
+use missing::require_missing_reported;
 
 const SEED: u64 = 1;
 
@@ -60,12 +62,7 @@ fn missing_kinds_are_reported() {
     let all = BTreeSet::from_iter(all_limit_kinds());
     assert_eq!(all.len(), 3 * (34 * 8 + 17));
     let made = limits(&ENTRIES, SEED).expect("the decoder is itself");
-    for missing in &all {
-        let mut counts = made.kinds.clone();
-        counts.remove(missing);
-        let told = format!("no picture has {missing:?}");
-        assert_eq!(require_every_limit_kind(&counts), Err(told));
-    }
+    require_missing_reported("picture", &all, &made.kinds, require_every_limit_kind);
 }
 
 /// What must occur at least: for each type, on both sides of the limit, an accepted picture and each refusal after the limit's.
@@ -201,11 +198,32 @@ fn early_limits_are_found() {
     ]);
 }
 
-/// The answer of the small reader, with another in the place of 27.
-fn instead_of_27(file: &[u8], references: [&[u8]; 2], output: &mut [u8], other: Answer) -> Answer {
-    let [forward, backward] = references;
+/// Wrong answers in the place of 27 at the header's place, with nothing made and no row worked.
+const WRONG: [Answer; 4] = [
+    Answer {
+        place: 0,
+        ..REFUSED
+    },
+    Answer {
+        place: 11,
+        ..REFUSED
+    },
+    Answer {
+        made: 99,
+        ..REFUSED
+    },
+    Answer { rows: 1, ..REFUSED },
+];
+
+/// The answer of the small reader, with one of these in the place of 27.
+fn instead_of_27<const AT: usize>(
+    file: &[u8],
+    forward: &[u8],
+    backward: &[u8],
+    output: &mut [u8],
+) -> Answer {
     match reconstruct_small(file, forward, backward, output) {
-        REFUSED => other,
+        REFUSED => WRONG[AT],
         answer => answer,
     }
 }
@@ -214,31 +232,10 @@ fn instead_of_27(file: &[u8], references: [&[u8]; 2], output: &mut [u8], other: 
 #[test]
 fn wrong_answers_of_the_small_reader_are_found() {
     require_small_found(&[
-        ("27 at 0", |file, forward, backward, output| {
-            let other = Answer {
-                place: 0,
-                ..REFUSED
-            };
-            instead_of_27(file, [forward, backward], output, other)
-        }),
-        ("27 after the header", |file, forward, backward, output| {
-            let other = Answer {
-                place: 11,
-                ..REFUSED
-            };
-            instead_of_27(file, [forward, backward], output, other)
-        }),
-        ("99 made", |file, forward, backward, output| {
-            let other = Answer {
-                made: 99,
-                ..REFUSED
-            };
-            instead_of_27(file, [forward, backward], output, other)
-        }),
-        ("a row worked", |file, forward, backward, output| {
-            let other = Answer { rows: 1, ..REFUSED };
-            instead_of_27(file, [forward, backward], output, other)
-        }),
+        ("27 at 0", instead_of_27::<0>),
+        ("27 after the header", instead_of_27::<1>),
+        ("99 made", instead_of_27::<2>),
+        ("a row worked", instead_of_27::<3>),
         (
             "27 after writing",
             |file, forward, backward, output| match reconstruct(file, forward, backward, output) {

@@ -3,6 +3,7 @@
 
 mod common;
 mod found;
+mod missing;
 
 use std::collections::BTreeSet;
 
@@ -23,6 +24,7 @@ use format3_tests::generator::{
 };
 use format3_tests::records::{macroblock_records, made_and_refused, MacroblockRecord};
 use found::require_found;
+use missing::require_missing_reported;
 
 const SEED: u64 = 1;
 
@@ -72,12 +74,7 @@ fn missing_kinds_are_reported() {
     let all = BTreeSet::from_iter(all_row_kinds());
     assert_eq!(all.len(), blocks + 2 * 49 + 2 * 3 + 63 + 2 * 2 + ends);
     let made = rows(&ENTRIES, SEED).expect("the decoder is itself");
-    for missing in &all {
-        let mut counts = made.kinds.clone();
-        counts.remove(missing);
-        let told = format!("no picture has {missing:?}");
-        assert_eq!(require_every_row_kind(&counts), Err(told));
-    }
+    require_missing_reported("picture", &all, &made.kinds, require_every_row_kind);
 }
 
 /// Of blocks for the transform, a missing set of rows is reported: 256 accepted, and 255 refused.
@@ -86,12 +83,7 @@ fn missing_sets_of_rows_are_reported() {
     let all = BTreeSet::from_iter(all_row_masks());
     assert_eq!(all.len(), 256 + 255);
     let made = row_masks(&ENTRIES, SEED).expect("the decoder is itself");
-    for missing in &all {
-        let mut counts = made.clone();
-        counts.remove(missing);
-        let told = format!("no block has {missing:?}");
-        assert_eq!(require_every_row_mask(&counts), Err(told));
-    }
+    require_missing_reported("block", &all, &made, require_every_row_mask);
 }
 
 /// The kinds of a picture of this file, with a reference if it is a P-picture.

@@ -80,7 +80,9 @@ pub record TotalOverMade (limit : ℕ) (transform : List ℤ → ℕ → ℤ) (f
   pub most : pictureWithin limit transform file forward backward output .rows ≤ 48 * pictureWithin limit transform file forward backward output .made
 
 abbrev pub PictureRows : Type 0
-PictureRows = (limit : ℕ) (transform : List ℤ → ℕ → ℤ) (file forward backward output : List ℕ) → TotalOverMade limit transform file forward backward output
+PictureRows =
+    (limit : ℕ) (transform : List ℤ → ℕ → ℤ) (file forward backward output : List ℕ)
+    → TotalOverMade limit transform file forward backward output
 
 -- the number is the same with any inverse transform
 abbrev pub AnyTransform : Type 0

@@ -81,5 +81,8 @@ module _ (file forward backward output : List ℕ) where
       go (FileStart.Refused refusal place) e = absurd (not-within (λ b. let read = b .legal in let z : _≡_ {A = ℕ} 0 1 = cc in omega arith))
       go (FileStart.HeaderRead h end) e = elim (decLt limit (macroblockCount (h .size))) [
         | yes more ↦ record { header = h; end = end; legal = e; more = more }
-        | no few ↦ absurd (not-within (λ b. let read = b .legal in let equal : _≡_ {A = Header} (b .header) h = cc in omega (arith, few, b .more, ap (λ (k : Header). macroblockCount (k .size)) equal)))
+        | no few ↦ absurd (not-within (λ b.
+            let read = b .legal in
+            let equal : _≡_ {A = Header} (b .header) h = cc in
+            omega (arith, few, b .more, ap (λ (k : Header). macroblockCount (k .size)) equal)))
       ]

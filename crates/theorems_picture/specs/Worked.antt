@@ -27,9 +27,12 @@ use Rattle.format3_picture.specs.declared.reader.Answer.{Answer}
 abbrev pub recordWith : ℕ → List ℕ → List ℕ
 recordWith kind body = 0 ∷ suc (length body) ∷ kind ∷ body
 
--- the header, by type and forward f_code
+-- the header, by size, type and forward f_code; and that of one macroblock
+abbrev sizedHeader : ℕ → ℕ → ℕ → ℕ → List ℕ
+sizedHeader width height type code = recordWith 1 (width ∷ height ∷ type ∷ 0 ∷ code ∷ 0 ∷ 0 ∷ [])
+
 abbrev header : ℕ → ℕ → List ℕ
-header type code = recordWith 1 (1 ∷ 1 ∷ type ∷ 0 ∷ code ∷ 0 ∷ 0 ∷ [])
+header = sizedHeader 1 1
 
 -- the version and the header, of an I and of a P picture
 abbrev intra : List ℕ
@@ -227,7 +230,7 @@ expectationsAs18 (c ∷ cs) = countedAs18 (c .expected) ∷ expectationsAs18 cs
 -- ---- limits (request No. 4)
 -- a file of a header alone, by size, type and forward f_code
 abbrev pub sizedFile : ℕ → ℕ → ℕ → ℕ → List ℕ
-sizedFile width height type code = 3 ∷ recordWith 1 (width ∷ height ∷ type ∷ 0 ∷ code ∷ 0 ∷ 0 ∷ [])
+sizedFile width height type code = 3 ∷ sizedHeader width height type code
 
 -- its header, if it is an I picture
 abbrev pub intraHeader : ℕ → ℕ → Header

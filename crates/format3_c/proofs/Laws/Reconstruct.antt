@@ -237,7 +237,8 @@ module _ (limit : ℕ) (entry : Name) where
           pass1 ! (init ! 12 refl (shr-slice-lawful 𝓤 H A W (named 1) κ₁ u8 .typed forward (valOf forward ∷ []) of-forward .0)) $
           pass1 ! (init ! 10 refl (shr-slice-lawful 𝓤 H A W (named 2) κ₂ u8 .typed backward (valOf backward ∷ []) of-backward .0)) $
           pass1 ! (init ! 8 refl (mut-slice-lawful 𝓤 H A W (named 3) κ₃ u8 .typed output (valOf output ∷ []) of-output .0)) $ pass1 ! (init ! 6 refl (tt, tt)) $ pass0 ! $
-          -- [_8; …; _7; …; _6; …; _5; …; _4; …; _3; …; _2; …; _1; …; room for _0; …; the tokens; what the parameters own]: the output is lent again
+          -- [_8; …; _7; …; _6; …; _5; …; _4; …; _3; …; _2; …; _1; …; room for _0; …; the tokens; what the parameters own]:
+          -- the output is lent again
           assigns ! (addr ! (from ! (fld ! refl (hop ! (look-in ! 8 (sub ! 0 refl (whole !))) (stop !))))) (from ! (stop !)) (init ! 2 refl (tt, tt)) $
           assigns ! (agg ! (and-then ! (load ! (from ! (stop !)) (look ! 2 refl)) (and-then ! (load ! (from ! (fld ! refl (stop !))) (look-in ! 8 (sub ! 1 refl (whole !)))) (no-more !)))) (from ! (stop !)) (init ! 0 refl (tt, (tt, (record { fits = room .0 }, tt)))) $
           move ! (19 ∷ 18 ∷ []) $ use1 W (‵ (Own₄ h) ⊛ ‵ (chain passed)) (taken 𝓤 H A 4 (Own₀ ∷ Own₁ ∷ Own₂ ∷ Own₃ ∷ Own₄ h ∷ [])) $ split ! $ fsplit3 ! $ drop ! $
