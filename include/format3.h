@@ -90,7 +90,8 @@ enum format3_answer {
     FORMAT3_REFUSED_SLICE_CODE = 24,
     FORMAT3_REFUSED_SLICE_CUT = 25,
     FORMAT3_REFUSED_RECORDS_LENGTH = 26,
-    FORMAT3_REFUSED_MACROBLOCK_LIMIT = 27
+    FORMAT3_REFUSED_MACROBLOCK_LIMIT = 27,
+    FORMAT3_REFUSED_VECTOR_UNREACHABLE = 33
 };
 
 /* What an answer means, in English. */
@@ -153,6 +154,8 @@ static inline const char *format3_answer_text(uint32_t answer)
         return "the records of a raw slice don't fit the buffer";
     case FORMAT3_REFUSED_MACROBLOCK_LIMIT:
         return "the picture has more macroblocks than the reader's limit";
+    case FORMAT3_REFUSED_VECTOR_UNREACHABLE:
+        return "no motion code and residual reach the wanted vector, or the past or the f_code given with it is out of range";
     default:
         return "an answer that this header does not know";
     }
@@ -369,6 +372,18 @@ uint32_t format3_non_intra_coefficient(int32_t level, int32_t scale, int32_t wei
  * is f or more, or is not 0 with code 0; the vector is then 0. */
 FORMAT3_USE_RESULT FORMAT3_NOT_NULL(5)
 uint32_t format3_vector(uint32_t f_code, int32_t past, int32_t code, uint32_t residual, int32_t *vector);
+
+/* Encodes one component of a motion vector: finds the code and the residual from which format3_vector decodes the wanted
+ * vector. `past` is the predictor and `wanted` the next one, as there: neither is doubled by the full-pel flag.
+ * Accepted: format3_vector accepts this code and residual with the same f_code and past, and its result is the wanted vector.
+ * Every wanted vector in -16f..16f-1, with f = 2^(f_code - 1), is reached from every past in that range. No other code and
+ * residual reach it, except where wanted vector and past differ by 16f: there both 16 and -16 do, with residual f - 1, and
+ * the code is the positive one.
+ * Returns 33 if the f_code is outside 1..7, or the past or the wanted vector outside -16f..16f-1; the code and the residual
+ * are then 0. */
+FORMAT3_USE_RESULT FORMAT3_NOT_NULL(4, 5)
+uint32_t format3_encode_vector(
+    uint32_t f_code, int32_t past, int32_t wanted, int32_t *FORMAT3_RESTRICT code, uint32_t *FORMAT3_RESTRICT residual);
 
 #ifdef __cplusplus
 }

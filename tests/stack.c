@@ -39,6 +39,7 @@ enum measured {
     INTRA_COEFFICIENT,
     NON_INTRA_COEFFICIENT,
     VECTOR,
+    ENCODE_VECTOR,
     API_VERSION,
     MEASURED_COUNT
 };
@@ -63,6 +64,7 @@ static struct {
     [INTRA_COEFFICIENT] = {"format3_intra_coefficient", FORMAT3_STACK_DEFAULT, 0, 0},
     [NON_INTRA_COEFFICIENT] = {"format3_non_intra_coefficient", FORMAT3_STACK_DEFAULT, 0, 0},
     [VECTOR] = {"format3_vector", FORMAT3_STACK_DEFAULT, 0, 0},
+    [ENCODE_VECTOR] = {"format3_encode_vector", FORMAT3_STACK_DEFAULT, 0, 0},
     [API_VERSION] = {"format3_api_version", FORMAT3_STACK_DEFAULT, 0, 0},
 };
 
@@ -215,6 +217,8 @@ static void call_transform(void)
 static int32_t numbers[4];
 static int16_t coefficient;
 static int32_t component;
+static int32_t code;
+static uint32_t residual;
 
 static void call_intra_coefficient(void)
 {
@@ -232,6 +236,12 @@ static void call_vector(void)
 {
     FRAME_HERE();
     number = format3_vector((uint32_t)numbers[0], numbers[1], numbers[2], (uint32_t)numbers[3], &component);
+}
+
+static void call_encode_vector(void)
+{
+    FRAME_HERE();
+    number = format3_encode_vector((uint32_t)numbers[0], numbers[1], numbers[2], &code, &residual);
 }
 
 static void call_api_version(void)
@@ -515,6 +525,8 @@ static void try_numbers(void)
         numbers[2] = random_below(36) - 18;
         numbers[3] = random_below(66) - 1;
         count(VECTOR, measure(call_vector));
+        numbers[2] = random_below(2100) - 1050;
+        count(ENCODE_VECTOR, measure(call_encode_vector));
     }
     count(API_VERSION, measure(call_api_version));
 }

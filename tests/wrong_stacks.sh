@@ -75,9 +75,11 @@ format3_vector:
     mov %rax,-0x8(%rsp)
     ret
 
-    .globl format3_api_version, format3_intra_coefficient, format3_non_intra_coefficient
+    .globl format3_api_version, format3_encode_vector, format3_intra_coefficient, format3_non_intra_coefficient
     .globl format3_read_header, format3_show_record
 format3_api_version:
+    ret
+format3_encode_vector:
     ret
 format3_intra_coefficient:
     ret
@@ -103,6 +105,7 @@ ASSEMBLY
 
 cat > "$right/measured" <<'LINES'
 stack: format3_api_version 8 bytes
+stack: format3_encode_vector 8 bytes
 stack: format3_intra_coefficient 8 bytes
 stack: format3_non_intra_coefficient 8 bytes
 stack: format3_read_header 8 bytes
@@ -203,6 +206,8 @@ edits=(
     '^stack: format3_more is not measured$' library.s 's/^shallow:/.globl format3_more\nformat3_more:\n&/'
     '^stack: format3_reconstruct_small is not worked out$' library.s 's/format3_reconstruct_small/small/'
     '^stack: format3_reconstruct_small is not measured$' measured '/format3_reconstruct_small/d'
+    '^stack: format3_encode_vector is not worked out$' library.s 's/format3_encode_vector/encode_vector/'
+    '^stack: format3_encode_vector is not measured$' measured '/format3_encode_vector/d'
     '^stack: format3_vector takes more than frames.awk has found$' measured 's/(format3_vector) 24/\1 89/'
 
     # The limits.

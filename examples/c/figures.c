@@ -1,5 +1,5 @@
-/* figures: calls every function, and checks the results against figures of document 01 and the first picture of its sample
- * reel, also as a slice. Prints each result that is wrong, and fails if there is one. */
+/* figures: calls every function, and checks the results against figures of document 01 and request No. 12, and the first picture of
+ * document 01's sample reel, also as a slice. Prints each result that is wrong, and fails if there is one. */
 #include <stdint.h>
 #include <stdio.h>
 #include <string.h>
@@ -64,6 +64,26 @@ static void vectors(void)
     vector(2, 0, 1, 0, FORMAT3_ACCEPTED, 1);
     vector(2, 0, -1, 0, FORMAT3_ACCEPTED, -1);
     vector(8, 0, 1, 0, FORMAT3_REFUSED_NUMBER_OUT_OF_RANGE, 0);
+}
+
+static void encoded_vector(
+    uint32_t f_code, int32_t past, int32_t wanted, uint32_t number, long expected_code, long expected_residual)
+{
+    int32_t code = 99;
+    uint32_t residual = 99;
+    expect_answer("encoded vector answer", number, format3_encode_vector(f_code, past, wanted, &code, &residual));
+    expect("code", expected_code, code);
+    expect("residual", expected_residual, residual);
+}
+
+/* The same figures the other way round; a vector that codes 16 and -16 reach, and one that no code reaches. */
+static void encoded_vectors(void)
+{
+    encoded_vector(1, 15, -16, FORMAT3_ACCEPTED, 1, 0);
+    encoded_vector(2, 0, 1, FORMAT3_ACCEPTED, 1, 0);
+    encoded_vector(2, 0, -1, FORMAT3_ACCEPTED, -1, 0);
+    encoded_vector(2, 0, -32, FORMAT3_ACCEPTED, 16, 1);
+    encoded_vector(1, 0, 16, FORMAT3_REFUSED_VECTOR_UNREACHABLE, 0, 0);
 }
 
 /* A DC coefficient alone gives the same number 64 times, from one row unless it is 0. */
@@ -218,6 +238,7 @@ int main(void)
         return 1;
     coefficients();
     vectors();
+    encoded_vectors();
     transforms();
     headers();
     records();

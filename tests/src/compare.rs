@@ -228,11 +228,11 @@ fn same_records_shown(tested: &Entries, file: &[u8], random: &mut Random) -> Res
 }
 
 /// Numbers far outside every range.
-const FAR: [i32; 4] = [i32::MIN, -40_000, 40_000, i32::MAX];
+pub(crate) const FAR: [i32; 4] = [i32::MIN, -40_000, 40_000, i32::MAX];
 
 /// The numbers from `low` to `high`, and some far outside every range.
-fn and_far(low: i64, high: i64) -> Vec<i32> {
-    (low as i32..=high as i32).chain(FAR).collect()
+pub(crate) fn and_far(low: i32, high: i32) -> Vec<i32> {
+    (low..=high).chain(FAR).collect()
 }
 
 /// Compares every level, scale and weight within its range and just past it.
@@ -255,11 +255,16 @@ pub fn coefficients(tested: &Entries) -> Result<usize, String> {
     Ok(compared)
 }
 
+/// f of an f_code, or of the nearest legal one.
+pub fn nearest_f(f_code: i32) -> i32 {
+    f_of(i64::from(f_code).clamp(1, 7)) as i32
+}
+
 /// Compares every f_code, past, code and residual within its range and just past it.
 pub fn vectors(tested: &Entries) -> Result<usize, String> {
     let mut compared = 0;
     for f_code in and_far(-1, 9) {
-        let f = f_of(i64::from(f_code).clamp(1, 7));
+        let f = nearest_f(f_code);
         let residuals = and_far(-1, f);
         for past in and_far(-16 * f - 1, 16 * f) {
             for code in and_far(-17, 17) {

@@ -11,6 +11,7 @@ pub mod code_table;
 pub mod compare;
 pub mod compare_blocks;
 pub mod compare_cases;
+pub mod compare_encoding;
 pub mod compare_limits;
 pub mod compare_misfits;
 pub mod compare_room_slices;

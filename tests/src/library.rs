@@ -5,7 +5,7 @@
 use format3::raw;
 
 use crate::decoder::entries::{Entries, FileStart, Shown};
-use crate::decoder::{Answer, Given, SliceAnswer, Transformed};
+use crate::decoder::{Answer, EncodedVector, Given, SliceAnswer, Transformed};
 
 /// The library's entries.
 pub const ENTRIES: Entries = Entries {
@@ -29,6 +29,7 @@ pub const ENTRIES: Entries = Entries {
         coefficient(raw::format3_non_intra_coefficient, level, scale, weight)
     },
     vector,
+    encode_vector,
     show_record,
     read_slice,
 };
@@ -112,6 +113,17 @@ fn vector(f_code: i32, past: i32, code: i32, residual: i32) -> (u32, i32) {
     // SAFETY: the pointer belongs to a live number.
     let number = unsafe { raw::format3_vector(f_code, past, code, residual, &mut vector) };
     (number, vector)
+}
+
+/// A negative f_code wraps, as above.
+fn encode_vector(f_code: i32, past: i32, wanted: i32) -> (u32, EncodedVector) {
+    let mut code = UNWRITTEN as i32;
+    let mut residual = UNWRITTEN as u32;
+    // SAFETY: the pointers belong to separate live numbers.
+    let number = unsafe {
+        raw::format3_encode_vector(f_code as u32, past, wanted, &mut code, &mut residual)
+    };
+    (number, EncodedVector { code, residual })
 }
 
 fn show_record(file: &[u8], offset: usize) -> (u32, Shown) {

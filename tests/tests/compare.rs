@@ -6,6 +6,7 @@ use format3_tests::compare::{
     changed_fields, coefficients, headers, pictures, transforms, vectors,
 };
 use format3_tests::compare_blocks::blocks;
+use format3_tests::compare_encoding::encoded_vectors;
 use format3_tests::compare_limits::limits;
 use format3_tests::compare_misfits::misfits;
 use format3_tests::compare_room_slices::room_slices;
@@ -35,6 +36,7 @@ fn compare(tested: &Entries) -> Result<(), String> {
     changed_fields(tested, SEED)?;
     coefficients(tested)?;
     vectors(tested)?;
+    encoded_vectors(tested, SEED, 200)?;
     changed_slices(tested, SEED)?;
     ended_slices(tested)?;
     stream_slices(tested, SEED)?;

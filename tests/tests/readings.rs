@@ -1,4 +1,5 @@
-//! Tests the other decoder against settled readings of document 01 and requests No. 1, 4 and 6, where their words leave a choice.
+//! Tests the other decoder against settled readings of document 01 and requests No. 1, 4, 6 and 12, where their words leave a
+//! choice.
 
 mod common;
 
@@ -358,6 +359,84 @@ fn numbers_out_of_range() {
         rows: 0,
     };
     assert_eq!((ENTRIES.transform)(&block), (22, zeros));
+}
+
+/// The number, code and residual for a wanted vector.
+fn encoded(f_code: i32, past: i32, wanted: i32) -> (u32, i32, u32) {
+    let (number, encoded) = (ENTRIES.encode_vector)(f_code, past, wanted);
+    (number, encoded.code, encoded.residual)
+}
+
+/// From every past in range, every wanted vector in range is read from one pair, or from two if they differ by 16f; and no other.
+#[test]
+fn pairs_that_reach_a_wanted_vector() {
+    for f_code in 1..=7 {
+        let f = 1 << (f_code - 1);
+        for past in -16 * f..16 * f {
+            let pairs = (-16..=16).flat_map(|code| (0..f).map(move |residual| (code, residual)));
+            let read = |(code, residual)| (ENTRIES.vector)(f_code, past, code, residual);
+            let mut found = vec![0; 32 * f as usize];
+            for (_, wanted) in pairs.map(read).filter(|(number, _)| *number == 0) {
+                found[(wanted + 16 * f) as usize] += 1;
+            }
+            let expected = |wanted: i32| {
+                if past.abs_diff(wanted) == 16 * f as u32 {
+                    2
+                } else {
+                    1
+                }
+            };
+            assert_eq!(found, Vec::from_iter((-16 * f..16 * f).map(expected)));
+        }
+    }
+}
+
+/// From both sides, and at the ends of the range: both codes are read as the wanted vector, and the positive one is given.
+#[test]
+fn a_wanted_vector_16f_from_the_past() {
+    for f_code in 1..=7 {
+        let f = 1 << (f_code - 1);
+        let high = 16 * f - 1;
+        for (past, wanted) in [(0, -16 * f), (-16 * f, 0), (-1, high), (high, -1)] {
+            for code in [-16, 16] {
+                assert_eq!((ENTRIES.vector)(f_code, past, code, f - 1), (0, wanted));
+            }
+            assert_eq!(encoded(f_code, past, wanted), (0, 16, f as u32 - 1));
+        }
+    }
+}
+
+/// The wanted vector is the undoubled number, so 2 × 15 is out of range for f_code 1. Code 0 reaches neither a wanted vector 32f from
+/// the past nor one that is the past, if that is out of range.
+#[test]
+fn wanted_vectors_that_are_not_reached() {
+    assert_eq!(encoded(1, 0, 15), (0, 15, 0));
+    for (past, wanted) in [(0, 16), (0, -17), (0, 30), (-16, 16), (15, -17)] {
+        assert_eq!(encoded(1, past, wanted), (33, 0, 0));
+    }
+    for past in [16, -17] {
+        assert_eq!(encoded(1, past, past), (33, 0, 0));
+        assert_eq!(encoded(1, past, 0), (33, 0, 0));
+        assert_eq!(encoded(2, past, past), (0, 0, 0));
+    }
+}
+
+/// Any numbers may be given: an f_code out of range is refused whatever comes with it, and a difference may be beyond any type.
+#[test]
+fn free_numbers_to_encode() {
+    for f_code in [i32::MIN, -1, 0, 8, i32::MAX] {
+        assert_eq!(encoded(f_code, 0, 0), (33, 0, 0));
+    }
+    let far = [i32::MIN, -65_536, 65_536, i32::MAX];
+    for number in far {
+        for f_code in 1..=7 {
+            assert_eq!(encoded(f_code, 0, number), (33, 0, 0));
+            assert_eq!(encoded(f_code, number, 0), (33, 0, 0));
+            for other in far {
+                assert_eq!(encoded(f_code, number, other), (33, 0, 0));
+            }
+        }
+    }
 }
 
 /// The rows worked for a P-picture of one macroblock, whose first block alone is coded, with these pairs.

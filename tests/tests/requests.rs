@@ -3,7 +3,9 @@
 use std::fs;
 use std::path::{Path, PathBuf};
 
-use format3_tests::decoder::{Answer, Entries, Transform, Transformed, ENTRIES};
+use format3_tests::decoder::{
+    Answer, EncodeVector, EncodedVector, Entries, Transform, Transformed, ENTRIES,
+};
 use format3_tests::requests::notation::Unread;
 use format3_tests::requests::{
     found_in, request_of, run, CaseResult, Difference, Found, Landed, Report, RequestFile, Tested,
@@ -82,6 +84,12 @@ fn no06() -> Example {
 fn no06_transform() -> Example {
     let case = ["dc/6", &list("8", "0"), "0", "1", &list("1", "1")];
     example("no06-transform.txt", &case)
+}
+
+/// A case of No. 12 in which two pairs reach the wanted vector.
+fn no12() -> Example {
+    let case = ["hand/5", "2", "0", "-32", "0", "16", "1"];
+    example("no12.txt", &case)
 }
 
 /// A list of 64 numbers, all the same but for the first.
@@ -168,7 +176,8 @@ fn the_decoder_gives_the_answers_of_the_cases() {
         "no04.txt: 322 cases, 0 differ",
         "no06-transform.txt: 206 cases, 0 differ",
         "no06.txt: 335 cases, 0 differ",
-        "requests: 1169 cases, 0 differ",
+        "no12.txt: 918 cases, 0 differ",
+        "requests: 2087 cases, 0 differ",
     ];
     assert_report(&report, 0, &lines);
 }
@@ -182,7 +191,7 @@ fn every_file_of_a_landed_request_is_copied() {
 
 #[test]
 fn a_case_that_is_met_passes() {
-    for example in [no01(), no04(), no06(), no06_transform()] {
+    for example in [no01(), no04(), no06(), no06_transform(), no12()] {
         let lines = [
             &*format!("{}: 2 cases, 0 differ", example.name),
             "requests: 2 cases, 0 differ",
@@ -266,6 +275,19 @@ fn each_wrong_answer_of_the_transform_differs() {
     }
 }
 
+#[test]
+fn each_wrong_answer_of_an_encoded_vector_differs() {
+    let example = no12();
+    let answer = "number 0, code 16, residual 1";
+    for (field, text, expected) in [
+        (4, "33", "number 33, code 16, residual 1"),
+        (5, "-16", "number 0, code -16, residual 1"),
+        (6, "0", "number 0, code 16, residual 0"),
+    ] {
+        example.assert_differs(&example.line_with(field, text), expected, answer);
+    }
+}
+
 /// A reader that requires the inputs of the test below, and writes to the output.
 fn requires_inputs(file: &[u8], forward: &[u8], backward: &[u8], output: &mut [u8]) -> Answer {
     assert_eq!(file, [0, 255]);
@@ -330,6 +352,27 @@ fn the_coefficients_of_a_case_reach_the_entry() {
     assert_eq!(report.exit_status(), 0, "{report}");
 }
 
+/// Past and wanted vector are not exchanged. An f_code may have any 32 bits.
+#[test]
+fn the_numbers_of_a_case_reach_the_entry() {
+    let encode_vector: EncodeVector = |f_code, past, wanted| {
+        assert_eq!((f_code as u32, past, wanted), (u32::MAX, i32::MIN, 3));
+        let encoded = EncodedVector {
+            code: -5,
+            residual: u32::MAX,
+        };
+        (4, encoded)
+    };
+    let entries = Entries {
+        encode_vector,
+        ..ENTRIES
+    };
+    let line = "name\t4294967295\t-2147483648\t3\t4\t-5\t4294967295";
+    let found = [found("no12.txt", &format!("# fields\n{line}"))];
+    let report = run(&found, LANDED, tested_with(&entries));
+    assert_eq!(report.exit_status(), 0, "{report}");
+}
+
 #[test]
 fn a_line_that_is_not_a_case_fails() {
     let example = no01();
@@ -358,6 +401,12 @@ fn a_line_that_is_not_a_case_fails() {
     no06().assert_not_run(&example.line(), "9 fields, not 10");
     no06().assert_not_run(
         &no06().line_with(8, "-1"),
+        "the entry's type has no number -1",
+    );
+    no12().assert_not_run(&format!("{}\t0", no12().line()), "8 fields, not 7");
+    no12().assert_not_run(&no12().line_with(2, "x"), "no number: \"x\"");
+    no12().assert_not_run(
+        &no12().line_with(6, "-1"),
         "the entry's type has no number -1",
     );
 }
@@ -403,6 +452,9 @@ fn a_wide_case_is_left_out_only_if_the_type_has_no_such_number() {
         (no04(), 10, "4294967296"),
         (no06(), 8, "18446744073709551616"),
         (no06_transform(), 1, &*list("32768", "0")),
+        (no12(), 1, "4294967296"),
+        (no12(), 2, "2147483648"),
+        (no12(), 3, "-2147483649"),
     ] {
         let lines = [
             &*format!("{}: 1 cases, 0 differ, 1 left out", example.name),
@@ -415,6 +467,9 @@ fn a_wide_case_is_left_out_only_if_the_type_has_no_such_number() {
         (no04(), 10, "4294967295"),
         (no06(), 8, "18446744073709551615"),
         (no06_transform(), 1, &*list("32767", "0")),
+        (no12(), 1, "4294967295"),
+        (no12(), 2, "2147483647"),
+        (no12(), 3, "-2147483648"),
     ] {
         let differing = report_on_wide(&example, field, wide).to_string();
         assert!(differing.ends_with("requests: 2 cases, 1 differ\n"));
@@ -430,6 +485,7 @@ fn a_wide_case_that_is_malformed_fails() {
         (no06(), 8, "x"),
         (no06_transform(), 1, "32768"),
         (no06_transform(), 1, &*list("32768", "x")),
+        (no12(), 1, "x"),
     ] {
         let report = report_on_wide(&example, field, malformed);
         assert_eq!(report.exit_status(), 1, "{report}");

@@ -1,4 +1,4 @@
-//! Single steps of reconstruction, on numbers.
+//! Single steps of reconstruction, on numbers, and the encoding of a vector.
 
 use crate::{raw, Refusal};
 
@@ -97,4 +97,50 @@ pub fn vector(f_code: u32, past: i32, code: i32, residual: u32) -> Result<i32, R
     let answer = unsafe { raw::format3_vector(f_code, past, code, residual, &mut vector) };
     Refusal::check(answer)?;
     Ok(vector)
+}
+
+/// An encoded component of a motion vector.
+#[derive(Clone, Copy, Debug, PartialEq, Eq)]
+#[non_exhaustive]
+pub struct EncodedVector {
+    /// In -16 to 16.
+    pub code: i32,
+    /// Below 2^(`f_code` - 1), and 0 with code 0.
+    pub residual: u32,
+}
+
+/// Encodes one component of a motion vector: the code and the residual from which [`vector`] decodes `wanted`. `past` and `wanted`
+/// are numbers as [`vector`] takes and gives them, before the full-pel flag doubles them.
+///
+/// Every `wanted` in range is reached from every `past` in range. No other code and residual reach it, except where the two differ
+/// by 16f: there both 16 and -16 do, with residual f - 1, and the code is the positive one.
+///
+/// ```
+/// use format3::{encode_vector, vector, Refusal};
+///
+/// // 15 + 1 leaves the range of f_code 1, -16 to 15, and moves back inside.
+/// let encoded = encode_vector(1, 15, -16)?;
+/// assert_eq!((encoded.code, encoded.residual), (1, 0));
+/// assert_eq!(vector(1, 15, encoded.code, encoded.residual), Ok(-16));
+///
+/// // 0 and -16 differ by 16f: code -16 reaches it too.
+/// let encoded = encode_vector(1, 0, -16)?;
+/// assert_eq!((encoded.code, encoded.residual), (16, 0));
+///
+/// assert_eq!(encode_vector(1, 0, 16), Err(Refusal::VectorUnreachable));
+/// # Ok::<(), Refusal>(())
+/// ```
+///
+/// # Errors
+///
+/// [`Refusal::VectorUnreachable`] if `f_code` is outside 1 to 7, or `past` or `wanted` outside -16f to 16f - 1 with
+/// f = 2^(`f_code` - 1).
+pub fn encode_vector(f_code: u32, past: i32, wanted: i32) -> Result<EncodedVector, Refusal> {
+    let mut code = 0;
+    let mut residual = 0;
+    // SAFETY: the pointers belong to separate live numbers.
+    let answer =
+        unsafe { raw::format3_encode_vector(f_code, past, wanted, &mut code, &mut residual) };
+    Refusal::check(answer)?;
+    Ok(EncodedVector { code, residual })
 }

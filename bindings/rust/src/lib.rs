@@ -15,6 +15,7 @@
 //! | turn a slice of a video stream into records | [`read_slice`] |
 //! | step through the records of a file | [`show_record`] |
 //! | check a number of another decoder | [`transform`], [`intra_coefficient`], [`non_intra_coefficient`], [`vector`] |
+//! | encode a motion vector, as for a test pattern | [`encode_vector`] |
 //!
 //! A picture's bytes are its Y plane (16 × 16 pels per macroblock), then Cb, then Cr (8 × 8 per macroblock), each row by row.
 //!
@@ -36,7 +37,10 @@ mod refusal;
 mod slice;
 
 pub use api_version::API_VERSION;
-pub use calculation::{intra_coefficient, non_intra_coefficient, transform, vector, Transformed};
+pub use calculation::{
+    encode_vector, intra_coefficient, non_intra_coefficient, transform, vector, EncodedVector,
+    Transformed,
+};
 pub use error::{RefusedPicture, RefusedSlice, VersionMismatch};
 pub use file::{read_header, show_record, CodingType, Header, Record, RecordKind};
 pub use picture::{reconstruct, reconstruct_small, Reconstructed};

@@ -175,4 +175,13 @@ extern "C" {
         residual: u32,
         vector: *mut i32,
     ) -> u32;
+
+    /// Encodes one component of a motion vector.
+    pub fn format3_encode_vector(
+        f_code: u32,
+        past: i32,
+        wanted: i32,
+        code: *mut i32,
+        residual: *mut u32,
+    ) -> u32;
 }

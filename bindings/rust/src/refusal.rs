@@ -113,13 +113,17 @@ pub enum Refusal {
     ///
     /// Caused by the encoder, or the caller. Encode at most 99 macroblocks a picture, or call the reader that takes 396.
     MacroblockLimit,
+    /// 33: no motion code and residual reach the wanted vector, or the past or the f_code given with it is out of range.
+    ///
+    /// Caused by the caller. An f_code is 1 to 7; the past and the wanted vector are -16f to 16f - 1, with f = 2^(f_code - 1).
+    VectorUnreachable,
     /// A number that this crate does not know, from a newer library.
     Unknown(u32),
 }
 
 impl Refusal {
     /// The refusals that this crate knows, in order of their numbers.
-    pub const ALL: [Refusal; 27] = [
+    pub const ALL: [Refusal; 28] = [
         Refusal::FileEmpty,
         Refusal::Version,
         Refusal::RecordCut,
@@ -147,6 +151,7 @@ impl Refusal {
         Refusal::SliceCut,
         Refusal::RecordsLength,
         Refusal::MacroblockLimit,
+        Refusal::VectorUnreachable,
     ];
 
     /// What the number that a function of [`raw`](crate::raw) returned means: 0 is `Ok`.
@@ -192,6 +197,7 @@ impl Refusal {
             25 => Refusal::SliceCut,
             26 => Refusal::RecordsLength,
             27 => Refusal::MacroblockLimit,
+            33 => Refusal::VectorUnreachable,
             _ => Refusal::Unknown(answer),
         })
     }
@@ -230,6 +236,7 @@ impl Refusal {
             Refusal::SliceCut => 25,
             Refusal::RecordsLength => 26,
             Refusal::MacroblockLimit => 27,
+            Refusal::VectorUnreachable => 33,
             Refusal::Unknown(number) => number,
         }
     }
@@ -269,6 +276,7 @@ impl Refusal {
             Refusal::SliceCut => "a raw slice ends before its first macroblock is complete, or within a later one",
             Refusal::RecordsLength => "the records of a raw slice don't fit the buffer",
             Refusal::MacroblockLimit => "the picture has more macroblocks than the reader's limit",
+            Refusal::VectorUnreachable => "no motion code and residual reach the wanted vector, or the past or the f_code given with it is out of range",
             Refusal::Unknown(_) => "an answer that this crate does not know",
         }
     }

@@ -1,8 +1,8 @@
-//! Tests the safe functions against figures of document 01.
+//! Tests the safe functions against figures of document 01 and request No. 12.
 
 use format3::{
-    intra_coefficient, non_intra_coefficient, read_header, read_slice, reconstruct, show_record,
-    transform, vector,
+    encode_vector, intra_coefficient, non_intra_coefficient, read_header, read_slice, reconstruct,
+    show_record, transform, vector,
 };
 use format3::{
     BitPosition, CodingType, Header, PictureParameters, RecordKind, Refusal, RefusedPicture,
@@ -136,6 +136,36 @@ fn coefficients_vectors_and_blocks() {
     assert_eq!(transform(&block), Err(Refusal::NumberOutOfRange));
 }
 
+/// The code and the residual are not exchanged, and each wanted vector is read back.
+#[test]
+fn encoded_vectors() {
+    let encoded = |f_code, past, wanted| {
+        let encoded = encode_vector(f_code, past, wanted)?;
+        let (code, residual) = (encoded.code, encoded.residual);
+        assert_eq!(vector(f_code, past, code, residual), Ok(wanted));
+        Ok((code, residual))
+    };
+    assert_eq!(encoded(1, 15, -16), Ok((1, 0)));
+    assert_eq!(encoded(2, 0, -3), Ok((-2, 0)));
+    assert_eq!(encoded(7, -1024, 1023), Ok((-1, 0)));
+    assert_eq!(encoded(7, 0, 64), Ok((1, 63)));
+    assert_eq!(encoded(2, 5, 5), Ok((0, 0)));
+    // A difference of 16f, from both sides.
+    assert_eq!(encoded(2, 0, -32), Ok((16, 1)));
+    assert_eq!(encoded(2, -32, 0), Ok((16, 1)));
+    for (f_code, past, wanted) in [
+        (0, 0, 0),
+        (8, 0, 0),
+        (u32::MAX, 0, 0),
+        (1, 16, 0),
+        (1, 0, 16),
+        (1, i32::MAX, i32::MIN),
+    ] {
+        let refused = encoded(f_code, past, wanted);
+        assert_eq!(refused, Err(Refusal::VectorUnreachable));
+    }
+}
+
 /// The rows that are not all zero, not those up to the last, and not columns.
 #[test]
 fn rows_of_a_block() {
@@ -208,7 +238,7 @@ fn numbers_of_refusals() {
     for number in (1..100).chain([u32::MAX]) {
         let refusal = Refusal::check(number).unwrap_err();
         assert_eq!(refusal.number(), number);
-        let known = (1..=27).contains(&number);
+        let known = (1..=27).contains(&number) || number == 33;
         assert_eq!(Refusal::ALL.contains(&refusal), known);
         assert_eq!(refusal == Refusal::Unknown(number), !known);
     }

@@ -16,9 +16,10 @@ use Rattle.math.specs.Bound.{Within}
 use Rattle.math.proofs.Compare.{bits-eq}
 use Rattle.math.proofs.Machine.{Held, number, literal, fits, kept, quotient, remainder}
 use Rattle.math.proofs.Difference.{up, dn, of-le, le-of, parts-add}
+use Rattle.math.proofs.Test.{both-true}
 use Rattle.symbols.specs.Size.{pictureBytes}
 use Rattle.decode_vectors.specs.Vector.{chromaVector, oddBit}
-use Rattle.decode_vectors.proofs.VectorLaws.{both-true, chroma-within}
+use Rattle.decode_vectors.proofs.VectorLaws.{chroma-within}
 use Rattle.decode_prediction.specs.Fit.{signedCoordinate, halfPelCoordinate, macroblockFits}
 use Rattle.decode_prediction.proofs.FitLaws.{size-up, coordinate-odd, Fits, MacroblockFits, luma-known, chroma-known}
 use Rattle.decode_macroblock.specs.declared.location.MacroblockPosition.{MacroblockPosition}

@@ -8,11 +8,10 @@ use native.Mathlib.Omega.{arith}
 use borrow.Author.Tests.{lt-ltb, le-ltb, le-leb, leb-true, ltb-true}
 use lib.Arith.{digits-lt, digits-div, digits-mod}
 use lib.Dec.{ltb, leb}
-use Rattle.math.proofs.Test.{clash}
+use Rattle.math.proofs.Test.{clash, both-true}
 use Rattle.symbols.specs.declared.size.PictureSize.{PictureSize}
 use Rattle.symbols.specs.Requires.{SizeWithin}
 use Rattle.symbols.specs.Size.{macroblockCount, pictureBytes, startOfCb, startOfCr}
-use Rattle.decode_vectors.proofs.VectorLaws.{both-true}
 use Rattle.decode_macroblock.proofs.PelLaws.{inPels}
 use Rattle.decode_macroblock.specs.declared.location.BlockLocation.{BlockLocation}
 use Rattle.decode_macroblock.specs.Location.{macroblockPosition, lumaLocation, chromaLocation, blockLocation}

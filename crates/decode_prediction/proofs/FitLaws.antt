@@ -9,8 +9,8 @@ use lib.Signed.{ltZ, _≤ℤ_}
 use Rattle.math.proofs.Compare.{tests}
 use Rattle.math.proofs.Difference.{up, dn, of-le, le-of, same-of, parts-add, parts-neg, parts-mul}
 use Rattle.math.proofs.Limit.{range-between}
+use Rattle.math.proofs.Test.{both-true}
 use Rattle.decode_vectors.specs.Vector.{wholePels, oddBit, chromaVector}
-use Rattle.decode_vectors.proofs.VectorLaws.{both-true}
 use Rattle.decode_prediction.specs.Fit.{signedCoordinate, halfPelCoordinate, vectorFits, macroblockFits}
 
 -- ---- half of the coordinate is the floor of half, counted from x, and its odd bit is the vector's

@@ -49,14 +49,18 @@ codeInRange code = inRange (negℤ (pos 16)) (pos 16) code
 unfoldable pub residualInRange : ℕ → ℤ → ℕ → Bool
 residualInRange f code residual = cond (eqZ code (pos 0)) (eqb residual 0) (ltb residual f)
 
--- whether the past is in -16f..16f-1
+-- whether a past, or a vector that is to be the next past, is in -16f..16f-1
 unfoldable pub pastInRange : ℕ → ℤ → Bool
 pastInRange f past = inRange (lowest (pos f)) (highest (pos f)) past
 
--- the ranges that the vector entry accepts: an f_code is 1..7
+-- whether the f_code is 1..7 and the past in the range of its f
+unfoldable pub fCodeAndPastInRange : ℕ → ℤ → Bool
+fCodeAndPastInRange fCode past = leb 1 fCode && leb fCode 7 && pastInRange (fOf fCode) past
+
+-- the ranges that the vector entry accepts
 unfoldable pub vectorEntryInRange : ℕ → ℤ → ℤ → ℕ → Bool
 vectorEntryInRange fCode past code residual =
-    leb 1 fCode && leb fCode 7 && pastInRange (fOf fCode) past && codeInRange code && residualInRange (fOf fCode) code residual
+    fCodeAndPastInRange fCode past && codeInRange code && residualInRange (fOf fCode) code residual
 
 -- the vector entry's answer: a number out of range is refused, and the vector is then 0
 abbrev pub vectorNumber : ℕ → ℤ → ℤ → ℕ → ℕ

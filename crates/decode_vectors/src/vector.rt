@@ -3,7 +3,7 @@ ghost use mathlib.Core.Path.{_≡_};
 ghost use Prim.Native.Nat.{_^_, _≤_, _<_};
 ghost use lib.IntN.{pos, _+ℤ_, _-ℤ_, _*ℤ_};
 ghost use Rattle.math.specs.Bound.{Within};
-ghost use Rattle.decode_vectors.specs.Vector.{maxF, maxPast, maxVector, fOf, vectorDifferenceOf, wrapped, vectorOf, codeInRange, residualInRange, pastInRange, vectorEntryInRange, vectorNumber, vectorValue, usedVector, chromaVector};
+ghost use Rattle.decode_vectors.specs.Vector.{maxF, maxPast, maxVector, fOf, vectorDifferenceOf, wrapped, vectorOf, codeInRange, residualInRange, pastInRange, fCodeAndPastInRange, vectorEntryInRange, vectorNumber, vectorValue, usedVector, chromaVector};
 use refusals::Refusal;
 
 // The vector entry's answer: 0 or a refusal's number, and the vector, 0 when refused.
@@ -87,7 +87,8 @@ pub fn residual_in_range(f: u32, code: i32, residual: u32) -> bool
     residual < f
 }
 
-fn past_in_range(f: u32, past: i32) -> bool
+// Whether the past, or a vector that is to be the next past, is in -16f..16f-1.
+pub fn past_in_range(f: u32, past: i32) -> bool
     requires { ⌜ f ≤ maxF ⌝ }
     ensures { λ r. ⌜ r ≡ pastInRange f past ⌝ }
 {
@@ -101,9 +102,9 @@ fn past_in_range(f: u32, past: i32) -> bool
     true
 }
 
-// Whether every number is in the vector entry's range.
-fn vector_entry_in_range(f_code: u32, past: i32, code: i32, residual: u32) -> bool
-    ensures { λ r. ⌜ r ≡ vectorEntryInRange «f_code» past code residual ⌝ }
+// Whether the f_code is 1..7, and the past in the range of its f.
+pub fn f_code_and_past_in_range(f_code: u32, past: i32) -> bool
+    ensures { λ r. ⌜ r ≡ fCodeAndPastInRange «f_code» past ⌝ }
 {
     if f_code < 1 {
         return false;
@@ -112,12 +113,20 @@ fn vector_entry_in_range(f_code: u32, past: i32, code: i32, residual: u32) -> bo
         return false;
     }
     let f = f_of_code(f_code);
-    if !past_in_range(f, past) {
+    past_in_range(f, past)
+}
+
+// Whether every number is in the vector entry's range.
+fn vector_entry_in_range(f_code: u32, past: i32, code: i32, residual: u32) -> bool
+    ensures { λ r. ⌜ r ≡ vectorEntryInRange «f_code» past code residual ⌝ }
+{
+    if !f_code_and_past_in_range(f_code, past) {
         return false;
     }
     if !code_in_range(code) {
         return false;
     }
+    let f = f_of_code(f_code);
     residual_in_range(f, code, residual)
 }
 

@@ -12,6 +12,7 @@ ghost use Rattle.decode_coefficients.specs.Answer.{coefficientNumber, coefficie
 ghost use Rattle.decode_idct.specs.Transform.{inverseTransform};
 ghost use Rattle.decode_idct.specs.Answer.{transformNumber, transformResidues, transformRows};
 ghost use Rattle.decode_vectors.specs.Vector.{vectorNumber, vectorValue};
+ghost use Rattle.encode_vectors.specs.Encoding.{encodedNumber, encodedCode, encodedResidual};
 ghost use Rattle.format3_records.specs.Record.{recordOf, recordNumber, kindOf, bodyStartOf, bodyLengthOf, bodyOf};
 ghost use Rattle.format3_header.specs.FileStart.{firstHeader, fileHeaderOf};
 ghost use Rattle.format3_picture.specs.Picture.{pictureWithin, pictureOf};
@@ -22,6 +23,7 @@ use decode_coefficients::scaling::CoefficientAnswer;
 use decode_idct::TransformAnswer;
 use decode_vectors::vector;
 use decode_vectors::vector::VectorAnswer;
+use encode_vectors::EncodedVector;
 use format3_header::file_start;
 use format3_header::file_start::FileHeader;
 use format3_picture::reader;
@@ -129,6 +131,18 @@ pub fn vector(f_code: u32, past: i32, code: i32, residual: u32) -> VectorAnswer
     ensures vector { λ r. ⌜ r .vector ≡ vectorValue «f_code» past code residual ⌝ }
 {
     vector::decode_vector(f_code, past, code, residual)
+}
+
+// The motion code and residual with which `vector` gives a wanted component.
+// Takes any f_code, past and wanted component, the last two not doubled for full pels.
+// Answers 0, the code and the residual; where two pairs give the wanted component, those of code 16. 33 and zeros if no pair does, or if
+// the f_code or the past is out of range.
+pub fn encode_vector(f_code: u32, past: i32, wanted: i32) -> EncodedVector
+    ensures number { λ r. ⌜ r .number ≡ encodedNumber «f_code» past wanted ⌝ }
+    ensures code { λ r. ⌜ r .code ≡ encodedCode «f_code» past wanted ⌝ }
+    ensures residual { λ r. ⌜ r .residual ≡ encodedResidual «f_code» past wanted ⌝ }
+{
+    encode_vectors::encode_vector(f_code, past, wanted)
 }
 
 // Where the record at an offset is.

@@ -8,6 +8,7 @@ ghost use Rattle.decode_coefficients.specs.Answer.{coefficientNumber, coefficie
 ghost use Rattle.decode_idct.specs.Transform.{inverseTransform};
 ghost use Rattle.decode_idct.specs.Answer.{transformNumber, transformResidues, transformRows};
 ghost use Rattle.decode_vectors.specs.Vector.{vectorNumber, vectorValue};
+ghost use Rattle.encode_vectors.specs.Encoding.{encodedNumber, encodedCode, encodedResidual};
 ghost use Rattle.format3_records.specs.Record.{recordOf, recordNumber, kindOf, bodyStartOf, bodyLengthOf};
 ghost use Rattle.format3_header.specs.FileStart.{firstHeader, fileHeaderOf};
 ghost use Rattle.format3_picture.specs.Picture.{pictureWithin, pictureOf};
@@ -187,6 +188,26 @@ pub extern "C" fn format3_vector(
     let value = decoded.vector;
     *vector = value;
     decoded.number
+}
+
+// The code and the residual with which `format3_vector` gives a wanted component; zeros if it is refused.
+#[no_mangle]
+pub extern "C" fn format3_encode_vector(
+    f_code: u32,
+    past: i32,
+    wanted: i32,
+    code: &mut i32,
+    residual: &mut u32,
+) -> u32
+    ensures number { λ r. ⌜ r ≡ encodedNumber «f_code» past wanted ⌝ }
+    ensures code { λ _. ⌜ now (code .exit) ≡ encodedCode «f_code» past wanted ⌝ }
+    ensures residual { λ _. ⌜ now (residual .exit) ≡ encodedResidual «f_code» past wanted ⌝ }
+{
+    let encoded = entries::encode_vector(f_code, past, wanted);
+    let value = encoded.code;
+    *code = value;
+    *residual = encoded.residual;
+    encoded.number
 }
 
 // The record at an offset: its kind, and where its body starts and how long that is; zeros if it is refused.

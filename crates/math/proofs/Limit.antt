@@ -5,12 +5,13 @@ use mathlib.Core.List.{List, [], _∷_}
 use mathlib.Core.Path.{_≡_, refl, sym, subst}
 use native.Mathlib.Omega.{arith}
 use lib.Dec.{T}
-use lib.IntN.{ℤ, pos}
+use lib.IntN.{ℤ, pos, negsuc, _-ℤ_, _*ℤ_, zero-*ℤ}
 use lib.ListN.{set}
 use lib.Signed.{ltZ, _≤ℤ_, ≤ℤ-refl}
 use Rattle.math.proofs.Bound.{abs-parts, abs-le, within-literal, within-cond}
 use Rattle.math.proofs.Compare.{tests}
 use Rattle.math.proofs.Difference.{le-of, of-le}
+use Rattle.math.proofs.Solve.{solve-by, constant, _:*_, _:-_, X0}
 use Rattle.math.specs.Bound.{Within, AllWithin, Between, AllBetween, at}
 use Rattle.math.specs.Limit.{limited, inRange, signOf}
 
@@ -32,6 +33,16 @@ between-range {low} {high} {z} b = go (ltZ z low) refl (ltZ high z) refl
 
 pub sign-within : (z : ℤ) → Within 1 (signOf z)
 sign-within z = within-cond (ltZ z (pos 0)) (within-literal tt) (within-cond (ltZ (pos 0) z) (within-literal tt) (within-literal tt))
+
+-- a number that is given the sign of another: minus the number, itself, or 0
+pub signed-below : (z x : ℤ) → ltZ z (pos 0) ≡ true → pos 0 -ℤ x ≡ signOf z *ℤ x
+signed-below z x e = rw e (solve-by (x ∷ []) (constant (pos 0) :- X0) (constant (negsuc 0) :* X0) refl)
+
+pub signed-above : (z x : ℤ) → ltZ z (pos 0) ≡ false → ltZ (pos 0) z ≡ true → x ≡ signOf z *ℤ x
+signed-above z x e g = rw (e, g) (solve-by (x ∷ []) X0 (constant (pos 1) :* X0) refl)
+
+pub signed-none : (z x : ℤ) → ltZ z (pos 0) ≡ false → ltZ (pos 0) z ≡ false → pos 0 ≡ signOf z *ℤ x
+signed-none z x e g = rw (e, g) (sym (zero-*ℤ x))
 
 -- a limited number is in the limits' range
 pub limited-between : (low high z : ℤ) → low ≤ℤ high → Between low high (limited low high z)

@@ -5,12 +5,12 @@ use mathlib.Core.Path.{_≡_, refl, sym, ap, _∙_, subst}
 use mathlib.Core.Bool.{Bool}
 use Prim.Native.Nat.{ℕ, zero, suc, _+_, _*_, _/_, _^_, _≤_, _<_}
 use native.Mathlib.Omega.{arith}
-use native.Mathlib.Nat.{le-trans, le-of-lt, lt-of-lt-of-le, div-le-self, div-mul-le-self, le-div-iff-mul-le, mod-le}
+use native.Mathlib.Nat.{le-trans, le-of-lt, lt-of-lt-of-le, lt-of-le-of-lt, div-le-self, div-mul-le-self, le-div-iff-mul-le, mod-le}
 use lib.Dec.{T, leb, ltb, ltb→lt, leb→le}
 use lib.IntN.{ℤ, pos, negsuc, negℤ, natAbs, _+ℤ_, _-ℤ_, _*ℤ_}
-use lib.Signed.{ltZ, mag, quotZ, remZ, shrZ}
+use lib.Signed.{ltZ, mag, nonNeg, quotZ, remZ, shrZ}
 use mir.Syntax.{Width}
-use mir.Val.{SFits, hbits, toZ, ofZ}
+use mir.Val.{Fits, SFits, bits, hbits, toZ, ofZ}
 use mir.ValLaws.{toZ-ofZ, toZ-pos}
 use Rattle.math.specs.Bound.{Within}
 use Rattle.math.proofs.Bound as B
@@ -48,9 +48,17 @@ variable w {b} {n} {z} e p t = record { raw = toZ w n; cap = b; is = ap (toZ w) 
 abbrev pub unsigned : (w : Width) (n : ℕ) {b : ℕ} → n < b → T (leb b (2 ^ hbits w)) → Held (pos n)
 unsigned w n {b} h t = record { raw = toZ w n; cap = b; is = toZ-pos w n (lt-of-lt-of-le h (leb→le b (2 ^ hbits w) t)); size = record { within = le-of-lt h } }
 
+-- the same, for n at most b
+abbrev pub unsigned-most : (w : Width) (n : ℕ) {b : ℕ} → n ≤ b → T (ltb b (2 ^ hbits w)) → Held (pos n)
+unsigned-most w n {b} h t = record { raw = toZ w n; cap = b; is = toZ-pos w n (lt-of-le-of-lt h (ltb→lt b (2 ^ hbits w) t)); size = record { within = h } }
+
 -- a bound that a callee requires
 pub bound : {b : ℕ} {z : ℤ} (p : Held z) → T (leb (p .cap) b) → Within b (p .raw)
 bound {b} p t = subst (Within b) (sym (p .is)) (B.within-more (p .size) (leb→le (p .cap) b t))
+
+-- a number that is not negative survives a cast to an unsigned type
+pub cast-keeps : {w : Width} {z : ℤ} (p : Held z) → T (nonNeg z) → T (ltb (p .cap) (2 ^ bits w)) → (T (nonNeg (p .raw))) × Fits w (natAbs (p .raw))
+cast-keeps {w} p h t = (subst (λ (z : ℤ). T (nonNeg z)) (sym (p .is)) h, record { fits = lt-of-le-of-lt (subst (Within (p .cap)) (sym (p .is)) (p .size) .within) (ltb→lt (p .cap) (2 ^ bits w) t) })
 
 -- a call's result r, which the contract says is z
 abbrev pub result : (w : Width) {b : ℕ} {r z : ℤ} → r ≡ z → Within b z → T (ltb b (2 ^ hbits w)) → Held z
@@ -72,7 +80,7 @@ abbrev pub _⊠_ : {x y : ℤ} → Held x → Held y → Held (x *ℤ y)
 p ⊠ q = record { raw = p .raw *ℤ q .raw; cap = p .cap * q .cap; is = (λ i. p .is i *ℤ q .is i); size = within-mul (p .size) (q .size) }
 
 -- ---- a quotient, a remainder or a shift is never larger than the number
-neg-abs : (n : ℕ) → natAbs (negℤ (pos n)) ≡ n
+pub neg-abs : (n : ℕ) → natAbs (negℤ (pos n)) ≡ n
 neg-abs zero = refl
 neg-abs (suc n) = refl
 

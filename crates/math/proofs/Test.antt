@@ -1,5 +1,5 @@
--- Laws of tests, none of which both passes and fails; of `allBelow`, from one computed test to each number and back; and of `countBelow`.
--- Assumes nothing.
+-- Laws of tests: none both passes and fails, two may both pass, each has two branches; of `allBelow`, from one computed test to each number and
+-- back; and of `countBelow`. Assumes nothing.
 use mathlib.Core.Path.{_≡_, refl, ap₂, subst, sym, _∙_}
 use mathlib.Core.Bool.{Bool, true, false, cond, _&&_}
 use Prim.Native.Nat.{ℕ, zero, suc, _+_, _<_, _≤_}
@@ -15,6 +15,15 @@ clash {A} {b} p q = absurd (subst T (sym p ∙ q) tt)
 pub refuted : {b : Bool} → (b ≡ true → ⊥) → b ≡ false
 refuted {b = true} f = absurd (f refl)
 refuted {b = false} f = refl
+
+pub both-true : (a b : Bool) → a && b ≡ true → (a ≡ true) × (b ≡ true)
+both-true true b e = (refl, e)
+both-true false b e = absurd (subst T (sym e) tt)
+
+-- what holds of both branches of a test, each with the test's answer
+pub by-test : {A : Type 0} (P : A → Type 0) (t : Bool) (x y : A) → (t ≡ true → P x) → (t ≡ false → P y) → P (cond t x y)
+by-test P true x y yes-case no-case = yes-case refl
+by-test P false x y yes-case no-case = no-case refl
 
 pub and-left : (a b : Bool) → T (a && b) → T a
 and-left true b t = tt

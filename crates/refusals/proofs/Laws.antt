@@ -10,7 +10,7 @@ use Rattle.refusals.specs.declared.Refusal.{Refusal}
 use Rattle.refusals.specs.declared.Refusal.the-variants as R
 use Rattle.refusals.specs.Refusal.{accepted, numberOf}
 
--- the refusals by number; 0, which no refusal has, holds the first one
+-- the refusals by number; a number that no refusal has, 0 or one of 28 to 32, holds the first one
 byNumber : List Refusal
 byNumber =
     R.FileEmpty ∷
@@ -41,6 +41,12 @@ byNumber =
     R.SliceCut ∷
     R.RecordsLength ∷
     R.MacroblockLimit ∷
+    R.FileEmpty ∷
+    R.FileEmpty ∷
+    R.FileEmpty ∷
+    R.FileEmpty ∷
+    R.FileEmpty ∷
+    R.VectorUnreachable ∷
     []
 
 refusalOf : ℕ → Refusal
@@ -72,6 +78,7 @@ back R.OutputLength = refl
 back R.ForwardLength = refl
 back R.BackwardLength = refl
 back R.NumberOutOfRange = refl
+back R.VectorUnreachable = refl
 back R.SliceCode = refl
 back R.SliceCut = refl
 back R.RecordsLength = refl

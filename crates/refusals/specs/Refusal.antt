@@ -26,6 +26,7 @@ use Rattle.refusals.specs.declared.Refusal.the-variants.{
   ForwardLength,
   BackwardLength,
   NumberOutOfRange,
+  VectorUnreachable,
   SliceCode,
   SliceCut,
   RecordsLength,
@@ -89,3 +90,5 @@ numberOf SliceCut = 25
 numberOf RecordsLength = 26
 -- request No. 4: "27 when a header that 8 lets through has more than 99 macroblocks on the cab's panel": more than the reader's limit
 numberOf MacroblockLimit = 27
+-- request No. 12, writing a vector: "33 when no pair reaches the wanted vector, or past or f_code is out of range"
+numberOf VectorUnreachable = 33

@@ -32,6 +32,7 @@ pub enum Refusal {
     ForwardLength,
     BackwardLength,
     NumberOutOfRange,
+    VectorUnreachable,
     // From a raw slice: the first two caused by the writer of the slice, the last by the caller.
     SliceCode,
     SliceCut,
@@ -70,6 +71,7 @@ pub fn number(refusal: Refusal) -> u32
         Refusal::ForwardLength => 20,
         Refusal::BackwardLength => 21,
         Refusal::NumberOutOfRange => 22,
+        Refusal::VectorUnreachable => 33,
         Refusal::SliceCode => 24,
         Refusal::SliceCut => 25,
         Refusal::RecordsLength => 26,

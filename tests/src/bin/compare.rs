@@ -10,6 +10,7 @@ use format3_tests::compare::{
 };
 use format3_tests::compare_blocks::blocks;
 use format3_tests::compare_cases::Compared;
+use format3_tests::compare_encoding::encoded_vectors;
 use format3_tests::compare_limits::limits;
 use format3_tests::compare_misfits::misfits;
 use format3_tests::compare_room_slices::room_slices;
@@ -54,6 +55,9 @@ fn run(arguments: &[String]) -> Result<(), String> {
 fn compare_entries(count: u64, seed: u64) -> Result<(), String> {
     println!("{} coefficients", coefficients(&ENTRIES)?);
     println!("{} vectors", vectors(&ENTRIES)?);
+    let encodings = encoded_vectors(&ENTRIES, seed, 100_000)?;
+    let (encoded, kinds) = (encodings.values().sum::<usize>(), encodings.len());
+    println!("{encoded} vectors encoded, {kinds} kinds of pairs and refusals");
     println!("{} blocks", transforms(&ENTRIES, seed, 20_000)?);
     let sets = row_masks(&ENTRIES, seed)?.len();
     println!("{sets} sets of rows of blocks, in range and out of it");

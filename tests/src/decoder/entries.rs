@@ -5,7 +5,7 @@ use super::file::{first_header, record};
 use super::refusals::{Answer, Refusal};
 use super::slice::ReadSlice;
 use super::transform::{inverse_transform, rows_worked};
-use super::vectors::{code_legal, decoded, f_of, residual_legal};
+use super::vectors::{code_legal, decoded, encoded, f_of, residual_legal};
 
 /// What a file's header says of its picture, with width and height in macroblocks, and the offset of the records after it.
 #[derive(Clone, Copy, Debug, PartialEq, Eq)]
@@ -31,6 +31,13 @@ pub struct Transformed {
     pub rows: usize,
 }
 
+/// The code and residual of a component of a vector.
+#[derive(Clone, Copy, Debug, PartialEq, Eq)]
+pub struct EncodedVector {
+    pub code: i32,
+    pub residual: u32,
+}
+
 /// Reads the header of a file.
 pub type ReadHeader = fn(&[u8]) -> (u32, FileStart);
 
@@ -39,6 +46,9 @@ pub type Reconstruct = fn(&[u8], &[u8], &[u8], &mut [u8]) -> Answer;
 
 /// Transforms 64 coefficients, row by row.
 pub type Transform = fn(&[i16; 64]) -> (u32, Transformed);
+
+/// Encodes a component of a vector, given an f_code, a past and the wanted vector.
+pub type EncodeVector = fn(i32, i32, i32) -> (u32, EncodedVector);
 
 /// The entries of an implementation. A number beside a value is 0 or a refusal's.
 #[derive(Clone, Copy)]
@@ -51,6 +61,7 @@ pub struct Entries {
     pub intra_coefficient: fn(i32, i32, i32) -> (u32, i16),
     pub non_intra_coefficient: fn(i32, i32, i32) -> (u32, i16),
     pub vector: fn(i32, i32, i32, i32) -> (u32, i32),
+    pub encode_vector: EncodeVector,
     pub show_record: fn(&[u8], usize) -> (u32, Shown),
     pub read_slice: ReadSlice,
 }
@@ -64,6 +75,7 @@ pub const ENTRIES: Entries = Entries {
     intra_coefficient: |level, scale, weight| coefficient(intra_ac, level, scale, weight),
     non_intra_coefficient: |level, scale, weight| coefficient(non_intra, level, scale, weight),
     vector,
+    encode_vector,
     show_record,
     read_slice: super::slice::read_slice,
 };
@@ -101,18 +113,38 @@ fn coefficient(rule: fn(i64, i64, i64) -> i64, level: i32, scale: i32, weight: i
     (0, rule(level.into(), scale.into(), weight.into()) as i16)
 }
 
+/// f, if the f_code and the past are in range: "An f_code is 1..7", and a past is in "-16f..16f-1".
+fn f_in_range(f_code: i32, past: i64) -> Option<i64> {
+    let f = (1..=7).contains(&f_code).then(|| f_of(f_code.into()))?;
+    (-16 * f..16 * f).contains(&past).then_some(f)
+}
+
 fn vector(f_code: i32, past: i32, code: i32, residual: i32) -> (u32, i32) {
-    if !(1..=7).contains(&f_code) {
-        return refused(0);
-    }
-    let f = f_of(f_code.into());
     let [past, code, residual] = [past, code, residual].map(i64::from);
-    let in_range =
-        (-16 * f..16 * f).contains(&past) && code_legal(code) && residual_legal(f, code, residual);
-    if !in_range {
-        return refused(0);
+    match f_in_range(f_code, past) {
+        Some(f) if code_legal(code) && residual_legal(f, code, residual) => {
+            (0, decoded(f, past, code, residual) as i32)
+        }
+        _ => refused(0),
     }
-    (0, decoded(f, past, code, residual) as i32)
+}
+
+/// Request No. 12: "33 when no pair reaches the wanted vector, or past or f_code is out of range; both are then 0."
+fn encode_vector(f_code: i32, past: i32, wanted: i32) -> (u32, EncodedVector) {
+    let [past, wanted] = [past, wanted].map(i64::from);
+    let pair = f_in_range(f_code, past).and_then(|f| encoded(f, past, wanted));
+    let Some((code, residual)) = pair else {
+        let zeros = EncodedVector {
+            code: 0,
+            residual: 0,
+        };
+        return (Refusal::VectorUnreachable.number(), zeros);
+    };
+    let encoded = EncodedVector {
+        code: code as i32,
+        residual: residual as u32,
+    };
+    (0, encoded)
 }
 
 /// A refusal gives zeros.

@@ -29,6 +29,7 @@ pub enum Refusal {
     SliceCut = 25,
     RecordsLength = 26,
     MacroblockLimit = 27,
+    VectorUnreachable = 33,
 }
 
 impl Refusal {

@@ -1,4 +1,6 @@
-//! "Vectors and prediction (2.4.4.2, 2.4.4.3)": from codes to vectors, and from vectors to predicted pels.
+//! "Vectors and prediction (2.4.4.2, 2.4.4.3)": from codes to vectors and back, and from vectors to predicted pels.
+
+use std::ops::RangeInclusive;
 
 use super::size::{Plane, Size};
 
@@ -13,9 +15,12 @@ pub fn f_of(f_code: i64) -> i64 {
     1 << (f_code - 1)
 }
 
+/// The codes that there are.
+const CODES: RangeInclusive<i64> = -16..=16;
+
 /// "A code is -16..16".
 pub fn code_legal(code: i64) -> bool {
-    (-16..=16).contains(&code)
+    CODES.contains(&code)
 }
 
 /// "Its residual is below f, and 0 when the code is 0."
@@ -38,6 +43,19 @@ pub fn decoded(f: i64, past: i64, code: i64, residual: i64) -> i64 {
     } else {
         sum
     }
+}
+
+/// Every code with every residual that it may have.
+pub fn legal_pairs(f: i64) -> impl Iterator<Item = (i64, i64)> {
+    let pairs = CODES.flat_map(move |code| (0..f).map(move |residual| (code, residual)));
+    pairs.filter(move |(code, residual)| residual_legal(f, *code, *residual))
+}
+
+/// The code and residual from which the wanted vector is decoded, found among all of them. Request No. 12: "At most one pair can do
+/// so, except where wanted and past, both in range, differ by 16f; there two can, and the positive code is given."
+pub fn encoded(f: i64, past: i64, wanted: i64) -> Option<(i64, i64)> {
+    let reaches = |(code, residual): &(i64, i64)| decoded(f, past, *code, *residual) == wanted;
+    legal_pairs(f).filter(reaches).max_by_key(|(code, _)| *code)
 }
 
 /// "Luma takes the floor of half and the odd bit": whole pels, and 1 for an extra half pel.

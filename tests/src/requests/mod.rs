@@ -7,6 +7,7 @@ use std::path::Path;
 use crate::decoder::Entries;
 use notation::Unread;
 
+mod encode_vector;
 pub mod notation;
 mod reconstruct;
 mod report;
@@ -54,6 +55,14 @@ pub const LANDED: &[Landed] = &[
                 check: transform::check,
             },
         ],
+    },
+    Landed {
+        request: 12,
+        files: &[RequestFile {
+            name: "no12.txt",
+            programs: &[],
+            check: encode_vector::check,
+        }],
     },
 ];
 

@@ -1,13 +1,11 @@
 -- `fit::half_pel_coordinate` meets its contract: the coordinate is not negative, so the cast keeps it. Assumes nothing.
-use mathlib.Core.Path.{ap, sym, subst}
+use mathlib.Core.Path.{ap}
 use Prim.Native.Nat.{suc-le-suc}
-use native.Mathlib.Nat.{lt-of-le-of-lt}
 use borrow.Author.Needs.{needs}
-use lib.IntN.{ℤ, pos, natAbs, _*ℤ_}
-use lib.Signed.{nonNeg, yes-nonNeg}
-use lib.Dec.{T, lit<}
+use lib.IntN.{pos, natAbs, _*ℤ_}
+use lib.Signed.{yes-nonNeg}
 use mir.Syntax.{w32}
-use Rattle.math.proofs.Machine.{Held, literal, parameter, unsigned, fits, kept, bound, _⊞_, _⊠_}
+use Rattle.math.proofs.Machine.{Held, literal, parameter, unsigned, fits, kept, cast-keeps, _⊞_, _⊠_}
 use Rattle.decode_prediction.specs.Fit.{signedCoordinate}
 use Rattle.decode_prediction.proofs.fit.half_pel_coordinate.Statement.{statement}
 use Rattle.decode_prediction.proofs.fit.half_pel_coordinate.Tie as tie
@@ -28,9 +26,7 @@ add-result : tie.Need-add-result
 add-result c = fits (coordinate c) tt
 
 cast-result-2 : tie.Need-cast-result-2
-cast-result-2 c =
-    let p = kept w32 (coordinate c) tt in
-    (subst (λ (z : ℤ). T (nonNeg z)) (sym (p .is)) (yes-nonNeg (c .pre .2)), record { fits = lt-of-le-of-lt (bound {b = 262144} p tt .within) (lit< tt) })
+cast-result-2 c = cast-keeps (kept w32 (coordinate c) tt) (yes-nonNeg (c .pre .2)) tt
 
 returns : tie.Need-returns
 returns c = ap natAbs (kept w32 (coordinate c) tt .is)

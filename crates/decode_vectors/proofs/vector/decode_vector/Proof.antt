@@ -8,7 +8,8 @@ use mir.Syntax.{w32}
 use mir.ValLaws.{toZ-ofZ}
 use Rattle.math.proofs.Machine.{parameter, returned, bound}
 use Rattle.decode_vectors.specs.Vector.{vectorOf, vectorEntryInRange}
-use Rattle.decode_vectors.proofs.VectorLaws.{factor-most, InRange, all-known, between-within}
+use Rattle.decode_vectors.proofs.VectorLaws.{factor-most, InRange, all-known}
+use Rattle.decode_vectors.proofs.WrapLaws.{inside-within}
 use Rattle.decode_vectors.proofs.vector.decode_vector.Statement.{statement}
 use Rattle.decode_vectors.proofs.vector.decode_vector.Tie as tie
 
@@ -31,16 +32,16 @@ returns : tie.Need-returns
 returns c = let n : vectorEntryInRange _ _ _ _ ≡ false = all-is (c .before .before) ∙ not-true _ (c .before .if1 .taken) in rw n (c .number .ensures, refl)
 
 f-of-code-requires : tie.Need-f-of-code-requires
-f-of-code-requires c κs = let k = known c in (k .least, k .most)
+f-of-code-requires c κs = let k = known c .of-past in (k .least, k .most)
 
 next-vector-requires : tie.Need-next-vector-requires
 next-vector-requires c κs =
     let s = c .before .before .before in
     let k = known (c .before) in (
-      rw (c .f-of-code .ensures) (factor-most _ (k .most)),
-      bound (parameter (s .fits .past) (between-within _ _ (factor-most _ (k .most)) (k .past-range))) tt,
+      rw (c .f-of-code .ensures) (factor-most _ (k .of-past .most)),
+      bound (parameter (s .fits .past) (inside-within _ _ (factor-most _ (k .of-past .most)) (k .of-past .range))) tt,
       bound (parameter (s .fits .code) (k .code-size)) tt,
-      lt-of-lt-of-le (k .residual-size) (factor-most _ (k .most)),
+      lt-of-lt-of-le (k .residual-size) (factor-most _ (k .of-past .most)),
     )
 
 returns-2 : tie.Need-returns-2

@@ -1,29 +1,23 @@
 -- `vector::next_vector` meets its contract: it wraps past plus difference, and no step overflows. Assumes nothing.
 use mathlib.Core.Path.{_≡_, _∙_}
-use Prim.Native.Nat.{ℕ, _≤_, suc-le-suc}
 use native.Mathlib.Nat.{le-of-lt}
 use borrow.Author.Needs.{needs}
 use lib.IntN.{pos, _+ℤ_}
 use mir.Syntax.{w32}
-use mir.Val.{toZ}
-use Rattle.math.proofs.Machine.{Held, parameter, unsigned, result, returned, fits, kept, bound, _⊞_}
+use Rattle.math.proofs.Machine.{Held, parameter, unsigned-most, result, returned, fits, kept, bound, _⊞_}
 use Rattle.decode_vectors.specs.Vector.{vectorDifferenceOf, wrapped, vectorOf}
 use Rattle.decode_vectors.proofs.VectorLaws.{difference-within}
 use Rattle.decode_vectors.proofs.vector.next_vector.Statement.{statement}
 use Rattle.decode_vectors.proofs.vector.next_vector.Tie as tie
 
--- an unsigned number up to 64, cast
-abbrev small : (n : ℕ) → n ≤ 64 → Held (pos n)
-small n h = record { raw = toZ w32 n; cap = 64; is = unsigned w32 n (suc-le-suc h) tt .is; size = record { within = h } }
-
 abbrev f : (c : tie.Start) → Held (pos (c .args .f))
-f c = small (c .args .f) (c .pre .0)
+f c = unsigned-most w32 (c .args .f) (c .pre .0) tt
 
 abbrev code : (c : tie.Start) → Held (c .args .code)
 code c = parameter (c .fits .code) (c .pre .2)
 
 abbrev residual : (c : tie.Start) → Held (pos (c .args .residual))
-residual c = small (c .args .residual) (le-of-lt (c .pre .3))
+residual c = unsigned-most w32 (c .args .residual) (le-of-lt (c .pre .3)) tt
 
 -- the sum of past and difference
 difference-is : (c : tie.After-vector-difference) → let a = c .before .args in c .vector-difference .result ≡ vectorDifferenceOf (pos (a .f)) (a .code) (pos (a .residual))
