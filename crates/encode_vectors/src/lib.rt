@@ -67,7 +67,7 @@ fn needed_difference(f: i32, past: i32, wanted: i32) -> i32
     difference
 }
 
-// Whether the f_code and the past are in range, and a pair reaches the wanted vector.
+// Whether the f_code and the past are in range, and so is the wanted vector: exactly then a pair reaches it.
 fn vector_reachable(f_code: u32, past: i32, wanted: i32) -> bool
     ensures { λ r. ⌜ r ≡ vectorReachable «f_code» past wanted ⌝ }
 {
