@@ -3,18 +3,19 @@ use mathlib.Core.Path.{_≡_, refl, sym, ap, _∙_, subst}
 use mathlib.Core.Bool.{Bool, true, false, cond}
 use Prim.Native.Nat.{ℕ, zero, suc, _+_, _-_, _*_, _≤_, _<_}
 use native.Mathlib.Nat.{mul-le-mul-right, le-trans}
+use native.Mathlib.Numerals.{add-one}
 use native.Mathlib.Omega.{arith}
 use borrow.Author.Tests.{eqb-true, ltb-true, leb-true}
 use lib.Dec.{T, eqb, ltb, leb}
-use lib.IntN.{ℤ, pos, negsuc, negℤ, natAbs, _+ℤ_, _-ℤ_, _*ℤ_, zero-*ℤ}
+use lib.IntN.{ℤ, pos, negsuc, negℤ, natAbs, _+ℤ_, _-ℤ_, _*ℤ_}
 use lib.Signed.{ltZ}
 use lib.Pow.{pow-mono, pow-pos}
 use Rattle.math.specs.Bound.{Within}
-use Rattle.math.specs.Limit.{eqZ}
+use Rattle.math.specs.Limit.{eqZ, signOf}
 use Rattle.math.proofs.Bound.{within-add, within-mul, within-neg, within-literal, within-more, within-eq, within-cond, within-both}
 use Rattle.math.proofs.Compare.{tests}
 use Rattle.math.proofs.Difference.{same-of, parts-add}
-use Rattle.math.proofs.Limit.{range-between, between-range, sign-within, signed-below, signed-above, signed-none}
+use Rattle.math.proofs.Limit.{range-between, between-range, sign-within, signed-below, signed-above, signed-none, signed-positive, signed-negative}
 use Rattle.math.proofs.Machine.{quot-le}
 use Rattle.math.proofs.Test.{both-true}
 use Rattle.decode_vectors.specs.Vector.{fOf, vectorDifferenceOf, lowest, highest, vectorOf, codeInRange, residualInRange, pastInRange, fCodeAndPastInRange, vectorEntryInRange, usedVector, chromaVector}
@@ -58,19 +59,32 @@ difference-within {b} {f} {code} {residual} p q r = within-more
     (within-mul (sign-within code) (within-add (within-add (within-mul (within-add (size-within q) (within-neg (within-literal {b = 1} {x = pos 1} tt))) p) r) (within-literal {b = 1} {x = pos 1} tt)))
     (omega arith)
 
+-- ---- the difference by the code's sign
 -- (|code| - 1) × f + residual + 1, for a code that is not 0
-pub size-is : (n f residual : ℕ) → (pos (suc n) -ℤ pos 1) *ℤ pos f +ℤ pos residual +ℤ pos 1 ≡ pos (n * f + residual + 1)
-size-is n f residual = ap (λ (z : ℤ). z *ℤ pos f +ℤ pos residual +ℤ pos 1) (same-of (pos (suc n) -ℤ pos 1) (pos n) (omega (arith, parts-add (pos (suc n)) (negsuc 0))))
+size-is : (f n residual : ℕ) → (pos (suc n) -ℤ pos 1) *ℤ pos f +ℤ pos residual +ℤ pos 1 ≡ pos (suc (n * f + residual))
+size-is f n residual =
+    ap (λ (z : ℤ). z *ℤ pos f +ℤ pos residual +ℤ pos 1) (same-of (pos (suc n) -ℤ pos 1) (pos n) (omega (arith, parts-add (pos (suc n)) (negsuc 0))))
+    ∙ ap pos (add-one (n * f + residual))
 
-size-reach : (n f residual : ℕ) → n < 16 → residual < f → Within (16 * f) (pos (n * f + residual + 1))
-size-reach n f residual h k = let bound : n * f ≤ 15 * f = mul-le-mul-right f (omega arith) in record { within = omega arith }
+pub difference-positive : (f n residual : ℕ) → vectorDifferenceOf (pos f) (pos (suc n)) (pos residual) ≡ pos (suc (n * f + residual))
+unfolding vectorDifferenceOf
+difference-positive f n residual = signed-positive n ((pos (suc n) -ℤ pos 1) *ℤ pos f +ℤ pos residual +ℤ pos 1) ∙ size-is f n residual
+
+pub difference-negative : (f n residual : ℕ) → vectorDifferenceOf (pos f) (negsuc n) (pos residual) ≡ negsuc (n * f + residual)
+unfolding vectorDifferenceOf
+difference-negative f n residual = ap (λ (z : ℤ). signOf (negsuc n) *ℤ z) (size-is f n residual) ∙ signed-negative n (n * f + residual)
+
+pub difference-zero : (f residual : ℕ) → vectorDifferenceOf (pos f) (pos 0) (pos residual) ≡ pos 0
+difference-zero f residual = sym (difference-none (pos f) (pos 0) (pos residual) refl refl)
 
 -- a difference is at most 16 f in absolute value
+few : (f n residual : ℕ) → n < 16 → residual < f → suc (n * f + residual) ≤ 16 * f
+few f n residual h k = let bound : n * f ≤ 15 * f = mul-le-mul-right f (omega arith) in omega arith
+
 pub difference-reach : (f residual : ℕ) (code : ℤ) → Within 16 code → residual < f → Within (16 * f) (vectorDifferenceOf (pos f) code (pos residual))
-unfolding vectorDifferenceOf
-difference-reach f residual (pos zero) p h = within-eq (zero-*ℤ ((pos 0 -ℤ pos 1) *ℤ pos f +ℤ pos residual +ℤ pos 1)) (record { within = omega arith })
-difference-reach f residual (pos (suc n)) p h = within-more (within-mul (sign-within (pos (suc n))) (within-eq (size-is n f residual) (size-reach n f residual (omega (arith, p .within)) h))) (omega arith)
-difference-reach f residual (negsuc n) p h = within-more (within-mul (sign-within (negsuc n)) (within-eq (size-is n f residual) (size-reach n f residual (omega (arith, p .within)) h))) (omega arith)
+difference-reach f residual (pos zero) p h = within-eq (difference-zero f residual) (record { within = omega arith })
+difference-reach f residual (pos (suc n)) p h = within-eq (difference-positive f n residual) (record { within = few f n residual (p .within) h })
+difference-reach f residual (negsuc n) p h = within-eq (difference-negative f n residual) (record { within = few f n residual (p .within) h })
 
 -- ---- vectors
 -- the range law: if the past is in -16f..16f-1, so is the vector

@@ -105,14 +105,14 @@ wrapped-below f z range =
 pub data Moved (f : ℕ) (sum : ℤ) (vector : ℤ) : Type 0 where
   up-32f : up vector + dn sum ≡ up sum + 32 * f + dn vector → Moved f sum vector
   down-32f : up vector + dn sum + 32 * f ≡ up sum + dn vector → Moved f sum vector
-  kept : up vector + dn sum ≡ up sum + dn vector → Moved f sum vector
+  unmoved : up vector + dn sum ≡ up sum + dn vector → Moved f sum vector
 
 pub moved : (f : ℕ) (sum : ℤ) → Moved f sum (wrapped (pos f) sum)
 unfolding wrapped
 moved f sum =
     by-test (Moved f sum) (ltZ sum (lowest (pos f))) _ _
     (λ low. up-32f (raised f sum))
-    (λ low. by-test (Moved f sum) (ltZ (highest (pos f)) sum) _ _ (λ high. down-32f (lowered f sum)) (λ high. kept refl))
+    (λ low. by-test (Moved f sum) (ltZ (highest (pos f)) sum) _ _ (λ high. down-32f (lowered f sum)) (λ high. unmoved refl))
 
 -- ---- from a vector in range, the sums 16f below and above wrap to the same
 pub ends-meet : (f : ℕ) (past : ℤ) → Inside f past → wrapped (pos f) (past -ℤ pos (16 * f)) ≡ wrapped (pos f) (past +ℤ pos (16 * f))

@@ -2,22 +2,22 @@
 -- legal pair. Assumes nothing.
 use mathlib.Core.Path.{_≡_, refl, sym, ap, _∙_, subst}
 use mathlib.Core.Bool.{true, false}
-use Prim.Native.Nat.{ℕ, zero, suc, _+_, _-_, _*_, _/_, _%_, _≤_, _<_, zero-le, suc-le-suc}
+use Prim.Native.Nat.{ℕ, zero, suc, _+_, _-_, _*_, _/_, _%_, _≤_, _<_}
 use native.Mathlib.Nat.{div-add-mod', div-lt-iff-lt-mul, mod-lt, zero-mod}
 use native.Mathlib.Numerals.{add-one}
 use native.Mathlib.Omega.{arith}
-use borrow.Author.Tests.{eqb-true, ltb-true, ltb-false, ne-eqb, lt-ltb, le-ltb}
+use borrow.Author.Tests.{eqb-true, ltb-true, ltb-false, ne-eqb, lt-ltb}
 use lib.Arith.{digits-div, digits-mod}
 use lib.Dec.{T}
-use lib.IntN.{ℤ, pos, negsuc, negℤ, natAbs, _+ℤ_, _-ℤ_, _*ℤ_, +ℤ-idl}
+use lib.IntN.{ℤ, pos, negsuc, negℤ, natAbs, _-ℤ_, _*ℤ_}
 use lib.Signed.{ltZ}
 use Rattle.math.specs.Bound.{Within, Between}
-use Rattle.math.specs.Limit.{eqZ}
+use Rattle.math.specs.Limit.{eqZ, signOf}
 use Rattle.math.proofs.Compare.{tests}
 use Rattle.math.proofs.Difference.{same-of, le-of, parts-add}
-use Rattle.math.proofs.Limit.{between-range, signed-below, signed-above, signed-none}
+use Rattle.math.proofs.Limit.{between-range, signed-below, signed-above, signed-none, signed-positive, signed-negative}
 use Rattle.decode_vectors.specs.Vector.{vectorDifferenceOf, codeInRange, residualInRange}
-use Rattle.decode_vectors.proofs.VectorLaws.{difference-below, difference-above, difference-none, size-is, residual-known}
+use Rattle.decode_vectors.proofs.VectorLaws.{difference-positive, difference-negative, difference-zero, residual-known}
 use Rattle.encode_vectors.specs.Encoding.{motionCodeOf, residualOf}
 
 -- ---- the code in its three cases, as the program computes it
@@ -46,41 +46,20 @@ pub less-none : (difference : ℤ) → ltZ difference (pos 0) ≡ false → ltZ 
 less-none (pos n) e g = omega (arith, ltb-false 0 n g)
 less-none (negsuc n) e g = absurd (subst T e tt)
 
--- ---- difference and code by their sign
-not-below : (n : ℕ) → ltZ (pos n) (pos 0) ≡ false
-not-below n = le-ltb n 0 zero-le
-
-above : (n : ℕ) → ltZ (pos 0) (pos (suc n)) ≡ true
-above n = lt-ltb 0 (suc n) (suc-le-suc zero-le)
-
-negated : (n : ℕ) → pos 0 -ℤ pos (suc n) ≡ negsuc n
-negated n = +ℤ-idl (negsuc n)
-
+-- ---- code and residual by the difference's sign
 less : (n : ℕ) → suc n - 1 ≡ n
 less n = omega arith
 
-size : (f n : ℕ) → (suc n - 1) / f + 1 ≡ suc (n / f)
-size f n = ap (λ (k : ℕ). k / f + 1) (less n) ∙ add-one (n / f)
-
-difference-positive : (f n residual : ℕ) → vectorDifferenceOf (pos f) (pos (suc n)) (pos residual) ≡ pos (suc (n * f + residual))
-difference-positive f n residual =
-    sym (difference-above (pos f) (pos (suc n)) (pos residual) (not-below (suc n)) (above n)) ∙ size-is n f residual ∙ ap pos (add-one (n * f + residual))
-
-difference-negative : (f n residual : ℕ) → vectorDifferenceOf (pos f) (negsuc n) (pos residual) ≡ negsuc (n * f + residual)
-difference-negative f n residual =
-    sym (difference-below (pos f) (negsuc n) (pos residual) refl)
-    ∙ ap (λ (z : ℤ). pos 0 -ℤ ((z -ℤ pos 1) *ℤ pos f +ℤ pos residual +ℤ pos 1)) (+ℤ-idl (pos (suc n)))
-    ∙ ap (λ (z : ℤ). pos 0 -ℤ z) (size-is n f residual ∙ ap pos (add-one (n * f + residual)))
-    ∙ negated (n * f + residual)
-
-difference-zero : (f residual : ℕ) → vectorDifferenceOf (pos f) (pos 0) (pos residual) ≡ pos 0
-difference-zero f residual = sym (difference-none (pos f) (pos 0) (pos residual) refl refl)
+size : (f n : ℕ) → pos ((suc n - 1) / f + 1) ≡ pos (suc (n / f))
+size f n = ap pos (ap (λ (k : ℕ). k / f + 1) (less n) ∙ add-one (n / f))
 
 code-positive : (f n : ℕ) → motionCodeOf f (pos (suc n)) ≡ pos (suc (n / f))
-code-positive f n = sym (code-above f (pos (suc n)) (not-below (suc n)) (above n)) ∙ ap pos (size f n)
+unfolding motionCodeOf
+code-positive f n = signed-positive n (pos ((suc n - 1) / f + 1)) ∙ size f n
 
 code-negative : (f n : ℕ) → motionCodeOf f (negsuc n) ≡ negsuc (n / f)
-code-negative f n = sym (code-below f (negsuc n) refl) ∙ ap (λ (k : ℕ). pos 0 -ℤ pos k) (size f n) ∙ negated (n / f)
+unfolding motionCodeOf
+code-negative f n = ap (λ (z : ℤ). signOf (negsuc n) *ℤ z) (size f n) ∙ signed-negative n (n / f)
 
 code-zero : (f : ℕ) → motionCodeOf f (pos 0) ≡ pos 0
 code-zero f = sym (code-none f (pos 0) refl refl)

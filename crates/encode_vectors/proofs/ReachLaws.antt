@@ -17,7 +17,7 @@ use Rattle.math.proofs.Solve.{solve-by, constant, _:+_, _:-_, _:*_, X0, X1, X2}
 use Rattle.math.proofs.Test.{both-true, by-test}
 use Rattle.decode_vectors.specs.Vector.{fOf, maxF, maxPast, wrapped, pastInRange, fCodeAndPastInRange}
 use Rattle.decode_vectors.proofs.VectorLaws.{PastInRange, f-code-and-past-known, past-known}
-use Rattle.decode_vectors.proofs.WrapLaws.{Inside, Strictly, lowest-parts, highest-parts, raised, lowered, wrapped-same, wrapped-above, wrapped-below, Moved, up-32f, down-32f, kept, moved}
+use Rattle.decode_vectors.proofs.WrapLaws.{Inside, Strictly, lowest-parts, highest-parts, raised, lowered, wrapped-same, wrapped-above, wrapped-below, Moved, up-32f, down-32f, unmoved, moved}
 use Rattle.encode_vectors.specs.Encoding.{neededDifference, vectorReachable}
 
 -- ---- the test
@@ -101,13 +101,13 @@ difference-only f past a b p q e = go (moved f (past +ℤ a)) (subst (Moved f (p
     go : Moved f (past +ℤ a) vector → Moved f (past +ℤ b) vector → a ≡ b
     go (up-32f h) (up-32f k) = same-of a b (omega (arith, parts-add past a, parts-add past b))
     go (up-32f h) (down-32f k) = absurd (omega (arith, p, q, parts-add past a, parts-add past b))
-    go (up-32f h) (kept k) = absurd (omega (arith, p, q, parts-add past a, parts-add past b))
+    go (up-32f h) (unmoved k) = absurd (omega (arith, p, q, parts-add past a, parts-add past b))
     go (down-32f h) (up-32f k) = absurd (omega (arith, p, q, parts-add past a, parts-add past b))
     go (down-32f h) (down-32f k) = same-of a b (omega (arith, parts-add past a, parts-add past b))
-    go (down-32f h) (kept k) = absurd (omega (arith, p, q, parts-add past a, parts-add past b))
-    go (kept h) (up-32f k) = absurd (omega (arith, p, q, parts-add past a, parts-add past b))
-    go (kept h) (down-32f k) = absurd (omega (arith, p, q, parts-add past a, parts-add past b))
-    go (kept h) (kept k) = same-of a b (omega (arith, parts-add past a, parts-add past b))
+    go (down-32f h) (unmoved k) = absurd (omega (arith, p, q, parts-add past a, parts-add past b))
+    go (unmoved h) (up-32f k) = absurd (omega (arith, p, q, parts-add past a, parts-add past b))
+    go (unmoved h) (down-32f k) = absurd (omega (arith, p, q, parts-add past a, parts-add past b))
+    go (unmoved h) (unmoved k) = same-of a b (omega (arith, parts-add past a, parts-add past b))
 
 -- ---- a difference of -16f reads as 16f does (`ends-meet`), and wanted and past then differ by 16f
 minus-16f-apart : (f : ℕ) (past wanted : ℤ) → Inside f past → Inside f wanted → wrapped (pos f) (past -ℤ pos (16 * f)) ≡ wanted → natAbs (wanted -ℤ past) ≡ 16 * f
@@ -119,7 +119,7 @@ minus-16f-apart f past wanted from to e = go (subst (Moved f (past -ℤ pos (16 
     go : Moved f (past -ℤ pos (16 * f)) wanted → natAbs between ≡ 16 * f
     go (up-32f h) = ap natAbs (same-of between (pos (16 * f)) (omega (arith, parts-add wanted (negℤ past), parts-neg past, parts-add past (negℤ (pos (16 * f))), parts-neg (pos (16 * f)))))
     go (down-32f h) = absurd (omega (arith, apart f past wanted from to, parts-add wanted (negℤ past), parts-neg past, parts-add past (negℤ (pos (16 * f))), parts-neg (pos (16 * f))))
-    go (kept h) =
+    go (unmoved h) =
         ap natAbs (same-of between (negℤ (pos (16 * f))) (omega (arith, parts-add wanted (negℤ past), parts-neg past, parts-add past (negℤ (pos (16 * f))), parts-neg (pos (16 * f)))))
         ∙ neg-abs (16 * f)
 

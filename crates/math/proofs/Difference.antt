@@ -2,12 +2,13 @@
 -- Sums, differences and products of such differences are again differences; comparing two of them is comparing naturals.
 use mathlib.Core.Path.{_≡_, refl, ap, _∙_}
 use mathlib.Core.Logic.{_↔_}
-use mathlib.Core.Bool.{Bool, true, false, not, cond}
 use Prim.Native.Nat.{ℕ, zero, suc, _+_, _-_, _*_, _≤_, _<_}
 use native.Mathlib.Omega.{arith}
-use lib.Dec.{T, ltb, ltb→lt, nltb→le, leb→le, le→leb, lt→ltb}
+use borrow.Author.Tests.{ltb-true, ltb-false}
+use lib.Dec.{ltb, ltb→lt, leb→le, le→leb, lt→ltb}
 use lib.IntN.{ℤ, pos, negsuc, negℤ, subℕ, _+ℤ_, _*ℤ_}
 use lib.Signed.{_≤ℤ_, _<ℤ_}
+use Rattle.math.proofs.Test.{by-test}
 
 -- the positive and the negative part: z is up z − dn z, and one of the two is 0
 abbrev pub up : ℤ → ℕ
@@ -23,14 +24,10 @@ infixl 6 _⊖_
 unfoldable pub _⊖_ : ℕ → ℕ → ℤ
 p ⊖ n = subℕ p n
 
-cond-ind : (c : Bool) (x y : ℤ) (Q : ℤ → Type 0) → (T c → Q x) → (T (not c) → Q y) → Q (cond c x y)
-cond-ind true x y Q f g = f tt
-cond-ind false x y Q f g = g tt
-
 pub up-sub : (p n : ℕ) → up (p ⊖ n) + n ≡ p + dn (p ⊖ n)
 unfolding _⊖_
-up-sub p n = cond-ind (ltb p n) (negsuc (n - suc p)) (pos (p - n)) (λ z. up z + n ≡ p + dn z)
-    (λ t. lo p n (ltb→lt p n t)) (λ t. hi p n (nltb→le p n t))
+up-sub p n = by-test (λ z. up z + n ≡ p + dn z) (ltb p n) (negsuc (n - suc p)) (pos (p - n))
+    (λ t. lo p n (ltb-true p n t)) (λ t. hi p n (ltb-false p n t))
   where
     lo : (p n : ℕ) → p < n → zero + n ≡ p + suc (n - suc p)
     lo p n h = omega arith

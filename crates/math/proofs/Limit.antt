@@ -1,11 +1,12 @@
 -- Laws of limiting (clamping), of ranges and of signs. Assumes nothing.
-use Prim.Native.Nat.{ℕ, zero, suc}
+use Prim.Native.Nat.{ℕ, zero, suc, zero-le, suc-le-suc}
 use mathlib.Core.Bool.{Bool, true, false, cond}
 use mathlib.Core.List.{List, [], _∷_}
-use mathlib.Core.Path.{_≡_, refl, sym, subst}
+use mathlib.Core.Path.{_≡_, refl, sym, _∙_, subst}
 use native.Mathlib.Omega.{arith}
+use borrow.Author.Tests.{lt-ltb, le-ltb}
 use lib.Dec.{T}
-use lib.IntN.{ℤ, pos, negsuc, _-ℤ_, _*ℤ_, zero-*ℤ}
+use lib.IntN.{ℤ, pos, negsuc, _-ℤ_, _*ℤ_, +ℤ-idl, zero-*ℤ}
 use lib.ListN.{set}
 use lib.Signed.{ltZ, _≤ℤ_, ≤ℤ-refl}
 use Rattle.math.proofs.Bound.{abs-parts, abs-le, within-literal, within-cond}
@@ -43,6 +44,12 @@ signed-above z x e g = rw (e, g) (solve-by (x ∷ []) X0 (constant (pos 1) :* X0
 
 pub signed-none : (z x : ℤ) → ltZ z (pos 0) ≡ false → ltZ (pos 0) z ≡ false → pos 0 ≡ signOf z *ℤ x
 signed-none z x e g = rw (e, g) (sym (zero-*ℤ x))
+
+pub signed-positive : (n : ℕ) (x : ℤ) → signOf (pos (suc n)) *ℤ x ≡ x
+signed-positive n x = sym (signed-above (pos (suc n)) x (le-ltb (suc n) 0 zero-le) (lt-ltb 0 (suc n) (suc-le-suc zero-le)))
+
+pub signed-negative : (n x : ℕ) → signOf (negsuc n) *ℤ pos (suc x) ≡ negsuc x
+signed-negative n x = sym (signed-below (negsuc n) (pos (suc x)) refl) ∙ +ℤ-idl (negsuc x)
 
 -- a limited number is in the limits' range
 pub limited-between : (low high z : ℤ) → low ≤ℤ high → Between low high (limited low high z)

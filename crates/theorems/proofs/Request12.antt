@@ -206,7 +206,9 @@ exactly-two fCode past wanted d = record {
     minus-reads : wrapped (pos f) (past -ℤ pos (16 * f)) ≡ wanted
     minus-reads =
         let known = Reach.reach-known fCode past wanted y in
-        Wrap.ends-meet f past (known .of-past .range) ∙ ap (λ (z : ℤ). wrapped (pos f) (past +ℤ z)) (sym needed) ∙ Reach.needed-reads f past wanted (known .wanted-range)
+        Wrap.ends-meet f past (known .of-past .range)
+        ∙ ap (λ (z : ℤ). wrapped (pos f) (past +ℤ z)) (sym needed)
+        ∙ Reach.needed-reads f past wanted (known .wanted-range)
 
     other : {difference code : ℤ} {residual : ℕ} → Pair.PairIs f difference code residual → Reach.ReachingDifference f past wanted difference
         → ((code ≡ pos 16) ⊎ (code ≡ negsuc 15)) × (residual ≡ f - 1)

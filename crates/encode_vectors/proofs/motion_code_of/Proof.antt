@@ -19,7 +19,7 @@ difference c = parameter (c .fits .difference) (c .pre .1)
 size-is : (c : tie.After-size-less-one) → let a = c .before .args in c .size-less-one .result / a .f + 1 ≡ (natAbs (a .difference) - 1) / a .f + 1
 size-is c =
     let s = c .before in
-    ap (λ (n : ℕ). n / s .args .f + 1) (c .size-less-one .ensures ∙ ap (λ z. natAbs z - 1) (toZ-ofZ w32 (s .args .difference) (s .fits .difference)))
+    ap (λ (n : ℕ). n / s .args .f + 1) (c .size-less-one .ensures ∙ (λ i. natAbs (toZ-ofZ w32 (s .args .difference) (s .fits .difference) i) - 1))
 
 size-below : (c : tie.After-size-less-one) → c .size-less-one .result / c .before .args .f + 1 < 8192
 size-below c =

@@ -19,7 +19,7 @@ returns : tie.Need-returns
 unfolding residualOf
 returns c =
     let s = c .before in
-    ap (λ (n : ℕ). n % s .args .f) (c .size-less-one .ensures ∙ ap (λ z. natAbs z - 1) (toZ-ofZ w32 (s .args .difference) (s .fits .difference)))
+    ap (λ (n : ℕ). n % s .args .f) (c .size-less-one .ensures ∙ (λ i. natAbs (toZ-ofZ w32 (s .args .difference) (s .fits .difference) i) - 1))
 
 pub residual-of-spec : {M : Type 1} → statement M
 residual-of-spec = tie.close (tie.spec size-less-one-requires rem-result returns)

@@ -1,5 +1,5 @@
 -- `vector_reachable` meets its contract: it makes the same tests as the definition, in the same order. Assumes nothing.
-use mathlib.Core.Path.{_≡_, ap, sym, _∙_}
+use mathlib.Core.Path.{_≡_, sym, _∙_}
 use borrow.Author.Needs.{needs}
 use borrow.Author.Tests.{not-true, not-false}
 use mir.Syntax.{w32}
@@ -14,7 +14,7 @@ use Rattle.encode_vectors.proofs.vector_reachable.Tie as tie
 past-is : (c : tie.After-f-code-and-past-in-range) → let a = c .before .args in fCodeAndPastInRange (a .f-code) (a .past) ≡ c .f-code-and-past-in-range .result
 past-is c =
     let s = c .before in
-    sym (c .f-code-and-past-in-range .ensures ∙ ap (fCodeAndPastInRange (s .args .f-code)) (toZ-ofZ w32 (s .args .past) (s .fits .past)))
+    sym (c .f-code-and-past-in-range .ensures ∙ (λ i. fCodeAndPastInRange (s .args .f-code) (toZ-ofZ w32 (s .args .past) (s .fits .past) i)))
 
 known : (c : tie.Else1) → let a = c .before .before .args in PastInRange (a .f-code) (a .past)
 known c = f-code-and-past-known _ _ (past-is (c .before) ∙ not-false _ (c .if1 .left))

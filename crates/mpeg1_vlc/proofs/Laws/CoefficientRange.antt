@@ -1,6 +1,6 @@
 -- Bounds on a coefficient read: run below 64, a level that fits, at most 28 bits and no more than are left. Assumes nothing.
 use mathlib.Core.Path.{_≡_, refl}
-use mathlib.Core.Bool.{Bool, true, false, cond}
+use mathlib.Core.Bool.{Bool}
 use mathlib.Core.List.{List}
 use Prim.Native.Nat.{ℕ, _+_, _-_, _%_, _<_, _≤_}
 use native.Mathlib.Omega.{arith}
@@ -12,6 +12,7 @@ use Rattle.math.specs.Tab.{tab}
 use Rattle.math.specs.Bound.{Within}
 use Rattle.math.proofs.Bound.{abs-le, within-cond}
 use Rattle.math.proofs.Difference.{parts-add, parts-neg}
+use Rattle.math.proofs.Test.{by-test}
 use Rattle.mpeg1_bits.specs.Bits.{bitsOf}
 use Rattle.mpeg1_bits.proofs.Number.{Binary, binary-drop}
 use Rattle.mpeg1_tables.specs.declared.code.Code.{Code}
@@ -48,10 +49,6 @@ after-well-read : (m : ℕ) (c : Code) (b : List ℕ) (f : ℕ → ℕ → List 
 after-well-read m (C.Value v n) b f h = h v n refl
 after-well-read m C.NoCode b f h = tt
 after-well-read m C.Truncated b f h = tt
-
-pick-well-read : (m : ℕ) (t : Bool) (x y : Coefficient) → (t ≡ true → WellRead m x) → (t ≡ false → WellRead m y) → WellRead m (cond t x y)
-pick-well-read m true x y p q = p refl
-pick-well-read m false x y p q = q refl
 
 -- ---- levels
 below-within : (v : ℕ) → v ≤ 256 → Within 256 (pos v)
@@ -98,9 +95,9 @@ level-well-read m n run {l} p left s h =
     let r = field-read 8 x k p e in
     let on : n + k + length (drop k l) ≤ m = rw length-drop (omega (arith, r .long, r .inside)) in
     let at : n + k ≤ 20 = omega (arith, r .long) in
-    pick-well-read m (eqb x 0) _ _
+    by-test (WellRead m) (eqb x 0) _ _
     (λ t. large-well-read m (n + k) (binary-drop k p) on largePositive 0 run positive-eight positive-bytes (omega arith) s at)
-    (λ t. pick-well-read m (eqb x 128) _ _
+    (λ t. by-test (WellRead m) (eqb x 128) _ _
     (λ u. large-well-read m (n + k) (binary-drop k p) on largeNegative 256 run negative-eight negative-bytes (omega arith) s at)
     (λ u. record {
       near = s;
@@ -125,9 +122,9 @@ coefficient-well-read words {b} p t s =
     let long = sized-length v n size in
     let in-bits = code-inside words b v n e in
     let on : n + length (drop n b) ≤ length b = rw length-drop (omega arith) in
-    pick-well-read (length b) (eqb v endOfBlock) _ _
+    by-test (WellRead (length b)) (eqb v endOfBlock) _ _
     (λ q. record { few = omega arith; inside = in-bits })
-    (λ q. pick-well-read (length b) (eqb v coefficientEscape) _ _
+    (λ q. by-test (WellRead (length b)) (eqb v coefficientEscape) _ _
     (λ u. escaped-well-read (length b) n (binary-drop n p) on (omega (arith, six v n (code-tested escape-length words b v n s e) (eqb-true v coefficientEscape u))))
     (λ u. signed-well-read (length b) n (binary-drop n p) on v (sized-value v n size) (omega arith))))
 

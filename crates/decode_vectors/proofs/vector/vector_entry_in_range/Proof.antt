@@ -13,7 +13,7 @@ use Rattle.decode_vectors.proofs.vector.vector_entry_in_range.Tie as ti
 past-is : (c : tie.After-f-code-and-past-in-range) → let a = c .before .args in fCodeAndPastInRange (a .f-code) (a .past) ≡ c .f-code-and-past-in-range .result
 past-is c =
     let s = c .before in
-    sym (c .f-code-and-past-in-range .ensures ∙ ap (fCodeAndPastInRange (s .args .f-code)) (toZ-ofZ w32 (s .args .past) (s .fits .past)))
+    sym (c .f-code-and-past-in-range .ensures ∙ (λ i. fCodeAndPastInRange (s .args .f-code) (toZ-ofZ w32 (s .args .past) (s .fits .past) i)))
 
 code-is : (c : tie.After-code-in-range) → codeInRange (c .before .before .before .args .code) ≡ c .code-in-range .result
 code-is c =
