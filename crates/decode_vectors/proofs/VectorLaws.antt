@@ -13,7 +13,7 @@ use lib.Pow.{pow-mono, pow-pos}
 use Rattle.math.specs.Bound.{Within}
 use Rattle.math.specs.Limit.{eqZ, signOf}
 use Rattle.math.proofs.Bound.{within-add, within-mul, within-neg, within-literal, within-more, within-eq, within-cond, within-both}
-use Rattle.math.proofs.Compare.{tests}
+use Rattle.math.proofs.Compare.{abs-below, abs-above}
 use Rattle.math.proofs.Difference.{same-of, parts-add}
 use Rattle.math.proofs.Limit.{range-between, between-range, sign-within, signed-below, signed-above, signed-none, signed-positive, signed-negative}
 use Rattle.math.proofs.Machine.{quot-le}
@@ -21,28 +21,19 @@ use Rattle.math.proofs.Test.{both-true}
 use Rattle.decode_vectors.specs.Vector.{fOf, vectorDifferenceOf, lowest, highest, vectorOf, codeInRange, residualInRange, pastInRange, fCodeAndPastInRange, vectorEntryInRange, usedVector, chromaVector}
 use Rattle.decode_vectors.proofs.WrapLaws.{Inside, sum-reach, wrapped-reach, wrapped-within}
 
--- ---- absolute value and difference, as the program computes them
-size-below : (z : ℤ) → ltZ z (pos 0) ≡ true → pos (natAbs z) ≡ pos 0 -ℤ z
-size-below (pos n) e = absurd (omega (arith, tests))
-size-below (negsuc n) e = ap pos (omega arith)
-
-size-above : (z : ℤ) → ltZ z (pos 0) ≡ false → pos (natAbs z) ≡ z
-size-above (pos n) e = refl
-size-above (negsuc n) e = absurd (subst T e tt)
-
--- the difference in its three cases
+-- ---- the difference in its three cases, as the program computes it
 pub difference-below : (f code residual : ℤ) → ltZ code (pos 0) ≡ true
     → pos 0 -ℤ ((pos 0 -ℤ code -ℤ pos 1) *ℤ f +ℤ residual +ℤ pos 1) ≡ vectorDifferenceOf f code residual
 unfolding vectorDifferenceOf
 difference-below f code residual e =
-    ap (λ (z : ℤ). pos 0 -ℤ ((z -ℤ pos 1) *ℤ f +ℤ residual +ℤ pos 1)) (sym (size-below code e))
+    ap (λ (z : ℤ). pos 0 -ℤ ((z -ℤ pos 1) *ℤ f +ℤ residual +ℤ pos 1)) (sym (abs-below code e))
     ∙ signed-below code ((pos (natAbs code) -ℤ pos 1) *ℤ f +ℤ residual +ℤ pos 1) e
 
 pub difference-above : (f code residual : ℤ) → ltZ code (pos 0) ≡ false → ltZ (pos 0) code ≡ true
     → (code -ℤ pos 1) *ℤ f +ℤ residual +ℤ pos 1 ≡ vectorDifferenceOf f code residual
 unfolding vectorDifferenceOf
 difference-above f code residual e g =
-    ap (λ (z : ℤ). (z -ℤ pos 1) *ℤ f +ℤ residual +ℤ pos 1) (sym (size-above code e))
+    ap (λ (z : ℤ). (z -ℤ pos 1) *ℤ f +ℤ residual +ℤ pos 1) (sym (abs-above code e))
     ∙ signed-above code ((pos (natAbs code) -ℤ pos 1) *ℤ f +ℤ residual +ℤ pos 1) e g
 
 pub difference-none : (f code residual : ℤ) → ltZ code (pos 0) ≡ false → ltZ (pos 0) code ≡ false → pos 0 ≡ vectorDifferenceOf f code residual

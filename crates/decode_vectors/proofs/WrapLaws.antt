@@ -5,7 +5,7 @@ use native.Mathlib.Omega.{arith}
 use lib.IntN.{ℤ, pos, negsuc, negℤ, _+ℤ_, _-ℤ_, _*ℤ_}
 use lib.Signed.{ltZ}
 use Rattle.math.specs.Bound.{Within, Between}
-use Rattle.math.proofs.Bound.{abs-parts, abs-le}
+use Rattle.math.proofs.Bound.{abs-parts, abs-le, within-more}
 use Rattle.math.proofs.Compare.{tests}
 use Rattle.math.proofs.Difference.{up, dn, of-le, le-of, same-of, parts-add, parts-neg}
 use Rattle.math.proofs.Test.{by-test}
@@ -56,11 +56,14 @@ wrapped-reach f sum reach =
     })
     (λ high. record { lower = le-of _ _ (omega (arith, tests)); upper = le-of _ _ (omega (arith, tests)) }))
 
--- the range as a bound on the absolute value, for every f up to 64
-pub inside-within : (f : ℕ) (z : ℤ) → f ≤ 64 → Inside f z → Within 1024 z
-inside-within f z h range = record {
+-- the range as a bound on the absolute value, also for every f up to 64
+pub inside-most : (f : ℕ) (z : ℤ) → Inside f z → Within (16 * f) z
+inside-most f z range = record {
   within = abs-le z (omega (arith, of-le (range .upper), highest-parts f)) (omega (arith, of-le (range .lower), lowest-parts f));
 }
+
+pub inside-within : (f : ℕ) (z : ℤ) → f ≤ 64 → Inside f z → Within 1024 z
+inside-within f z h range = within-more (inside-most f z range) (omega arith)
 
 pub wrapped-within : (f : ℕ) (sum : ℤ) → f ≤ 64 → Within (1024 + 16 * f) sum → Within 1024 (wrapped (pos f) sum)
 unfolding wrapped

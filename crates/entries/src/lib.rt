@@ -17,6 +17,7 @@ ghost use Rattle.format3_records.specs.Record.{recordOf, recordNumber, kindOf, 
 ghost use Rattle.format3_header.specs.FileStart.{firstHeader, fileHeaderOf};
 ghost use Rattle.format3_picture.specs.Picture.{pictureWithin, pictureOf};
 ghost use Rattle.mpeg1_reader.specs.Answer.{givenFields, rawSliceOutcome};
+ghost use Rattle.vector_list.specs.List.{vectorList};
 ghost use Rattle.reel_report.specs.Report.{reportOf};
 use decode_coefficients::scaling;
 use decode_coefficients::scaling::CoefficientAnswer;
@@ -41,7 +42,10 @@ use symbols::size::PictureSize;
 pub const MAX_REEL_BYTES: usize = part::MAX_REEL_BYTES;
 
 // The length of the buffer that `report` asks for.
-pub const TEXT_BYTES: usize = reel_report::TEXT_BYTES;
+pub const REPORT_BYTES: usize = reel_report::REPORT_BYTES;
+
+// The length of the buffer that `list_vectors` asks for.
+pub const VECTOR_LIST_BYTES: usize = vector_list::LIST_BYTES;
 
 // A record of a file: 0 or the number of the refusal, the record's kind, and where its body starts and how long it is.
 pub struct ShownRecord {
@@ -145,6 +149,19 @@ pub fn encode_vector(f_code: u32, past: i32, wanted: i32) -> EncodedVector
     encode_vectors::encode_vector(f_code, past, wanted)
 }
 
+// Every input that `vector` accepts with an f_code of 1 or 2, and the component that it gives, as text. A line has f_code, past, code,
+// residual and component; the lines are in rising order, number by number.
+// Takes a buffer for the text.
+// Answers how long the text is. That it fits the buffer is a clause of its own, as a caller needs it for `&text[..r]`.
+// Leaves the text at the start of the buffer; every other byte is what it was.
+pub fn list_vectors(text: &mut [u8; VECTOR_LIST_BYTES]) -> usize
+    ensures fits { λ r. ⌜ Counts r (now (text .exit)) ⌝ }
+    ensures length { λ r. ⌜ r ≡ length vectorList ⌝ }
+    ensures text { λ _. ⌜ now (text .exit) ≡ vectorList ++ drop (length vectorList) (now (text .entry)) ⌝ }
+{
+    vector_list::list_vectors(text)
+}
+
 // Where the record at an offset is.
 // Takes any file and offset.
 // Answers 0, the record's kind, and where its body starts and how long it is; 3 or 4 and zeros if there is no whole record of a known kind.
@@ -213,7 +230,7 @@ pub fn read_slice(slice: &[u8], parameters: PictureParameters, records: &mut [u8
 // Takes any reel, and a buffer for the text.
 // Answers how long the text is. That it fits the buffer is a clause of its own, as a caller needs it for `&text[..r]`.
 // Leaves the text at the start of the buffer; every other byte is what it was.
-pub fn report(reel: &[u8], text: &mut [u8; TEXT_BYTES]) -> usize
+pub fn report(reel: &[u8], text: &mut [u8; REPORT_BYTES]) -> usize
     ensures fits { λ r. ⌜ Counts r (now (text .exit)) ⌝ }
     ensures length { λ r. ⌜ r ≡ length (reportOf (now (reel .entry))) ⌝ }
     ensures text { λ _. ⌜ now (text .exit) ≡ reportOf (now (reel .entry)) ++ drop (length (reportOf (now (reel .entry)))) (now (text .entry)) ⌝ }

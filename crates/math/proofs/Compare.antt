@@ -4,7 +4,7 @@ use mathlib.Core.Bool.{Bool, true, false, not}
 use Prim.Native.Nat.{ℕ, _+_, _≤_, _<_}
 use native.Mathlib.Omega.{arith}
 use lib.Dec.{T, eqb}
-use lib.IntN.{ℤ, pos, negsuc, natAbs}
+use lib.IntN.{ℤ, pos, negsuc, natAbs, _-ℤ_}
 use lib.Signed.{ltZ, leZ, nonNeg, ltZ-yes, ltZ-no, leZ-yes}
 use mir.Syntax.{Width}
 use mir.Val.{SFits, toZ, ofZ}
@@ -23,6 +23,15 @@ pub le-true : (x y : ℤ) → leZ x y ≡ true → up x + dn y ≤ up y + dn x
 le-true x y e = of-le {x = x} {y = y} (leZ-yes (subst T (sym e) tt))
 
 pub ruleset tests = (lt-true, lt-false, le-true)
+
+-- the absolute value, by the sign
+pub abs-below : (z : ℤ) → ltZ z (pos 0) ≡ true → pos (natAbs z) ≡ pos 0 -ℤ z
+abs-below (pos n) e = absurd (omega (arith, tests))
+abs-below (negsuc n) e = ap pos (omega arith)
+
+pub abs-above : (z : ℤ) → ltZ z (pos 0) ≡ false → pos (natAbs z) ≡ z
+abs-above (pos n) e = refl
+abs-above (negsuc n) e = absurd (subst T e tt)
 
 -- a number that two tests confine to 0..b survives a cast to an unsigned type
 pub kept-in : (z : ℤ) {b : ℕ} → ltZ z (pos 0) ≡ false → ltZ (pos b) z ≡ false → (T (nonNeg z)) × (natAbs z ≤ b) × (pos (natAbs z) ≡ z)

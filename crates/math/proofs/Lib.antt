@@ -1,4 +1,6 @@
 pub mod Tab
+pub mod Joined
+pub mod Enumerates
 pub mod Scatter
 pub mod Each
 pub mod Part

@@ -13,7 +13,7 @@ use Rattle.reel_player.specs.declared.play.Next.the-variants as Next
 use Rattle.reel_player.specs.declared.play.Played.{Played}
 use Rattle.reel_player.specs.declared.play.ReelPosition.{ReelPosition}
 use Rattle.reel_player.proofs.ItemLaws.{Buffers, itemsLeft, none-left, next-cut, next-picture}
-use Rattle.reel_text.proofs.PutLaws.{Put, put, put-rest}
+use Rattle.text_writer.proofs.PutLaws.{Put, put, put-rest}
 use Rattle.reel_report.specs.Text.{lineText}
 use Rattle.reel_report.specs.Report.{linesOf}
 

@@ -9,15 +9,9 @@ use Rattle.format3_header.specs.declared.file_start.FileStart.{FileStart}
 use Rattle.format3_header.specs.declared.file_start.FileStart.the-variants as FileStart
 use Rattle.format3_picture.specs.declared.reader.Answer.{Answer}
 use Rattle.reel_player.specs.Items.{Item, picture, cut}
-use Rattle.reel_text.specs.Number.{fieldBytes, field}
+use Rattle.text_writer.specs.Number.{space, lineEnd, minus, field, fieldBytes}
 use Rattle.reel_report.specs.Planes.{sumsOf}
 use Rattle.reel_report.specs.declared.planes.Sums.{Sums}
-
-abbrev pub space : ℕ
-space = 32
-
-abbrev pub lineEnd : ℕ
-lineEnd = 10
 
 -- "letter (`?` if there is no kind 1 header or it was refused by 8 or sooner)"; in ASCII, I is 73, P 80, B 66 and ? 63
 abbrev pub letterOf : FileStart → ℕ
@@ -33,7 +27,7 @@ abbrev pub sumsText : Sums → List ℕ
 sumsText sums = field (sums .y) space ++ (field (sums .cb) space ++ field (sums .cr) lineEnd)
 
 abbrev pub dashes : List ℕ
-dashes = 45 ∷ space ∷ 45 ∷ space ∷ 45 ∷ lineEnd ∷ []
+dashes = minus ∷ space ∷ minus ∷ space ∷ minus ∷ lineEnd ∷ []
 
 abbrev pub planesText : Answer → List ℕ → List ℕ
 planesText answer bytes = cond (eqb (answer .number) accepted) (sumsText (sumsOf bytes)) dashes

@@ -16,7 +16,7 @@ use reel_player::play;
 use reel_player::play::Next;
 
 // The buffer needed for the longest reel that is played: a line for every 4 bytes, the least that a picture takes, and one for `cut`.
-pub const TEXT_BYTES: usize = line::LINE_BYTES * (part::MAX_REEL_BYTES / 4 + 1);
+pub const REPORT_BYTES: usize = line::LINE_BYTES * (part::MAX_REEL_BYTES / 4 + 1);
 
 // Writes the lines of a reel. A picture takes at least 4 bytes of the reel.
 fn put_lines(reel: &[u8], text: &mut [u8]) -> usize
@@ -48,13 +48,13 @@ fn put_lines(reel: &[u8], text: &mut [u8]) -> usize
 
 // Writes the report of a reel at the text's start and returns its length; the rest of the buffer stays. The contract first says that
 // it fits, since callers take `&text[..r]`.
-pub fn report(reel: &[u8], text: &mut [u8; TEXT_BYTES]) -> usize
+pub fn report(reel: &[u8], text: &mut [u8; REPORT_BYTES]) -> usize
     ensures { λ r. ⌜ Counts r (now (text .exit)) ⌝ }
     ensures { λ r. ⌜ r ≡ length (reportOf (now (reel .entry))) ⌝ }
     ensures { λ _. ⌜ now (text .exit) ≡ reportOf (now (reel .entry)) ++ drop (length (reportOf (now (reel .entry)))) (now (text .entry)) ⌝ }
 {
     if part::is_long(reel.len()) {
-        return reel_text::put_bytes(text, 0, b"long\n");
+        return text_writer::put_bytes(text, 0, b"long\n");
     }
     put_lines(reel, text)
 }

@@ -12,16 +12,14 @@ use format3_picture::reader::Answer;
 use reel_player::play::Played;
 use symbols::header::I_PICTURE;
 use symbols::header::P_PICTURE;
+use text_writer::LINE_END;
+use text_writer::SPACE;
 
 // The most bytes of three fields.
-const THREE_FIELDS_BYTES: usize = 3 * reel_text::FIELD_BYTES;
+const THREE_FIELDS_BYTES: usize = 3 * text_writer::FIELD_BYTES;
 
 // The most bytes of a line: a field, a letter and a space, and twice three fields.
-pub(crate) const LINE_BYTES: usize = reel_text::FIELD_BYTES + 2 + 2 * THREE_FIELDS_BYTES;
-
-const SPACE: u8 = b' ';
-
-const LINE_END: u8 = b'\n';
+pub(crate) const LINE_BYTES: usize = text_writer::FIELD_BYTES + 2 + 2 * THREE_FIELDS_BYTES;
 
 // The letter of a picture's type, or `?` if its file has no legal header.
 fn letter_of(start: FileStart) -> u8
@@ -46,9 +44,9 @@ fn put_answer(buffer: &mut [u8], at: usize, answer: Answer) -> usize
     ensures { λ r. ⌜ r ≤ at + threeFieldsBytes ⌝ }
     ensures { λ _. ⌜ now (buffer .exit) ≡ written at (answerText answer) (now (buffer .entry)) ⌝ }
 {
-    let number = reel_text::put_field(buffer, at, answer.number as u64, SPACE);
-    let place = reel_text::put_field(buffer, number, answer.place as u64, SPACE);
-    reel_text::put_field(buffer, place, answer.made as u64, SPACE)
+    let number = text_writer::put_field(buffer, at, answer.number as u64, SPACE);
+    let place = text_writer::put_field(buffer, number, answer.place as u64, SPACE);
+    text_writer::put_field(buffer, place, answer.made as u64, SPACE)
 }
 
 // The sums of the three planes, and a line feed.
@@ -58,9 +56,9 @@ fn put_sums(buffer: &mut [u8], at: usize, sums: Sums) -> usize
     ensures { λ r. ⌜ r ≤ at + threeFieldsBytes ⌝ }
     ensures { λ _. ⌜ now (buffer .exit) ≡ written at (sumsText sums) (now (buffer .entry)) ⌝ }
 {
-    let luma = reel_text::put_field(buffer, at, sums.y, SPACE);
-    let chroma = reel_text::put_field(buffer, luma, sums.cb, SPACE);
-    reel_text::put_field(buffer, chroma, sums.cr, LINE_END)
+    let luma = text_writer::put_field(buffer, at, sums.y, SPACE);
+    let chroma = text_writer::put_field(buffer, luma, sums.cb, SPACE);
+    text_writer::put_field(buffer, chroma, sums.cr, LINE_END)
 }
 
 // The sums of an accepted picture, or `-` for each plane, and a line feed.
@@ -72,7 +70,7 @@ fn put_planes(buffer: &mut [u8], at: usize, answer: Answer, bytes: &[u8]) -> usi
     ensures { λ _. ⌜ now (buffer .exit) ≡ written at (planesText answer (now (bytes .entry))) (now (buffer .entry)) ⌝ }
 {
     if answer.number != refusals::ACCEPTED {
-        return reel_text::put_bytes(buffer, at, b"- - -\n");
+        return text_writer::put_bytes(buffer, at, b"- - -\n");
     }
     put_sums(buffer, at, planes::sums_of(bytes))
 }
@@ -88,8 +86,8 @@ pub(crate) fn put_picture(buffer: &mut [u8], at: usize, played: Played, bytes: &
     let start = played.start;
     let answer = played.answer;
     let letter = letter_of(start);
-    let number_end = reel_text::put_field(buffer, at, played.number as u64, SPACE);
-    let letter_end = reel_text::put_bytes(buffer, number_end, &[letter, SPACE]);
+    let number_end = text_writer::put_field(buffer, at, played.number as u64, SPACE);
+    let letter_end = text_writer::put_bytes(buffer, number_end, &[letter, SPACE]);
     let answer_end = put_answer(buffer, letter_end, answer);
     put_planes(buffer, answer_end, answer, bytes)
 }
@@ -101,6 +99,6 @@ pub(crate) fn put_cut(buffer: &mut [u8], at: usize, offset: usize) -> usize
     ensures { λ r. ⌜ r ≤ at + cutBytes ⌝ }
     ensures { λ _. ⌜ now (buffer .exit) ≡ written at (lineText (cut offset)) (now (buffer .entry)) ⌝ }
 {
-    let word_end = reel_text::put_bytes(buffer, at, b"cut ");
-    reel_text::put_field(buffer, word_end, offset as u64, LINE_END)
+    let word_end = text_writer::put_bytes(buffer, at, b"cut ");
+    text_writer::put_field(buffer, word_end, offset as u64, LINE_END)
 }

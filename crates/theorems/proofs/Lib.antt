@@ -6,6 +6,7 @@ pub mod Request2
 pub mod Request3
 pub mod Request4
 pub mod Request6
+pub mod Request11
 pub mod Request12
 pub mod Records
 pub mod Rules

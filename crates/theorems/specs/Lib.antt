@@ -15,6 +15,8 @@ pub mod Request3
 pub mod Request4
 -- rows worked: what the number is, its bounds, and that a picture's is the total over the macroblocks made
 pub mod Request6
+-- every small vector: the list has every legal input once, in order
+pub mod Request11
 -- writing a vector: it is read back, which pairs reach it, and when 33 is given
 pub mod Request12
 -- the writer and the reader of a record undo one another

@@ -1,9 +1,10 @@
 -- A count, or a record's length, may be written after what it counts. Assumes nothing.
-use mathlib.Core.List.{List, [], _∷_, _++_, append-assoc, append-nil}
-use mathlib.Core.Path.{_≡_, refl, sym}
+use mathlib.Core.List.{List, [], _∷_, _++_, append-nil}
+use mathlib.Core.Path.{_≡_, sym}
 use Prim.Native.Nat.{ℕ, _+_}
 use lib.ListN.{length}
 use Rattle.math.specs.Joined.{joined}
+use Rattle.math.proofs.Joined.{joined-append}
 use Rattle.symbols.specs.declared.pair.Pair.{Pair}
 use Rattle.format3_writer.specs.Written.{written}
 use Rattle.format3_writer.specs.Bytes.{bigEndianBytes}
@@ -19,12 +20,6 @@ written-count at pairs buffer = written-before at (length pairs ∷ []) (pairsBy
 pub written-record : (at kind : ℕ) (body buffer : List ℕ) → written at (recordHead (1 + length body) kind) (written (at + 3) body buffer) ≡ written at (recordBytes kind body) buffer
 unfolding recordBytes recordHead bigEndianBytes
 written-record at kind body buffer = written-before at (recordHead (1 + length body) kind) body buffer
-
--- the bytes of two lists joined are the bytes of each, joined
-pub joined-append : {A : Type 0} (bytes : A → List ℕ) (a b : List A) → joined bytes (a ++ b) ≡ joined bytes a ++ joined bytes b
-unfolding joined
-joined-append bytes [] b = refl
-joined-append bytes (first ∷ a) b = rw (joined-append bytes a b) (sym (append-assoc (bytes first) (joined bytes a) (joined bytes b)))
 
 -- one more element, written after the others
 pub written-more : {A : Type 0} (bytes : A → List ℕ) (at : ℕ) (a : List A) (last : A) (buffer : List ℕ)

@@ -6,6 +6,7 @@ use Prim.Native.Nat.{ℕ, zero, suc, _+_, _-_, _*_, _<_, _≤_}
 use native.Mathlib.Omega.{arith}
 use lib.ListN.{length, length-append}
 use Rattle.math.specs.Joined.{joined}
+use Rattle.math.proofs.Joined.{joined-append}
 use Rattle.symbols.specs.Parsed.{parsed, refused}
 use Rattle.symbols.specs.Block.{Block}
 use Rattle.symbols.specs.Pattern.{isCoded}
@@ -13,7 +14,7 @@ use Rattle.symbols.proofs.Parsed.{all-at, after, nothing-after, after-after}
 use Rattle.format3_writer.specs.Written.{written}
 use Rattle.format3_writer.proofs.Laws.Written.{written-length}
 use Rattle.format3_writer.specs.Records.{blockBytes, blocksBytes}
-use Rattle.format3_writer.proofs.Laws.Writing.{joined-append, written-more}
+use Rattle.format3_writer.proofs.Laws.Writing.{written-more}
 use Rattle.format3_writer.proofs.Laws.Lengths.{block-short}
 use Rattle.mpeg1_bits.specs.Requires.{InBytes}
 use Rattle.mpeg1_bits.specs.declared.BitPosition.{BitPosition}

@@ -8,6 +8,7 @@ use lib.Dec.{leb}
 use lib.ListN.{length, length-append}
 use borrow.Author.Tests.{leb-true}
 use Rattle.math.specs.Joined.{joined}
+use Rattle.math.proofs.Joined.{joined-append}
 use Rattle.symbols.specs.Parsed.{parsed, refused, bind}
 use Rattle.symbols.specs.declared.header.Header.{Header}
 use Rattle.symbols.specs.Macroblock.{Macroblock}
@@ -15,7 +16,7 @@ use Rattle.symbols.proofs.Parsed.{all-at, after, nothing-after, after-after}
 use Rattle.format3_writer.specs.Written.{written, maxOffset, saturatingAdd}
 use Rattle.format3_writer.proofs.Laws.Written.{written-length, written-at-max-offset}
 use Rattle.format3_writer.specs.Records.{macroblockRecord}
-use Rattle.format3_writer.proofs.Laws.Writing.{joined-append, written-more}
+use Rattle.format3_writer.proofs.Laws.Writing.{written-more}
 use Rattle.mpeg1_bits.specs.Bits.{bitOffset, allZeros, bitsFrom}
 use Rattle.mpeg1_bits.specs.Requires.{InBytes}
 use Rattle.mpeg1_bits.specs.declared.BitPosition.{BitPosition}

@@ -9,7 +9,6 @@ use lib.Arith.{digits-div}
 use lib.Dec.{eqb}
 use lib.ListN.{length}
 use borrow.Author.Tests.{eqb-true, eqb-false, eq-eqb, ne-eqb}
-use Rattle.math.specs.Joined.{joined}
 use Rattle.math.specs.Tab.{tab}
 use Rattle.math.proofs.Tab.{tab-ext}
 use Rattle.mpeg1_bits.specs.Bits.{bitsOf}
@@ -114,8 +113,3 @@ unfolding entryOf splitRow
 row-entries r n =
     tab-ext (2 ^ n) _ _ (λ v h. ap packed (branches-code (r .words) (bitsOf (r .zeros + n) v) ∙ descended-code (r .zeros) n v (branches (r .words)) h))
     ∙ split-entries n (descended (r .zeros) (branches (r .words)))
-
-pub joined-same : (f g : TableRow → List ℕ) (rs : List TableRow) → ((r : TableRow) → f r ≡ g r) → joined f rs ≡ joined g rs
-unfolding joined
-joined-same f g [] e = refl
-joined-same f g (r ∷ rs) e = ap₂ _++_ (e r) (joined-same f g rs e)

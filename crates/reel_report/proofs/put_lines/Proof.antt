@@ -6,7 +6,7 @@ use lib.ListN.{length, length-take}
 use borrow.Author.Needs.{needs}
 use Rattle.reel_player.proofs.ItemLaws.{Buffers, PictureNext, next-picture}
 use Rattle.reel_player.specs.Requires.{KeptWithin}
-use Rattle.reel_text.proofs.PutLaws.{put}
+use Rattle.text_writer.proofs.PutLaws.{put}
 use Rattle.reel_report.proofs.ReportLaws.{Printed, printed-none, printed-all, line-fits, printed-cut, printed-more}
 use Rattle.reel_report.proofs.put_lines.Statement.{statement}
 use Rattle.reel_report.proofs.put_lines.Tie as tie

@@ -2,10 +2,11 @@
 use mathlib.Core.Path.{_≡_, refl, _∙_, sym}
 use Rattle.math.specs.Joined.{joined}
 use Rattle.math.specs.Tab.{tab}
+use Rattle.math.proofs.Joined.{joined-same}
 use Rattle.mpeg1_tables.specs.Code.{word, digitsOf, isPrefix}
 use Rattle.mpeg1_tables.specs.AnnexB.{incrementWords, increments, incrementsAfterEscape, intraTypes, predictedTypes, bidirectionalTypes, patterns, motionCodes, luminanceSizes, chrominanceSizes, sharedWords, nextCoefficients}
 use Rattle.mpeg1_tables.specs.Table.{codeTable, entryOf, packed, tableRows}
-use Rattle.mpeg1_tables.proofs.Laws.Branch.{branchOf, branches, grown, after, descended, split, splitRow, row-entries, joined-same}
+use Rattle.mpeg1_tables.proofs.Laws.Branch.{branchOf, branches, grown, after, descended, split, splitRow, row-entries}
 use Rattle.mpeg1_tables.proofs.table.code_table.Statement.{statement}
 use Rattle.mpeg1_tables.proofs.table.code_table.Tie as tie
 

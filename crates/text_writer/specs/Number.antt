@@ -3,7 +3,17 @@ use mathlib.Core.Bool.{cond}
 use mathlib.Core.List.{List, [], _∷_, _++_}
 use Prim.Native.Nat.{ℕ, zero, suc, _+_, _/_}
 use lib.Dec.{ltb}
+use lib.IntN.{ℤ, pos, negsuc}
 use Rattle.io.specs.Digits.{digits}
+
+abbrev pub space : ℕ
+space = 32
+
+abbrev pub lineEnd : ℕ
+lineEnd = 10
+
+abbrev pub minus : ℕ
+minus = 45
 
 -- how many decimal digits a number has (0 has one); n is at least the number
 unfoldable pub digitCountWithin : ℕ → ℕ → ℕ
@@ -17,9 +27,17 @@ digitCount number = digitCountWithin number number
 abbrev pub decimal : ℕ → List ℕ
 decimal number = digits 10 (digitCount number) number
 
+-- a number that may be negative: the minus sign, and the number without it
+abbrev pub signedDecimal : ℤ → List ℕ
+signedDecimal (pos number) = decimal number
+signedDecimal (negsuc number) = minus ∷ decimal (suc number)
+
 -- a field: a number and the separator after it
 abbrev pub field : ℕ → ℕ → List ℕ
 field number after = decimal number ++ (after ∷ [])
+
+abbrev pub signedField : ℤ → ℕ → List ℕ
+signedField number after = signedDecimal number ++ (after ∷ [])
 
 -- the most bytes of a field: a number below 2 ^ 64 has at most 20 digits
 abbrev pub fieldBytes : ℕ

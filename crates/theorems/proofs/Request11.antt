@@ -1,0 +1,74 @@
+-- Request No. 11: the vector entry's test is that of a legal case; the worked lines are computed, their cases by their indices. Assumes nothing.
+use mathlib.Core.Bool.{Bool, true, false, cond, _&&_}
+use mathlib.Core.Path.{_≡_, refl, sym, ap, _∙_}
+use Prim.Native.Nat.{ℕ, _*_, _≤_, _<_}
+use native.Mathlib.Omega.{arith}
+use borrow.Author.Tests.{le-leb}
+use lib.IntN.{ℤ, pos, negsuc}
+use lib.ListN.{length, getD}
+use Rattle.refusals.specs.Refusal.{accepted, numberOf}
+use Rattle.refusals.specs.declared.Refusal.the-variants.{NumberOutOfRange}
+use Rattle.math.proofs.Enumerates.{enumerates-as}
+use Rattle.decode_vectors.specs.Vector.{fOf, wrapped, vectorDifferenceOf, vectorOf, codeInRange, residualInRange, pastInRange, fCodeAndPastInRange, vectorEntryInRange, vectorNumber}
+use Rattle.text_writer.specs.Lines.{lineCount}
+use Rattle.text_writer.specs.Number.{digitCountWithin}
+use Rattle.text_writer.proofs.LineLaws.{count-joined}
+use Rattle.vector_list.specs.Cases.{casesOf}
+use Rattle.vector_list.specs.Index.{legalCase, casesBefore, indexOf}
+use Rattle.vector_list.specs.List.{caseLine, caseLines}
+use Rattle.vector_list.specs.declared.VectorCase.{VectorCase}
+use Rattle.vector_list.proofs.CaseLaws as Case
+use Rattle.vector_list.proofs.LineLaws.{one-line}
+use Rattle.theorems.specs.Request11.{EveryLegalInput, EveryLegalCase, RisingOrder, CaseCount, LineCounts, Line, WorkedLines}
+
+pub every-legal-case : EveryLegalCase
+every-legal-case f = Case.enumerated f
+
+-- the vector entry's test
+entry-test : (fCode : ℕ) (c : VectorCase) → 1 ≤ fCode → fCode ≤ 7 → vectorEntryInRange fCode (c .past) (c .code) (c .residual) ≡ legalCase (fOf fCode) c
+unfolding vectorEntryInRange fCodeAndPastInRange legalCase
+entry-test fCode c least most = rw (le-leb 1 fCode least, le-leb fCode 7 most)
+
+accepts : (t : Bool) → cond t accepted (numberOf NumberOutOfRange) ≡ accepted → t ≡ true
+accepts true e = refl
+accepts false e = absurd (omega arith)
+
+pub every-legal-input : EveryLegalInput
+every-legal-input fCode least most =
+    enumerates-as (λ c m. ap (λ (t : Bool). cond t accepted (numberOf NumberOutOfRange)) (entry-test fCode c least most ∙ m)) (λ c m. sym (entry-test fCode c least most) ∙ accepts _ m) (every-legal-case (fOf fCode))
+
+pub rising-order : RisingOrder
+rising-order f i j d h g =
+    let e = every-legal-case f in
+    let first : i < length (casesOf f) = omega arith in
+    Case.in-order f (getD (casesOf f) i d) (getD (casesOf f) j d) (e .member i d first) (e .member j d g) (rw (e .index-back i d first, e .index-back j d g) h)
+
+pub case-count : CaseCount
+case-count f = Case.cases-long f
+
+-- as many lines as cases
+lines : (fCode : ℕ) → lineCount (caseLines fCode (casesOf (fOf fCode))) ≡ length (casesOf (fOf fCode)) * 1
+lines fCode = count-joined (caseLine fCode) 1 (one-line fCode) (casesOf (fOf fCode))
+
+pub line-counts : LineCounts
+line-counts = record {
+  one-each = one-line;
+  f-code-1 = omega (arith, lines 1, case-count 1);
+  f-code-2 = omega (arith, lines 2, case-count 2);
+}
+
+-- a legal case is at its index
+worked : (fCode : ℕ) (past code : ℤ) (residual : ℕ) → let c : VectorCase = record { past = past; code = code; residual = residual } in
+    legalCase (fOf fCode) c ≡ true → Line fCode (indexOf (fOf fCode) c) past code residual (caseLine fCode c)
+worked fCode past code residual m = record { case-is = λ d. every-legal-case (fOf fCode) .member-back _ d m; line-is = refl }
+
+pub worked-lines : WorkedLines
+unfolding indexOf casesBefore legalCase pastInRange codeInRange residualInRange caseLine digitCountWithin vectorEntryInRange fCodeAndPastInRange vectorOf vectorDifferenceOf wrapped
+worked-lines = record {
+  first = worked 1 (negsuc 15) (negsuc 15) 0 refl;
+  last-of-1 = worked 1 (pos 15) (pos 16) 0 refl;
+  before-code-0 = worked 2 (negsuc 31) (negsuc 0) 1 refl;
+  at-code-0 = worked 2 (negsuc 31) (pos 0) 0 refl;
+  after-code-0 = worked 2 (negsuc 31) (pos 1) 0 refl;
+  last = worked 2 (pos 31) (pos 16) 1 refl;
+}

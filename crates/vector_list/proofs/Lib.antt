@@ -1,0 +1,4 @@
+pub mod CaseLaws
+pub mod LineLaws
+pub mod BlockLaws
+pub mod LoopLaws

@@ -1,0 +1,38 @@
+-- Every legal input of the vector entry for one f, in order (document 02, No. 11). A case is document 02's word for such an input.
+use mathlib.Core.Bool.{cond}
+use mathlib.Core.List.{List}
+use Prim.Native.Nat.{ℕ, _*_}
+use lib.IntN.{ℤ, pos, negℤ, _+ℤ_}
+use Rattle.math.specs.Joined.{joined}
+use Rattle.math.specs.Limit.{eqZ}
+use Rattle.math.specs.Tab.{tab}
+use Rattle.decode_vectors.specs.Vector.{lowest}
+use Rattle.vector_list.specs.declared.VectorCase.{VectorCase}
+
+-- n integers, rising from `low`
+abbrev pub integersFrom : ℤ → ℕ → List ℤ
+integersFrom low n = tab n (λ k. low +ℤ pos k)
+
+-- "past rising over its range": -16f, .., 16f - 1
+abbrev pub pasts : ℕ → List ℤ
+pasts f = integersFrom (lowest (pos f)) (32 * f)
+
+-- "then code rising": -16, .., 16
+abbrev pub codes : List ℤ
+codes = integersFrom (negℤ (pos 16)) 33
+
+-- how many residuals a code has: each below f, or 0 alone for code 0
+unfoldable pub residualCount : ℕ → ℤ → ℕ
+residualCount f code = cond (eqZ code (pos 0)) 1 f
+
+-- "then residual rising": the cases of one past and code
+unfoldable pub casesOfCode : ℕ → ℤ → ℤ → List VectorCase
+casesOfCode f past code = tab (residualCount f code) (λ residual. record { past = past; code = code; residual = residual })
+
+-- the cases of one past
+unfoldable pub casesOfPast : ℕ → ℤ → List VectorCase
+casesOfPast f past = joined (casesOfCode f past) codes
+
+-- all cases
+unfoldable pub casesOf : ℕ → List VectorCase
+casesOf f = joined (casesOfPast f) (pasts f)
