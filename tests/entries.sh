@@ -2,8 +2,9 @@
 # shellcheck disable=SC2016
 # tests/entries.sh: the public entries are the functions of crates/entries, and these alone.
 # - Each function there is `pub`, has an `ensures` and no `requires`.
-# - crates/format3_c calls functions of `entries` alone; crates/panel calls, apart from these, what reads its input and writes its output.
-# Then it shows that it can fail: it refuses copies of the three crates, each with one change.
+# - crates/format3_c calls functions of `entries` alone; the programs, crates/panel and crates/vectors, call, apart from these, what reads
+#   their input and writes their output.
+# Then it shows that it can fail: it refuses copies of these crates, each with one change.
 set -euo pipefail
 cd "$(dirname "$0")/.."
 folder=$(mktemp -d)
@@ -60,6 +61,7 @@ look_at() { # CRATES
     look_at_entries "$1" || failed=1
     look_at_calls "$1" format3_c entries || failed=1
     look_at_calls "$1" panel entries reel_input io os libc || failed=1
+    look_at_calls "$1" vectors entries io os libc || failed=1
     return $failed
 }
 
@@ -69,7 +71,7 @@ if ! count=$(look_at crates); then
 fi
 
 mkdir "$right"
-cp -R crates/entries crates/format3_c crates/panel "$right"
+cp -R crates/entries crates/format3_c crates/panel crates/vectors "$right"
 
 # A file, changed by an edit of sed, in a copy of the crates.
 change() { # FILE EDIT
@@ -102,7 +104,7 @@ require_passed() { # FILE EDIT
     fi
 }
 
-entries=entries/src/lib.rt exports=format3_c/src/lib.rt panel=panel/src/main.rt
+entries=entries/src/lib.rt exports=format3_c/src/lib.rt panel=panel/src/main.rt vectors=vectors/src/main.rt
 require_refused $entries '/^pub fn vector\(/a\    requires { ⌜ code ≡ past ⌝ }' 'vector has a requires'
 require_refused $entries 's/^pub fn read_slice.*/&\n    requires small { ⌜ parameters .width ≡ 1 ⌝ }/' 'read_slice has a requires'
 require_refused $entries '/^pub fn transform\(/,/^\{/{/ensures/d}' 'transform has no ensures'
@@ -117,6 +119,9 @@ require_refused $exports '$a use reel_input::read_all;' 'format3_c names reel_in
 require_refused $panel 's/entries::report\(/reel_report::report(/' 'panel names reel_report'
 require_refused $panel 's/entries::MAX_REEL_BYTES/reel_parts::part::MAX_REEL_BYTES/' 'panel names reel_parts'
 require_refused $panel '/entries::/d' 'panel calls no entry'
+require_refused $vectors 's/entries::list_vectors\(/vector_list::list_vectors(/' 'vectors names vector_list'
+require_refused $vectors '/entries::/d' 'vectors calls no entry'
+require_refused $vectors '1i use reel_input::read_all;' 'vectors names reel_input'
 require_passed $entries '1i // An entry never requires anything. fn'
 require_passed $exports '1i // decode_idct::transform is called by the entry.'
 

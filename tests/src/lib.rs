@@ -17,6 +17,7 @@ pub mod compare_misfits;
 pub mod compare_room_slices;
 pub mod compare_rows;
 pub mod compare_slices;
+pub mod compare_vector_list;
 pub mod decoder;
 pub mod fixtures;
 pub mod generator;

@@ -45,7 +45,7 @@ pub const MAX_REEL_BYTES: usize = part::MAX_REEL_BYTES;
 pub const REPORT_BYTES: usize = reel_report::REPORT_BYTES;
 
 // The length of the buffer that `list_vectors` asks for.
-pub const VECTOR_LIST_BYTES: usize = vector_list::LIST_BYTES;
+pub const VECTOR_LIST_BYTES: usize = vector_list::VECTOR_LIST_BYTES;
 
 // A record of a file: 0 or the number of the refusal, the record's kind, and where its body starts and how long it is.
 pub struct ShownRecord {
@@ -149,8 +149,8 @@ pub fn encode_vector(f_code: u32, past: i32, wanted: i32) -> EncodedVector
     encode_vectors::encode_vector(f_code, past, wanted)
 }
 
-// Every input that `vector` accepts with an f_code of 1 or 2, and the component that it gives, as text. A line has f_code, past, code,
-// residual and component; the lines are in rising order, number by number.
+// As text, every input that `vector` accepts with f_code 1, then with f_code 2, and the component that it gives. A line has f_code, past,
+// code, residual and component. The lines rise by past, then by code, then by residual.
 // Takes a buffer for the text.
 // Answers how long the text is. That it fits the buffer is a clause of its own, as a caller needs it for `&text[..r]`.
 // Leaves the text at the start of the buffer; every other byte is what it was.

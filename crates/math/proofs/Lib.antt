@@ -7,6 +7,7 @@ pub mod Part
 pub mod Test
 pub mod Total
 pub mod Difference
+pub mod Offset
 pub mod Ring
 pub mod Solve
 pub mod Bound

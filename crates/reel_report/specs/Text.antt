@@ -9,7 +9,7 @@ use Rattle.format3_header.specs.declared.file_start.FileStart.{FileStart}
 use Rattle.format3_header.specs.declared.file_start.FileStart.the-variants as FileStart
 use Rattle.format3_picture.specs.declared.reader.Answer.{Answer}
 use Rattle.reel_player.specs.Items.{Item, picture, cut}
-use Rattle.text_writer.specs.Number.{space, lineEnd, minus, field, fieldBytes}
+use Rattle.text_writer.specs.Number.{space, lineEnd, field, fieldBytes}
 use Rattle.reel_report.specs.Planes.{sumsOf}
 use Rattle.reel_report.specs.declared.planes.Sums.{Sums}
 
@@ -27,7 +27,7 @@ abbrev pub sumsText : Sums → List ℕ
 sumsText sums = field (sums .y) space ++ (field (sums .cb) space ++ field (sums .cr) lineEnd)
 
 abbrev pub dashes : List ℕ
-dashes = minus ∷ space ∷ minus ∷ space ∷ minus ∷ lineEnd ∷ []
+dashes = 45 ∷ space ∷ 45 ∷ space ∷ 45 ∷ lineEnd ∷ []
 
 abbrev pub planesText : Answer → List ℕ → List ℕ
 planesText answer bytes = cond (eqb (answer .number) accepted) (sumsText (sumsOf bytes)) dashes

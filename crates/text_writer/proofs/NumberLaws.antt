@@ -1,4 +1,4 @@
--- The fewest digits that can hold a number are the digits that it has; how many these are at most. Assumes nothing.
+-- The fewest digits that can hold a number are the digits that it has, and how many that is at most. Assumes nothing.
 use mathlib.Core.Bool.{Bool, true, false}
 use mathlib.Core.List.{List, [], _∷_, _++_}
 use mathlib.Core.Path.{_≡_, refl, ap}
@@ -53,7 +53,7 @@ within (suc n) number k h f = go (λ large k f. within n (number / 10) (suc k) (
 pub fewest : (number k : ℕ) → Fewest 10 1 number k → k ≡ digitCount number
 fewest number k f = within number number k (omega arith) f
 
--- ---- a number below 10 ^ k has at most k digits, and at least one
+-- ---- a number below 10 ^ (k + 1) has at most k + 1 digits
 count-within : (n number k : ℕ) → number < 10 ^ suc k → digitCountWithin n number ≤ suc k
 unfolding digitCountWithin
 count-within zero number k h = omega arith
@@ -75,12 +75,9 @@ pub signed-most : (k : ℕ) (number : ℤ) → natAbs number < 10 ^ suc k → le
 signed-most k (pos number) h = omega (arith, decimal-most k number h)
 signed-most k (negsuc number) h = omega (arith, decimal-most k (suc number) h)
 
--- a field has one byte more
-pub field-length : (number after : ℕ) → length (field number after) ≡ length (decimal number) + 1
-field-length number after = length-append (decimal number) (after ∷ [])
-
-pub signed-field-length : (number : ℤ) (after : ℕ) → length (signedField number after) ≡ length (signedDecimal number) + 1
-signed-field-length number after = length-append (signedDecimal number) (after ∷ [])
+-- a field has one byte more. A field of a natural number is that of the same integer
+pub field-length : (number : ℤ) (after : ℕ) → length (signedField number after) ≡ length (signedDecimal number) + 1
+field-length number after = length-append (signedDecimal number) (after ∷ [])
 
 -- a signed field by the number's sign
 pub field-below : (number : ℤ) (after : ℕ) → ltZ number (pos 0) ≡ true → signedField number after ≡ (minus ∷ []) ++ field (natAbs number) after
@@ -93,4 +90,4 @@ field-above (negsuc number) after e = absurd (omega (arith, tests))
 
 -- a 64-bit number has at most 20 digits
 pub field-most : (number after : ℕ) → number < 2 ^ 64 → length (field number after) ≤ fieldBytes
-field-most number after h = omega (arith, field-length number after, decimal-most 19 number (omega arith))
+field-most number after h = omega (arith, field-length (pos number) after, decimal-most 19 number (omega arith))

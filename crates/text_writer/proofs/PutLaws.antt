@@ -31,7 +31,7 @@ put-rest {at} {middle} {end} {one} {two} {before} {between} {after} p q = record
   lies = p .lies ∙ written-append at one two before ∙ rw (q .ends, q .lies) refl;
 }
 
--- a text that fits, written at the buffer's start: what a caller learns who takes `&text[..end]`
+-- a text that fits, written at the buffer's start: what a caller that takes `&text[..end]` must know
 pub put-whole : {text before : List ℕ} {end : ℕ} {after : List ℕ} → length text ≤ length before → Put 0 text before end after
     → Counts end after × ((end ≡ length text) × (after ≡ text ++ drop (length text) before))
 put-whole {text} {before} {end} {after} fits p =

@@ -27,7 +27,7 @@ digitCount number = digitCountWithin number number
 abbrev pub decimal : ℕ → List ℕ
 decimal number = digits 10 (digitCount number) number
 
--- a number that may be negative: the minus sign, and the number without it
+-- an integer in decimal: a negative one is a minus sign and its absolute value
 abbrev pub signedDecimal : ℤ → List ℕ
 signedDecimal (pos number) = decimal number
 signedDecimal (negsuc number) = minus ∷ decimal (suc number)
@@ -36,6 +36,7 @@ signedDecimal (negsuc number) = minus ∷ decimal (suc number)
 abbrev pub field : ℕ → ℕ → List ℕ
 field number after = decimal number ++ (after ∷ [])
 
+-- the same for an integer
 abbrev pub signedField : ℤ → ℕ → List ℕ
 signedField number after = signedDecimal number ++ (after ∷ [])
 

@@ -11,7 +11,7 @@ pub const SPACE: u8 = b' ';
 
 pub const LINE_END: u8 = b'\n';
 
-// The most digits of a number.
+// The most digits of a 64-bit number.
 const MAX_DIGITS: usize = 20;
 
 // The most bytes of a field: a number and the byte after it.

@@ -10,16 +10,20 @@ use Rattle.refusals.specs.Refusal.{accepted, numberOf}
 use Rattle.refusals.specs.declared.Refusal.the-variants.{NumberOutOfRange}
 use Rattle.math.proofs.Enumerates.{enumerates-as}
 use Rattle.decode_vectors.specs.Vector.{fOf, wrapped, vectorDifferenceOf, vectorOf, codeInRange, residualInRange, pastInRange, fCodeAndPastInRange, vectorEntryInRange, vectorNumber}
-use Rattle.text_writer.specs.Lines.{lineCount}
-use Rattle.text_writer.specs.Number.{digitCountWithin}
-use Rattle.text_writer.proofs.LineLaws.{count-joined}
+use Rattle.text_writer.specs.Number.{lineEnd, digitCountWithin}
+use Rattle.text_writer.specs.Occurrences.{lineCount}
+use Rattle.text_writer.proofs.OccurrenceLaws.{occurs-append, occurs-joined}
 use Rattle.vector_list.specs.Cases.{casesOf}
-use Rattle.vector_list.specs.Index.{legalCase, casesBefore, indexOf}
-use Rattle.vector_list.specs.List.{caseLine, caseLines}
+use Rattle.vector_list.specs.Index.{legalCase, casesBelowCode, indexOf}
+use Rattle.vector_list.specs.List.{caseLine, caseLines, vectorList}
 use Rattle.vector_list.specs.declared.VectorCase.{VectorCase}
 use Rattle.vector_list.proofs.CaseLaws as Case
-use Rattle.vector_list.proofs.LineLaws.{one-line}
-use Rattle.theorems.specs.Request11.{EveryLegalInput, EveryLegalCase, RisingOrder, CaseCount, LineCounts, Line, WorkedLines}
+use Rattle.vector_list.proofs.LineLaws.{one-line, line-apart}
+use Rattle.theorems.specs.Request11.{OneThenTwo, EveryAcceptedCase, EveryLegalCase, DifferentLines, RisingOrder, CaseCount, LineCounts, Line, WorkedLines}
+
+pub one-then-two : OneThenTwo
+unfolding vectorList
+one-then-two = refl
 
 pub every-legal-case : EveryLegalCase
 every-legal-case f = Case.enumerated f
@@ -33,9 +37,12 @@ accepts : (t : Bool) → cond t accepted (numberOf NumberOutOfRange) ≡ accepte
 accepts true e = refl
 accepts false e = absurd (omega arith)
 
-pub every-legal-input : EveryLegalInput
-every-legal-input fCode least most =
+pub every-accepted-case : EveryAcceptedCase
+every-accepted-case fCode least most =
     enumerates-as (λ c m. ap (λ (t : Bool). cond t accepted (numberOf NumberOutOfRange)) (entry-test fCode c least most ∙ m)) (λ c m. sym (entry-test fCode c least most) ∙ accepts _ m) (every-legal-case (fOf fCode))
+
+pub different-lines : DifferentLines
+different-lines = line-apart
 
 pub rising-order : RisingOrder
 rising-order f i j d h g =
@@ -48,13 +55,17 @@ case-count f = Case.cases-long f
 
 -- as many lines as cases
 lines : (fCode : ℕ) → lineCount (caseLines fCode (casesOf (fOf fCode))) ≡ length (casesOf (fOf fCode)) * 1
-lines fCode = count-joined (caseLine fCode) 1 (one-line fCode) (casesOf (fOf fCode))
+lines fCode = occurs-joined lineEnd (caseLine fCode) 1 (one-line fCode) (casesOf (fOf fCode))
 
 pub line-counts : LineCounts
 line-counts = record {
   one-each = one-line;
   f-code-1 = omega (arith, lines 1, case-count 1);
   f-code-2 = omega (arith, lines 2, case-count 2);
+  all =
+      ap lineCount one-then-two
+      ∙ occurs-append lineEnd (caseLines 1 (casesOf (fOf 1))) (caseLines 2 (casesOf (fOf 2)))
+      ∙ omega (arith, lines 1, case-count 1, lines 2, case-count 2);
 }
 
 -- a legal case is at its index
@@ -63,12 +74,14 @@ worked : (fCode : ℕ) (past code : ℤ) (residual : ℕ) → let c : VectorCase
 worked fCode past code residual m = record { case-is = λ d. every-legal-case (fOf fCode) .member-back _ d m; line-is = refl }
 
 pub worked-lines : WorkedLines
-unfolding indexOf casesBefore legalCase pastInRange codeInRange residualInRange caseLine digitCountWithin vectorEntryInRange fCodeAndPastInRange vectorOf vectorDifferenceOf wrapped
+unfolding indexOf casesBelowCode legalCase pastInRange codeInRange residualInRange caseLine digitCountWithin vectorEntryInRange fCodeAndPastInRange vectorOf vectorDifferenceOf wrapped
 worked-lines = record {
   first = worked 1 (negsuc 15) (negsuc 15) 0 refl;
   last-of-1 = worked 1 (pos 15) (pos 16) 0 refl;
+  first-of-2 = worked 2 (negsuc 31) (negsuc 15) 0 refl;
   before-code-0 = worked 2 (negsuc 31) (negsuc 0) 1 refl;
   at-code-0 = worked 2 (negsuc 31) (pos 0) 0 refl;
   after-code-0 = worked 2 (negsuc 31) (pos 1) 0 refl;
+  last-but-one = worked 2 (pos 31) (pos 16) 0 refl;
   last = worked 2 (pos 31) (pos 16) 1 refl;
 }

@@ -1,12 +1,12 @@
 -- The lines of an f_code are those of each past in turn, these are those of each code, and these a line for each residual. Assumes nothing.
 use mathlib.Core.List.{List}
 use mathlib.Core.Path.{_≡_, _∙_}
-use Prim.Native.Nat.{ℕ, _*_}
+use Prim.Native.Nat.{ℕ}
 use lib.IntN.{ℤ, pos, negsuc, _+ℤ_}
 use Rattle.math.specs.Joined.{joined}
 use Rattle.math.proofs.Joined.{joined-joined, blocks, joined-tab}
 use Rattle.decode_vectors.specs.Vector.{lowest}
-use Rattle.vector_list.specs.Cases.{pasts, codes, residualCount, casesOfCode, casesOfPast, casesOf}
+use Rattle.vector_list.specs.Cases.{pastCount, codeCount, residualCount, pasts, codes, casesOfCode, casesOfPast, casesOf}
 use Rattle.vector_list.specs.List.{caseLine, caseLines}
 
 abbrev pub residualLine : ℕ → ℤ → ℤ → ℕ → List ℕ
@@ -20,17 +20,17 @@ module _ (fCode f : ℕ) where
   abbrev pub codeLines : ℤ → ℕ → List ℕ
   codeLines past k = caseLines fCode (casesOfCode f past (negsuc 15 +ℤ pos k))
 
-  pub code-lines : (past : ℤ) → caseLines fCode (casesOfPast f past) ≡ blocks (codeLines past) 33
+  pub code-lines : (past : ℤ) → caseLines fCode (casesOfPast f past) ≡ blocks (codeLines past) codeCount
   unfolding casesOfPast
   code-lines past =
       joined-joined (caseLine fCode) (casesOfCode f past) codes
-      ∙ joined-tab (λ code. caseLines fCode (casesOfCode f past code)) 33 (λ k. negsuc 15 +ℤ pos k)
+      ∙ joined-tab (λ code. caseLines fCode (casesOfCode f past code)) codeCount (λ k. negsuc 15 +ℤ pos k)
 
   abbrev pub pastLines : ℕ → List ℕ
   pastLines k = caseLines fCode (casesOfPast f (lowest (pos f) +ℤ pos k))
 
-  pub past-lines : caseLines fCode (casesOf f) ≡ blocks pastLines (32 * f)
+  pub past-lines : caseLines fCode (casesOf f) ≡ blocks pastLines (pastCount f)
   unfolding casesOf
   past-lines =
       joined-joined (caseLine fCode) (casesOfPast f) (pasts f)
-      ∙ joined-tab (λ past. caseLines fCode (casesOfPast f past)) (32 * f) (λ k. lowest (pos f) +ℤ pos k)
+      ∙ joined-tab (λ past. caseLines fCode (casesOfPast f past)) (pastCount f) (λ k. lowest (pos f) +ℤ pos k)

@@ -9,62 +9,40 @@ use native.Mathlib.Numerals.{add-one}
 use native.Mathlib.Omega.{arith}
 use borrow.Author.Tests.{ltb-true, lt-ltb, le-ltb, ne-eqb}
 use lib.Dec.{eqb, ltb}
-use lib.IntN.{ℤ, pos, negsuc, negℤ, natAbs, _+ℤ_, _-ℤ_}
+use lib.IntN.{ℤ, pos, negsuc, _+ℤ_}
 use lib.ListN.{length, getD}
-use lib.Signed.{_≤ℤ_, _<ℤ_}
+use lib.Signed.{_≤ℤ_}
 use Rattle.math.specs.Bound.{Between}
 use Rattle.math.specs.Enumerates.{Enumerates}
 use Rattle.math.specs.Limit.{eqZ}
 use Rattle.math.specs.Tab.{tab}
-use Rattle.math.proofs.Difference.{up, dn, same-of, le-of, of-le, lt-of, parts-add, parts-neg}
+use Rattle.math.proofs.Difference.{same-of, le-of, of-le, parts-add}
 use Rattle.math.proofs.Enumerates.{enumerates-by, enumerates-blocks}
 use Rattle.math.proofs.Joined.{blocks, joined-tab, length-more, blocks-order, blocks-length}
 use Rattle.math.proofs.Limit.{range-between, between-range}
+use Rattle.math.proofs.Offset.{offset, offset-back, by-offset, offset-below, offset-inside, offset-less, offset-same}
 use Rattle.math.proofs.Tab.{tab-length, tab-at}
 use Rattle.math.proofs.Test.{both-true}
 use Rattle.decode_vectors.specs.Vector.{lowest, highest, codeInRange, residualInRange, pastInRange}
 use Rattle.decode_vectors.proofs.VectorLaws.{past-known}
 use Rattle.decode_vectors.proofs.WrapLaws.{Inside, lowest-parts, highest-parts}
-use Rattle.vector_list.specs.Cases.{residualCount, casesOfCode, casesOfPast, casesOf}
-use Rattle.vector_list.specs.Index.{legalCase, Before, by-past, by-code, by-residual, casesBefore, indexOf}
+use Rattle.vector_list.specs.Cases.{pastCount, codeCount, residualCount, casesOfCode, casesOfPast, casesOf}
+use Rattle.vector_list.specs.Index.{legalCase, Before, by-past, by-code, by-residual, casesBelowCode, indexOf}
 use Rattle.vector_list.specs.declared.VectorCase.{VectorCase}
 
--- ---- an integer by its offset from a lower one
-abbrev offset : ℤ → ℤ → ℕ
-offset low z = natAbs (z -ℤ low)
+-- the lowest code, and how far a case's past and code are from the lowest
+abbrev lowCode : ℤ
+lowCode = negsuc 15
 
-offset-back : (low : ℤ) (k : ℕ) → offset low (low +ℤ pos k) ≡ k
-offset-back low k = ap natAbs (same-of (low +ℤ pos k -ℤ low) (pos k) (omega (arith, parts-add low (pos k), parts-add (low +ℤ pos k) (negℤ low), parts-neg low)))
+abbrev pastOffset : ℕ → VectorCase → ℕ
+pastOffset f c = offset (lowest (pos f)) (c .past)
 
-by-offset : (low z : ℤ) → low ≤ℤ z → low +ℤ pos (offset low z) ≡ z
-by-offset low z h = go (z -ℤ low) refl
-  where
-    go : (d : ℤ) → z -ℤ low ≡ d → low +ℤ pos (natAbs d) ≡ z
-    go (pos k) e = same-of (low +ℤ pos k) z (omega (arith, parts-add low (pos k), parts-add z (negℤ low), parts-neg low, ap up e, ap dn e))
-    go (negsuc k) e = absurd (omega (arith, of-le h, parts-add z (negℤ low), parts-neg low, ap up e, ap dn e))
-
-offset-below : {n : ℕ} (low high z : ℤ) → high +ℤ pos 1 ≡ low +ℤ pos n → Between low high z → offset low z < n
-offset-below {n} low high z e b =
-    omega (arith, ap up e, ap dn e, of-le (b .lower), of-le (b .upper), parts-add high (pos 1), parts-add low (pos n), parts-add low (pos (offset low z)), ap up (by-offset low z (b .lower)), ap dn (by-offset low z (b .lower)))
-
-offset-inside : {n : ℕ} (low high : ℤ) (k : ℕ) → high +ℤ pos 1 ≡ low +ℤ pos n → k < n → Between low high (low +ℤ pos k)
-offset-inside {n} low high k e h = record {
-  lower = le-of low (low +ℤ pos k) (omega (arith, parts-add low (pos k)));
-  upper = le-of (low +ℤ pos k) high (omega (arith, ap up e, ap dn e, parts-add low (pos k), parts-add high (pos 1), parts-add low (pos n)));
-}
-
-offset-less : (low y z : ℤ) → low ≤ℤ y → low ≤ℤ z → offset low y < offset low z → y <ℤ z
-offset-less low y z h g less =
-    let by = by-offset low y h in
-    let bz = by-offset low z g in
-    lt-of y z (omega (arith, ap up by, ap dn by, ap up bz, ap dn bz, parts-add low (pos (offset low y)), parts-add low (pos (offset low z))))
-
-offset-same : (low y z : ℤ) → low ≤ℤ y → low ≤ℤ z → offset low y ≡ offset low z → y ≡ z
-offset-same low y z h g e = sym (by-offset low y h) ∙ ap (λ (k : ℕ). low +ℤ pos k) e ∙ by-offset low z g
+abbrev codeOffset : VectorCase → ℕ
+codeOffset c = offset lowCode (c .code)
 
 -- ---- legal cases
-past-end : (f : ℕ) → highest (pos f) +ℤ pos 1 ≡ lowest (pos f) +ℤ pos (32 * f)
-past-end f = same-of _ _ (omega (arith, lowest-parts f, highest-parts f, parts-add (highest (pos f)) (pos 1), parts-add (lowest (pos f)) (pos (32 * f))))
+past-end : (f : ℕ) → highest (pos f) +ℤ pos 1 ≡ lowest (pos f) +ℤ pos (pastCount f)
+past-end f = same-of _ _ (omega (arith, lowest-parts f, highest-parts f, parts-add (highest (pos f)) (pos 1), parts-add (lowest (pos f)) (pos (pastCount f))))
 
 -- a residual is legal exactly if it is among those that the code has
 residual-counted : (f : ℕ) (code : ℤ) (residual : ℕ) → residualInRange f code residual ≡ ltb residual (residualCount f code)
@@ -78,7 +56,7 @@ residual-counted f code residual = go (eqZ code (pos 0)) residual
 
 pub record Legal (f : ℕ) (c : VectorCase) : Type 0 where
   pub past-inside : Inside f (c .past)
-  pub code-inside : Between (negsuc 15) (pos 16) (c .code)
+  pub code-inside : Between lowCode (pos 16) (c .code)
   pub residual-inside : c .residual < residualCount f (c .code)
 
 pub legal-known : (f : ℕ) (c : VectorCase) → legalCase f c ≡ true → Legal f c
@@ -88,162 +66,169 @@ legal-known f c e =
     let first = both-true (pastInRange f (c .past)) (codeInRange (c .code)) (both .0) in
     record {
       past-inside = past-known f (c .past) (first .0);
-      code-inside = range-between (negsuc 15) (pos 16) (c .code) (first .1);
+      code-inside = range-between lowCode (pos 16) (c .code) (first .1);
       residual-inside = ltb-true (c .residual) (residualCount f (c .code)) (sym (residual-counted f (c .code) (c .residual)) ∙ both .1);
     }
 
 legal-if : (f : ℕ) (c : VectorCase) → Legal f c → legalCase f c ≡ true
 unfolding legalCase codeInRange pastInRange
 legal-if f c l =
-    ap₂ _&&_ (ap₂ _&&_ (between-range (l .past-inside)) (between-range (l .code-inside))) (residual-counted f (c .code) (c .residual) ∙ lt-ltb (c .residual) (residualCount f (c .code)) (l .residual-inside))
+    ap₂ _&&_ (ap₂ _&&_ (between-range (l .past-inside)) (between-range (l .code-inside)))
+    (residual-counted f (c .code) (c .residual) ∙ lt-ltb (c .residual) (residualCount f (c .code)) (l .residual-inside))
 
--- ---- the cases of one past and code
-module _ (f : ℕ) where
-  abbrev lowPast : ℤ
-  lowPast = lowest (pos f)
+-- the past and the code of a legal case, by their offsets
+by-past-offset : (f : ℕ) (c : VectorCase) → Legal f c → lowest (pos f) +ℤ pos (pastOffset f c) ≡ c .past
+by-past-offset f c l = by-offset (lowest (pos f)) (c .past) (l .past-inside .lower)
 
-  abbrev caseOf : ℕ → ℕ → ℕ → VectorCase
-  caseOf i j residual = record { past = lowPast +ℤ pos i; code = negsuc 15 +ℤ pos j; residual = residual }
+by-code-offset : (f : ℕ) (c : VectorCase) → Legal f c → lowCode +ℤ pos (codeOffset c) ≡ c .code
+by-code-offset f c l = by-offset lowCode (c .code) (l .code-inside .lower)
 
-  abbrev codeBlock : ℤ → ℕ → List VectorCase
-  codeBlock past j = casesOfCode f past (negsuc 15 +ℤ pos j)
+past-offset-below : (f : ℕ) (c : VectorCase) → Legal f c → pastOffset f c < pastCount f
+past-offset-below f c l = offset-below (lowest (pos f)) (highest (pos f)) (c .past) (past-end f) (l .past-inside)
 
-  abbrev OfPast : ℕ → VectorCase → Type 0
-  OfPast i c = (legalCase f c ≡ true) × (offset lowPast (c .past) ≡ i)
-
-  abbrev OfCode : ℕ → ℕ → VectorCase → Type 0
-  OfCode i j c = OfPast i c × (offset (negsuc 15) (c .code) ≡ j)
-
-  module _ (i j : ℕ) where
-    abbrev count : ℕ
-    count = residualCount f (negsuc 15 +ℤ pos j)
-
-    past-is : (c : VectorCase) → OfCode i j c → lowPast +ℤ pos i ≡ c .past
-    past-is c m = ap (λ (k : ℕ). lowPast +ℤ pos k) (sym (m .0 .1)) ∙ by-offset lowPast (c .past) (legal-known f c (m .0 .0) .past-inside .lower)
-
-    code-is : (c : VectorCase) → OfCode i j c → negsuc 15 +ℤ pos j ≡ c .code
-    code-is c m = ap (λ (k : ℕ). negsuc 15 +ℤ pos k) (sym (m .1)) ∙ by-offset (negsuc 15) (c .code) (legal-known f c (m .0 .0) .code-inside .lower)
-
-    below : (c : VectorCase) → OfCode i j c → c .residual < count
-    below c m = rw (code-is c m) (legal-known f c (m .0 .0) .residual-inside)
-
-    belongs : (residual : ℕ) → i < 32 * f → j < 33 → residual < count → OfCode i j (caseOf i j residual)
-    belongs residual h g below = (
-      (
-        legal-if f (caseOf i j residual) (record {
-          past-inside = offset-inside lowPast (highest (pos f)) i (past-end f) h;
-          code-inside = offset-inside (negsuc 15) (pos 16) j refl g;
-          residual-inside = below;
-        }),
-        offset-back lowPast i,
-      ),
-      offset-back (negsuc 15) j,
-    )
-
-    inside : (k : ℕ) → k < length (tab count (caseOf i j)) → k < count
-    inside k h = omega (arith, tab-length count (caseOf i j))
-
-    at : (k : ℕ) (d : VectorCase) → k < count → getD (tab count (caseOf i j)) k d ≡ caseOf i j k
-    at k d h = tab-at count (caseOf i j) k d h
-
-    of-code : i < 32 * f → j < 33 → Enumerates (OfCode i j) (λ c. c .residual) (codeBlock (lowPast +ℤ pos i) j)
-    unfolding casesOfCode
-    of-code h g = record {
-      member = λ k d l. rw (at k d (inside k l)) (belongs k h g (inside k l));
-      index-back = λ k d l. rw (at k d (inside k l));
-      inside = λ c m. omega (arith, tab-length count (caseOf i j), below c m);
-      member-back = λ c d m. at (c .residual) d (below c m) ∙ (λ t. record { past = past-is c m t; code = code-is c m t; residual = c .residual });
-    }
+code-offset-below : (f : ℕ) (c : VectorCase) → Legal f c → codeOffset c < codeCount
+code-offset-below f c l = offset-below lowCode (pos 16) (c .code) refl (l .code-inside)
 
 -- ---- how many cases come before a code
-before-positive : (f n : ℕ) → casesBefore f (pos (suc n)) ≡ (15 + suc n) * f + 1
-unfolding casesBefore
+before-positive : (f n : ℕ) → casesBelowCode f (pos (suc n)) ≡ (15 + suc n) * f + 1
+unfolding casesBelowCode
 before-positive f n = rw (lt-ltb 0 (suc n) (omega arith))
 
--- one code on: as many more as the code has
-before-next : (f : ℕ) (code : ℤ) → negsuc 15 ≤ℤ code → casesBefore f (code +ℤ pos 1) ≡ casesBefore f code + residualCount f code
-unfolding casesBefore residualCount
+-- before the next code there are as many more as the code has
+before-next : (f : ℕ) (code : ℤ) → lowCode ≤ℤ code → casesBelowCode f (code +ℤ pos 1) ≡ casesBelowCode f code + residualCount f code
+unfolding casesBelowCode residualCount
 before-next f (pos zero) h = refl
 before-next f (pos (suc n)) h =
     rw (add-one (suc n), ne-eqb (suc n) 0 (λ e. omega arith)) (omega (arith, before-positive f n, before-positive f (suc n)))
 before-next f (negsuc zero) h = omega arith
 before-next f (negsuc (suc n)) h =
-    let on : negsuc (suc n) +ℤ pos 1 ≡ negsuc n = same-of _ _ (omega (arith, parts-add (negsuc (suc n)) (pos 1))) in
+    let next : negsuc (suc n) +ℤ pos 1 ≡ negsuc n = same-of _ _ (omega (arith, parts-add (negsuc (suc n)) (pos 1))) in
     let fewer : 16 - suc n ≡ suc (16 - suc (suc n)) = omega (arith, of-le h) in
-    ap (casesBefore f) on ∙ ap (λ (k : ℕ). k * f) fewer ∙ suc-mul (16 - suc (suc n)) f
+    ap (casesBelowCode f) next ∙ ap (λ (k : ℕ). k * f) fewer ∙ suc-mul (16 - suc (suc n)) f
 
 module _ (f : ℕ) where
+  -- ---- the cases of one past and code, by the offsets of past and code
+  abbrev pastAt : ℕ → ℤ
+  pastAt i = lowest (pos f) +ℤ pos i
+
+  abbrev codeAt : ℕ → ℤ
+  codeAt j = lowCode +ℤ pos j
+
+  abbrev OfPast : ℕ → VectorCase → Type 0
+  OfPast i c = (legalCase f c ≡ true) × (pastOffset f c ≡ i)
+
+  abbrev OfCode : ℕ → ℕ → VectorCase → Type 0
+  OfCode i j c = OfPast i c × (codeOffset c ≡ j)
+
+  module _ (i j : ℕ) where
+    abbrev count : ℕ
+    count = residualCount f (codeAt j)
+
+    abbrev caseOf : ℕ → VectorCase
+    caseOf residual = record { past = pastAt i; code = codeAt j; residual = residual }
+
+    case-is : (c : VectorCase) → OfCode i j c → caseOf (c .residual) ≡ c
+    case-is c m =
+        let l = legal-known f c (m .0 .0) in
+        let past-is = ap pastAt (sym (m .0 .1)) ∙ by-past-offset f c l in
+        let code-is = ap codeAt (sym (m .1)) ∙ by-code-offset f c l in
+        (λ t. record { past = past-is t; code = code-is t; residual = c .residual })
+
+    below : (c : VectorCase) → OfCode i j c → c .residual < count
+    below c m = rw (ap (λ (c : VectorCase). c .code) (case-is c m)) (legal-known f c (m .0 .0) .residual-inside)
+
+    belongs : (residual : ℕ) → i < pastCount f → j < codeCount → residual < count → OfCode i j (caseOf residual)
+    belongs residual h g below =
+        let legal : Legal f (caseOf residual) = record {
+          past-inside = offset-inside (lowest (pos f)) (highest (pos f)) i (past-end f) h;
+          code-inside = offset-inside lowCode (pos 16) j refl g;
+          residual-inside = below;
+        } in
+        ((legal-if f (caseOf residual) legal, offset-back (lowest (pos f)) i), offset-back lowCode j)
+
+    inside : (k : ℕ) → k < length (tab count caseOf) → k < count
+    inside k h = omega (arith, tab-length count caseOf)
+
+    of-code : i < pastCount f → j < codeCount → Enumerates (OfCode i j) (λ c. c .residual) (casesOfCode f (pastAt i) (codeAt j))
+    unfolding casesOfCode
+    of-code h g = record {
+      member = λ k d l. rw (tab-at count caseOf k d (inside k l)) (belongs k h g (inside k l));
+      index-back = λ k d l. rw (tab-at count caseOf k d (inside k l));
+      inside = λ c m. omega (arith, tab-length count caseOf, below c m);
+      member-back = λ c d m. tab-at count caseOf (c .residual) d (below c m) ∙ case-is c m;
+    }
+
+  -- ---- the cases of one past
+  abbrev codeBlock : ℤ → ℕ → List VectorCase
+  codeBlock past j = casesOfCode f past (codeAt j)
+
   code-long : (past code : ℤ) → length (casesOfCode f past code) ≡ residualCount f code
   unfolding casesOfCode
   code-long past code = tab-length (residualCount f code) _
 
-  before : (past : ℤ) (j : ℕ) → length (blocks (codeBlock f past) j) ≡ casesBefore f (negsuc 15 +ℤ pos j)
-  unfolding casesBefore blocks
-  before past zero = omega arith
-  before past (suc j) =
-      let code = negsuc 15 +ℤ pos j in
-      let on : code +ℤ pos 1 ≡ negsuc 15 +ℤ pos (suc j) = same-of _ _ (omega (arith, parts-add (negsuc 15) (pos j), parts-add code (pos 1), parts-add (negsuc 15) (pos (suc j)))) in
-      length-more (codeBlock f past) j
-      ∙ ap₂ _+_ (before past j) (code-long past code)
-      ∙ sym (before-next f code (le-of (negsuc 15) code (omega (arith, parts-add (negsuc 15) (pos j)))))
-      ∙ ap (casesBefore f) on
+  before-code : (past : ℤ) (j : ℕ) → length (blocks (codeBlock past) j) ≡ casesBelowCode f (codeAt j)
+  unfolding casesBelowCode blocks
+  before-code past zero = omega arith
+  before-code past (suc j) =
+      let next : codeAt j +ℤ pos 1 ≡ codeAt (suc j) = same-of _ _ (omega (arith, parts-add lowCode (pos j), parts-add (codeAt j) (pos 1), parts-add lowCode (pos (suc j)))) in
+      length-more (codeBlock past) j
+      ∙ ap₂ _+_ (before-code past j) (code-long past (codeAt j))
+      ∙ sym (before-next f (codeAt j) (le-of lowCode (codeAt j) (omega (arith, parts-add lowCode (pos j)))))
+      ∙ ap (casesBelowCode f) next
 
-  -- ---- the cases of one past
-  past-blocks : (past : ℤ) → casesOfPast f past ≡ blocks (codeBlock f past) 33
+  before-case : (past : ℤ) (c : VectorCase) → Legal f c → length (blocks (codeBlock past) (codeOffset c)) ≡ casesBelowCode f (c .code)
+  before-case past c l = before-code past (codeOffset c) ∙ ap (casesBelowCode f) (by-code-offset f c l)
+
+  past-blocks : (past : ℤ) → casesOfPast f past ≡ blocks (codeBlock past) codeCount
   unfolding casesOfPast
-  past-blocks past = joined-tab (casesOfCode f past) 33 (λ j. negsuc 15 +ℤ pos j)
+  past-blocks past = joined-tab (casesOfCode f past) codeCount codeAt
 
   past-long : (past : ℤ) → length (casesOfPast f past) ≡ 32 * f + 1
-  unfolding casesBefore
-  past-long past = ap length (past-blocks past) ∙ before past 33
+  unfolding casesBelowCode
+  past-long past = ap length (past-blocks past) ∙ before-code past codeCount
 
-  of-past : (i : ℕ) → i < 32 * f → Enumerates (OfPast f i) (λ c. casesBefore f (c .code) + c .residual) (casesOfPast f (lowPast f +ℤ pos i))
-  of-past i h = rw (past-blocks (lowPast f +ℤ pos i)) (enumerates-by
-      (λ c m. ap (λ (n : ℕ). n + c .residual) (before (lowPast f +ℤ pos i) (codeOffset c) ∙ ap (casesBefore f) (by-offset (negsuc 15) (c .code) (code-inside c m .lower))))
-      (enumerates-blocks (codeBlock f (lowPast f +ℤ pos i)) 33 (OfPast f i) codeOffset (λ c. c .residual)
-      (λ c m. offset-below (negsuc 15) (pos 16) (c .code) refl (code-inside c m)) (λ j g. of-code f i j h g)))
-    where
-      codeOffset : VectorCase → ℕ
-      codeOffset c = offset (negsuc 15) (c .code)
+  -- a case's index among those of its past
+  abbrev withinPast : VectorCase → ℕ
+  withinPast c = casesBelowCode f (c .code) + c .residual
 
-      code-inside : (c : VectorCase) → OfPast f i c → Between (negsuc 15) (pos 16) (c .code)
-      code-inside c m = legal-known f c (m .0) .code-inside
+  of-past : (i : ℕ) → i < pastCount f → Enumerates (OfPast i) withinPast (casesOfPast f (pastAt i))
+  of-past i h = rw (past-blocks (pastAt i)) (enumerates-by
+      (λ c m. ap (λ (n : ℕ). n + c .residual) (before-case (pastAt i) c (legal-known f c (m .0))))
+      (enumerates-blocks (codeBlock (pastAt i)) codeCount (OfPast i) codeOffset (λ c. c .residual)
+      (λ c m. code-offset-below f c (legal-known f c (m .0))) (λ j g. of-code i j h g)))
 
   -- ---- all cases
   abbrev pastBlock : ℕ → List VectorCase
-  pastBlock i = casesOfPast f (lowPast f +ℤ pos i)
+  pastBlock i = casesOfPast f (pastAt i)
 
-  all-blocks : casesOf f ≡ blocks pastBlock (32 * f)
+  all-blocks : casesOf f ≡ blocks pastBlock (pastCount f)
   unfolding casesOf
-  all-blocks = joined-tab (casesOfPast f) (32 * f) (λ i. lowPast f +ℤ pos i)
+  all-blocks = joined-tab (casesOfPast f) (pastCount f) pastAt
 
   pasts-long : (i : ℕ) → length (blocks pastBlock i) ≡ i * (32 * f + 1)
-  pasts-long i = blocks-length pastBlock i (32 * f + 1) (λ k h. past-long (lowPast f +ℤ pos k))
+  pasts-long i = blocks-length pastBlock i (32 * f + 1) (λ k h. past-long (pastAt k))
 
   pub cases-long : length (casesOf f) ≡ 32 * f * (32 * f + 1)
-  cases-long = ap length all-blocks ∙ pasts-long (32 * f)
+  cases-long = ap length all-blocks ∙ pasts-long (pastCount f)
 
   pub enumerated : Enumerates (λ c. legalCase f c ≡ true) (indexOf f) (casesOf f)
   unfolding indexOf
-  enumerated = rw all-blocks (enumerates-by (λ c m. ap (λ (n : ℕ). n + (casesBefore f (c .code) + c .residual)) (pasts-long (offset (lowPast f) (c .past))))
-      (enumerates-blocks pastBlock (32 * f) (λ c. legalCase f c ≡ true) (λ c. offset (lowPast f) (c .past)) (λ c. casesBefore f (c .code) + c .residual)
-      (λ c m. offset-below (lowPast f) (highest (pos f)) (c .past) (past-end f) (legal-known f c m .past-inside)) of-past))
+  enumerated = rw all-blocks (enumerates-by
+      (λ c m. ap (λ (n : ℕ). n + withinPast c) (pasts-long (pastOffset f c)))
+      (enumerates-blocks pastBlock (pastCount f) (λ c. legalCase f c ≡ true) (pastOffset f) withinPast (λ c m. past-offset-below f c (legal-known f c m)) of-past))
 
   -- ---- the order
-  code-before : (c : VectorCase) → Legal f c → casesBefore f (c .code) ≡ length (blocks (codeBlock f (lowPast f)) (offset (negsuc 15) (c .code)))
-  code-before c l = sym (before (lowPast f) (offset (negsuc 15) (c .code)) ∙ ap (casesBefore f) (by-offset (negsuc 15) (c .code) (l .code-inside .lower)))
+  residual-short : (c : VectorCase) → Legal f c → c .residual < length (codeBlock (pastAt 0) (codeOffset c))
+  residual-short c l = rw (code-long (pastAt 0) (codeAt (codeOffset c)), by-code-offset f c l) (l .residual-inside)
 
-  residual-short : (c : VectorCase) → Legal f c → c .residual < length (codeBlock f (lowPast f) (offset (negsuc 15) (c .code)))
-  residual-short c l = rw (code-long (lowPast f) (negsuc 15 +ℤ pos (offset (negsuc 15) (c .code))), by-offset (negsuc 15) (c .code) (l .code-inside .lower)) (l .residual-inside)
-
-  within-short : (c : VectorCase) → legalCase f c ≡ true → casesBefore f (c .code) + c .residual < length (pastBlock (offset (lowPast f) (c .past)))
-  within-short c m = of-past (offset (lowPast f) (c .past)) (offset-below (lowPast f) (highest (pos f)) (c .past) (past-end f) (legal-known f c m .past-inside)) .inside c (m, refl)
+  within-short : (c : VectorCase) → legalCase f c ≡ true → withinPast c < length (pastBlock (pastOffset f c))
+  within-short c m = of-past (pastOffset f c) (past-offset-below f c (legal-known f c m)) .inside c (m, refl)
 
   pub in-order : (a b : VectorCase) → legalCase f a ≡ true → legalCase f b ≡ true → indexOf f a < indexOf f b → Before a b
   unfolding indexOf
   in-order a b ma mb h =
-      by-pasts (blocks-order pastBlock (offset (lowPast f) (a .past)) (offset (lowPast f) (b .past)) (casesBefore f (a .code) + a .residual) (casesBefore f (b .code) + b .residual)
-      (within-short a ma) (within-short b mb) (rw (pasts-long (offset (lowPast f) (a .past)), pasts-long (offset (lowPast f) (b .past))) h))
+      by-pasts (blocks-order pastBlock (pastOffset f a) (pastOffset f b) (withinPast a) (withinPast b) (within-short a ma) (within-short b mb)
+      (rw (pasts-long (pastOffset f a), pasts-long (pastOffset f b)) h))
     where
       la : Legal f a
       la = legal-known f a ma
@@ -251,13 +236,13 @@ module _ (f : ℕ) where
       lb : Legal f b
       lb = legal-known f b mb
 
-      by-codes : a .past ≡ b .past → (offset (negsuc 15) (a .code) < offset (negsuc 15) (b .code)) ⊎ ((offset (negsuc 15) (a .code) ≡ offset (negsuc 15) (b .code)) × (a .residual < b .residual)) → Before a b
-      by-codes same (inl less) = by-code same (offset-less (negsuc 15) (a .code) (b .code) (la .code-inside .lower) (lb .code-inside .lower) less)
-      by-codes same (inr rest) = by-residual same (offset-same (negsuc 15) (a .code) (b .code) (la .code-inside .lower) (lb .code-inside .lower) (rest .0)) (rest .1)
+      by-codes : a .past ≡ b .past → (codeOffset a < codeOffset b) ⊎ ((codeOffset a ≡ codeOffset b) × (a .residual < b .residual)) → Before a b
+      by-codes same (inl less) = by-code same (offset-less lowCode (a .code) (b .code) (la .code-inside .lower) (lb .code-inside .lower) less)
+      by-codes same (inr rest) = by-residual same (offset-same lowCode (a .code) (b .code) (la .code-inside .lower) (lb .code-inside .lower) (rest .0)) (rest .1)
 
-      by-pasts : (offset (lowPast f) (a .past) < offset (lowPast f) (b .past)) ⊎ ((offset (lowPast f) (a .past) ≡ offset (lowPast f) (b .past)) × (casesBefore f (a .code) + a .residual < casesBefore f (b .code) + b .residual)) → Before a b
-      by-pasts (inl less) = by-past (offset-less (lowPast f) (a .past) (b .past) (la .past-inside .lower) (lb .past-inside .lower) less)
+      by-pasts : (pastOffset f a < pastOffset f b) ⊎ ((pastOffset f a ≡ pastOffset f b) × (withinPast a < withinPast b)) → Before a b
+      by-pasts (inl less) = by-past (offset-less (lowest (pos f)) (a .past) (b .past) (la .past-inside .lower) (lb .past-inside .lower) less)
       by-pasts (inr rest) =
-          by-codes (offset-same (lowPast f) (a .past) (b .past) (la .past-inside .lower) (lb .past-inside .lower) (rest .0))
-          (blocks-order (codeBlock f (lowPast f)) (offset (negsuc 15) (a .code)) (offset (negsuc 15) (b .code)) (a .residual) (b .residual) (residual-short a la) (residual-short b lb)
-          (rw (← code-before a la, ← code-before b lb) (rest .1)))
+          by-codes (offset-same (lowest (pos f)) (a .past) (b .past) (la .past-inside .lower) (lb .past-inside .lower) (rest .0))
+          (blocks-order (codeBlock (pastAt 0)) (codeOffset a) (codeOffset b) (a .residual) (b .residual) (residual-short a la) (residual-short b lb)
+          (rw (before-case (pastAt 0) a la, before-case (pastAt 0) b lb) (rest .1)))

@@ -1,10 +1,10 @@
--- How long a line is, and the whole list. Assumes nothing.
+-- How long a line and the whole list are at most, that each case has one line, and that no two lines are the same. Assumes nothing.
 use mathlib.Core.Bool.{true}
-use mathlib.Core.List.{List, _++_}
-use mathlib.Core.Path.{_≡_}
+use mathlib.Core.List.{List, [], _∷_, _++_}
+use mathlib.Core.Path.{_≡_, ap}
 use Prim.Native.Nat.{ℕ, _+_, _*_, _≤_, _<_}
 use native.Mathlib.Omega.{arith}
-use lib.IntN.{ℤ, pos}
+use lib.IntN.{ℤ, pos, natAbs}
 use lib.ListN.{length, getD, length-append}
 use Rattle.math.specs.Bound.{Within}
 use Rattle.math.specs.Limit.{eqZ}
@@ -14,10 +14,11 @@ use Rattle.math.proofs.Test.{by-test}
 use Rattle.decode_vectors.specs.Vector.{fOf, vectorOf, vectorEntryInRange, vectorValue}
 use Rattle.decode_vectors.proofs.VectorLaws.{past-known, vectors-in-range}
 use Rattle.decode_vectors.proofs.WrapLaws.{inside-most}
-use Rattle.text_writer.specs.Lines.{lineCount}
 use Rattle.text_writer.specs.Number.{space, lineEnd, field, signedField}
-use Rattle.text_writer.proofs.LineLaws.{count-append, field-count, signed-field-count}
-use Rattle.text_writer.proofs.NumberLaws.{decimal-most, signed-most, field-length, signed-field-length}
+use Rattle.text_writer.specs.Occurrences.{occurrences, lineCount}
+use Rattle.text_writer.proofs.DistinctLaws.{fields-apart}
+use Rattle.text_writer.proofs.NumberLaws.{decimal-most, signed-most, field-length}
+use Rattle.text_writer.proofs.OccurrenceLaws.{occurs-append, field-occurs}
 use Rattle.vector_list.specs.Cases.{residualCount, casesOf}
 use Rattle.vector_list.specs.Index.{legalCase}
 use Rattle.vector_list.specs.List.{caseLine, caseLines, vectorList}
@@ -26,16 +27,11 @@ use Rattle.vector_list.specs.declared.VectorCase.{VectorCase}
 
 -- what adds up over the parts of a text, such as its length, adds up over the fields of a line
 module _ (measure : List ℕ → ℕ) (add : (l m : List ℕ) → measure (l ++ m) ≡ measure l + measure m) where
-  five-parts : (a b c d e : List ℕ) → measure (a ++ (b ++ (c ++ (d ++ e)))) ≡ measure a + measure b + measure c + measure d + measure e
-  five-parts a b c d e = omega (arith, add a (b ++ (c ++ (d ++ e))), add b (c ++ (d ++ e)), add c (d ++ e), add d e)
-
   line-parts : (fCode : ℕ) (case : VectorCase) → measure (caseLine fCode case)
       ≡ measure (field fCode space) + measure (signedField (case .past) space) + measure (signedField (case .code) space) + measure (field (case .residual) space)
       + measure (signedField (vectorValue fCode (case .past) (case .code) (case .residual)) lineEnd)
   unfolding caseLine
-  line-parts fCode case =
-      five-parts (field fCode space) (signedField (case .past) space) (signedField (case .code) space) (field (case .residual) space)
-      (signedField (vectorValue fCode (case .past) (case .code) (case .residual)) lineEnd)
+  line-parts fCode case = simp add (omega arith)
 
 pub line-long : (fCode : ℕ) (case : VectorCase) → length (caseLine fCode case)
     ≡ length (field fCode space) + length (signedField (case .past) space) + length (signedField (case .code) space) + length (field (case .residual) space)
@@ -44,18 +40,33 @@ line-long = line-parts length length-append
 
 -- ---- each case has one line
 pub one-line : (fCode : ℕ) (case : VectorCase) → lineCount (caseLine fCode case) ≡ 1
-unfolding lineCount
+unfolding occurrences
 one-line fCode case =
-    let vector = vectorValue fCode (case .past) (case .code) (case .residual) in
     omega (
       arith,
-      line-parts lineCount count-append fCode case,
-      field-count fCode space,
-      signed-field-count (case .past) space,
-      signed-field-count (case .code) space,
-      field-count (case .residual) space,
-      signed-field-count vector lineEnd,
+      line-parts lineCount (occurs-append lineEnd) fCode case,
+      line-feeds (pos fCode) space,
+      line-feeds (case .past) space,
+      line-feeds (case .code) space,
+      line-feeds (pos (case .residual)) space,
+      line-feeds (vectorValue fCode (case .past) (case .code) (case .residual)) lineEnd,
     )
+  where
+    line-feeds : (number : ℤ) (after : ℕ) → lineCount (signedField number after) ≡ lineCount (after ∷ [])
+    line-feeds = field-occurs lineEnd (omega arith) (λ e. omega arith)
+
+-- ---- a line tells its f_code and its case
+space-apart : (m n : ℤ) (r q : List ℕ) → signedField m space ++ r ≡ signedField n space ++ q → (m ≡ n) × (r ≡ q)
+space-apart m n r q = fields-apart m n space r q (omega arith) (λ e. omega arith)
+
+pub line-apart : (f g : ℕ) (a b : VectorCase) → caseLine f a ≡ caseLine g b → (f ≡ g) × (a ≡ b)
+unfolding caseLine
+line-apart f g a b e =
+    let f-codes = space-apart (pos f) (pos g) _ _ e in
+    let pasts = space-apart (a .past) (b .past) _ _ (f-codes .1) in
+    let codes = space-apart (a .code) (b .code) _ _ (pasts .1) in
+    let residuals = space-apart (pos (a .residual)) (pos (b .residual)) _ _ (codes .1) in
+    (ap natAbs (f-codes .0), λ i. record { past = pasts .0 i; code = codes .0 i; residual = natAbs (residuals .0 i) })
 
 -- ---- an f_code of one digit and a small f give a short line
 vector-most : (fCode : ℕ) (past code : ℤ) (residual : ℕ) → Within (16 * fOf fCode) (vectorValue fCode past code residual)
@@ -77,11 +88,11 @@ line-most fCode case digit few m =
     omega (
       arith,
       line-long fCode case,
-      field-length fCode space,
-      signed-field-length (case .past) space,
-      signed-field-length (case .code) space,
-      field-length (case .residual) space,
-      signed-field-length vector lineEnd,
+      field-length (pos fCode) space,
+      field-length (case .past) space,
+      field-length (case .code) space,
+      field-length (pos (case .residual)) space,
+      field-length vector lineEnd,
       decimal-most 0 fCode (omega arith),
       signed-most 1 (case .past) (omega (arith, inside-most f (case .past) (legal .past-inside) .within)),
       signed-most 1 (case .code) (omega (arith, within-both (legal .code-inside .lower) (legal .code-inside .upper) .within)),

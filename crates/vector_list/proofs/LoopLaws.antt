@@ -1,19 +1,20 @@
 -- A loop over integers that writes a block of text for each. Assumes nothing.
 use mathlib.Core.Bool.{true, false}
 use mathlib.Core.List.{List}
-use mathlib.Core.Path.{_≡_, refl, ap, sym, _∙_}
-use Prim.Native.Nat.{ℕ, _+_, _-_, _≤_, _<_}
+use mathlib.Core.Path.{_≡_, ap, _∙_}
+use Prim.Native.Nat.{ℕ, _+_, _≤_, _<_}
 use native.Mathlib.Omega.{arith}
-use lib.IntN.{ℤ, pos, natAbs, negℤ, _+ℤ_, _-ℤ_}
+use lib.IntN.{ℤ, pos, natAbs, _+ℤ_, _-ℤ_}
 use lib.Signed.{ltZ}
 use mir.Syntax.{w32}
-use mir.Val.{SFits, toZ, ofZ}
+use mir.Val.{toZ, ofZ}
 use Rattle.math.specs.Bound.{Within}
-use Rattle.math.proofs.Bound.{within-add, abs-parts}
+use Rattle.math.proofs.Bound.{within-add}
 use Rattle.math.proofs.Compare.{lt-true, lt-false}
-use Rattle.math.proofs.Difference.{up, dn, same-of, parts-add, parts-neg}
+use Rattle.math.proofs.Difference.{same-of, parts-add}
 use Rattle.math.proofs.Joined.{blocks}
-use Rattle.math.proofs.Machine.{Held, variable, literal, fits, kept, _⊞_}
+use Rattle.math.proofs.Machine.{Held, variable, literal, kept, _⊞_}
+use Rattle.math.proofs.Offset.{offset-left}
 use Rattle.text_writer.proofs.PutLaws.{Put, PutBlocks, put-none, put-block, put-all}
 
 -- few integers, all small, so that nothing overflows
@@ -26,9 +27,6 @@ pub record PutFrom (low : ℤ) (n : ℕ) (block : ℕ → List ℕ) (at : ℕ) (
   pub k : ℕ
   pub here : bits ≡ ofZ w32 (low +ℤ pos k)
   pub done : PutBlocks block n at before k end after
-
-left : (low : ℤ) (n k : ℕ) → k ≤ n → low +ℤ pos n -ℤ (low +ℤ pos k) ≡ pos (n - k)
-left low n k h = same-of _ _ (omega (arith, parts-add low (pos n), parts-add low (pos k), parts-neg (low +ℤ pos k), parts-add (low +ℤ pos n) (negℤ (low +ℤ pos k))))
 
 pub from-none : {low : ℤ} {n : ℕ} {block : ℕ → List ℕ} {at : ℕ} {before : List ℕ} {bits : ℕ} → bits ≡ ofZ w32 low → PutFrom low n block at before bits at before
 from-none {low} e = record { k = 0; here = e ∙ ap (ofZ w32) (same-of low (low +ℤ pos 0) (omega (arith, parts-add low (pos 0)))); done = put-none }
@@ -56,4 +54,4 @@ module _ {low : ℤ} {n : ℕ} {block : ℕ → List ℕ} {at : ℕ} {before : L
 
   -- the measure falls
   pub from-less : {high : ℤ} → low +ℤ pos n ≡ high → p .k < n → natAbs (high -ℤ toZ w32 (ofZ w32 (next-is .raw))) < natAbs (high -ℤ here-is .raw)
-  from-less e h = rw (kept w32 next-is tt .is, here-is .is, ← e, one-on, left low n (p .k + 1) (omega arith), left low n (p .k) (omega arith)) (omega arith)
+  from-less e h = rw (kept w32 next-is tt .is, here-is .is, ← e, one-on, offset-left low n (p .k + 1) (omega arith), offset-left low n (p .k) (omega arith)) (omega arith)

@@ -13,6 +13,7 @@ caseLine fCode c =
     field fCode space ++ (signedField (c .past) space ++ (signedField (c .code) space
     ++ (field (c .residual) space ++ signedField (vectorValue fCode (c .past) (c .code) (c .residual)) lineEnd)))
 
+-- the lines of several cases
 abbrev pub caseLines : ℕ → List VectorCase → List ℕ
 caseLines fCode cases = joined (caseLine fCode) cases
 

@@ -12,16 +12,16 @@ use decode_vectors::vector;
 use text_writer::LINE_END;
 use text_writer::SPACE;
 
-// The most bytes of a line, as in `2 -32 -16 0 -16`.
+// The most bytes of a line, as in `2 -13 -10 0 -32` and its line feed.
 const LINE_BYTES: usize = 16;
 
 // The lines of f_code 1 and of f_code 2.
 const LINES: usize = 1056 + 4160;
 
 // The length of the buffer that is needed.
-pub const LIST_BYTES: usize = LINE_BYTES * LINES;
+pub const VECTOR_LIST_BYTES: usize = LINE_BYTES * LINES;
 
-// An input of the vector entry, apart from the f_code.
+// An input of the vector entry without its f_code, legal or not.
 pub struct VectorCase {
     pub past: i32,
     pub code: i32,
@@ -52,8 +52,8 @@ fn put_case(text: &mut [u8], at: usize, f_code: u32, case: VectorCase) -> usize
     text_writer::put_signed_field(text, residual_end, answer.vector, LINE_END)
 }
 
-// Writes the lines of one past and code, residual rising.
-fn put_residuals(text: &mut [u8], at: usize, f_code: u32, past: i32, code: i32) -> usize
+// Writes the lines of one past and code: residual rising.
+fn put_cases_of_code(text: &mut [u8], at: usize, f_code: u32, past: i32, code: i32) -> usize
     requires { ⌜ (1 ≤ «f_code») × («f_code» ≤ 7) ⌝ }
     requires { ⌜ at + length (caseLines «f_code» (casesOfCode (fOf «f_code») past code)) ≤ length (now text) ⌝ }
     ensures { λ r. ⌜ r ≡ at + length (caseLines «f_code» (casesOfCode (fOf «f_code») past code)) ⌝ }
@@ -77,8 +77,8 @@ fn put_residuals(text: &mut [u8], at: usize, f_code: u32, past: i32, code: i32) 
     end
 }
 
-// Writes the lines of one past, code rising.
-fn put_codes(text: &mut [u8], at: usize, f_code: u32, past: i32) -> usize
+// Writes the lines of one past: code rising.
+fn put_cases_of_past(text: &mut [u8], at: usize, f_code: u32, past: i32) -> usize
     requires { ⌜ (1 ≤ «f_code») × («f_code» ≤ 7) ⌝ }
     requires { ⌜ at + length (caseLines «f_code» (casesOfPast (fOf «f_code») past)) ≤ length (now text) ⌝ }
     ensures { λ r. ⌜ r ≡ at + length (caseLines «f_code» (casesOfPast (fOf «f_code») past)) ⌝ }
@@ -86,13 +86,13 @@ fn put_codes(text: &mut [u8], at: usize, f_code: u32, past: i32) -> usize
 {
     let mut end = at;
     for code in -16..17 {
-        end = put_residuals(text, end, f_code, past, code);
+        end = put_cases_of_code(text, end, f_code, past, code);
     }
     end
 }
 
-// Writes the lines of an f_code, past rising.
-fn put_pasts(text: &mut [u8], at: usize, f_code: u32) -> usize
+// Writes the lines of an f_code: past rising.
+fn put_cases(text: &mut [u8], at: usize, f_code: u32) -> usize
     requires { ⌜ (1 ≤ «f_code») × («f_code» ≤ 7) ⌝ }
     requires { ⌜ at + length (caseLines «f_code» (casesOf (fOf «f_code»))) ≤ length (now text) ⌝ }
     ensures { λ r. ⌜ r ≡ at + length (caseLines «f_code» (casesOf (fOf «f_code»))) ⌝ }
@@ -101,18 +101,18 @@ fn put_pasts(text: &mut [u8], at: usize, f_code: u32) -> usize
     let f = vector::f_of_code(f_code) as i32;
     let mut end = at;
     for past in -(16 * f)..16 * f {
-        end = put_codes(text, end, f_code, past);
+        end = put_cases_of_past(text, end, f_code, past);
     }
     end
 }
 
 // Writes the list at the text's start and returns its length; the rest of the buffer stays. The contract first says that it fits,
 // since callers take `&text[..r]`.
-pub fn list_vectors(text: &mut [u8; LIST_BYTES]) -> usize
+pub fn list_vectors(text: &mut [u8; VECTOR_LIST_BYTES]) -> usize
     ensures { λ r. ⌜ Counts r (now (text .exit)) ⌝ }
     ensures { λ r. ⌜ r ≡ length vectorList ⌝ }
     ensures { λ _. ⌜ now (text .exit) ≡ vectorList ++ drop (length vectorList) (now (text .entry)) ⌝ }
 {
-    let first_end = put_pasts(text, 0, 1);
-    put_pasts(text, first_end, 2)
+    let first_end = put_cases(text, 0, 1);
+    put_cases(text, first_end, 2)
 }

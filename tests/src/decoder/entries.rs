@@ -47,6 +47,9 @@ pub type Reconstruct = fn(&[u8], &[u8], &[u8], &mut [u8]) -> Answer;
 /// Transforms 64 coefficients, row by row.
 pub type Transform = fn(&[i16; 64]) -> (u32, Transformed);
 
+/// Decodes a component of a vector, given an f_code, a past, a code and a residual.
+pub type DecodeVector = fn(i32, i32, i32, i32) -> (u32, i32);
+
 /// Encodes a component of a vector, given an f_code, a past and the wanted vector.
 pub type EncodeVector = fn(i32, i32, i32) -> (u32, EncodedVector);
 
@@ -60,7 +63,7 @@ pub struct Entries {
     pub transform: Transform,
     pub intra_coefficient: fn(i32, i32, i32) -> (u32, i16),
     pub non_intra_coefficient: fn(i32, i32, i32) -> (u32, i16),
-    pub vector: fn(i32, i32, i32, i32) -> (u32, i32),
+    pub vector: DecodeVector,
     pub encode_vector: EncodeVector,
     pub show_record: fn(&[u8], usize) -> (u32, Shown),
     pub read_slice: ReadSlice,

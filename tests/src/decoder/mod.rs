@@ -1,5 +1,5 @@
-//! A second decoder of Format 3, to compare with: written for clarity, not speed, from document 01 and requests No. 1, 4, 6 and
-//! 12 alone, and for raw slices from request No. 2 and Annex B. Each module follows one heading, and each function one sentence,
+//! A second decoder of Format 3, to compare with: written for clarity, not speed, from document 01 and requests No. 1, 4, 6, 11
+//! and 12 alone, and for raw slices from request No. 2 and Annex B. Each module follows one heading, and each function one sentence,
 //! which its comment quotes.
 
 pub mod annex_b;
@@ -14,11 +14,12 @@ pub mod refusals;
 pub mod size;
 pub mod slice;
 pub mod transform;
+pub mod vector_list;
 pub mod vectors;
 
 pub use entries::{
-    EncodeVector, EncodedVector, Entries, FileStart, ReadHeader, Reconstruct, Transform,
-    Transformed, ENTRIES,
+    DecodeVector, EncodeVector, EncodedVector, Entries, FileStart, ReadHeader, Reconstruct,
+    Transform, Transformed, ENTRIES,
 };
 pub use picture::{reconstruct, reconstruct_small, reconstruct_within};
 pub use refusals::Answer;

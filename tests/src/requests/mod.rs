@@ -57,6 +57,10 @@ pub const LANDED: &[Landed] = &[
         ],
     },
     Landed {
+        request: 11,
+        files: &[],
+    },
+    Landed {
         request: 12,
         files: &[RequestFile {
             name: "no12.txt",

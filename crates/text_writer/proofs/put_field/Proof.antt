@@ -2,6 +2,7 @@
 use mathlib.Core.Path.{_≡_, ap, _∙_}
 use Prim.Native.Nat.{ℕ, _+_, _≤_}
 use native.Mathlib.Omega.{arith}
+use lib.IntN.{pos}
 use lib.ListN.{length, take}
 use Rattle.io.specs.Digits.{digits}
 use borrow.Author.Needs.{needs}
@@ -19,7 +20,7 @@ digits-are c =
 
 -- they fit the text, with one byte after them
 digits-fit : (c : tie.After-decimal) → let s = c .before .before .before in s .args .at + length (take (c .decimal .result) (c .decimal .last .1 .0)) + 1 ≤ length (s .args .text .now)
-digits-fit c = let s = c .before .before .before in omega (arith, s .pre, ap length (digits-are c), field-length (s .args .number) (s .args .after))
+digits-fit c = let s = c .before .before .before in omega (arith, s .pre, ap length (digits-are c), field-length (pos (s .args .number)) (s .args .after))
 
 decimal-requires : tie.Need-decimal-requires
 decimal-requires c κs = search needs

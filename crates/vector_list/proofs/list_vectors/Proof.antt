@@ -14,18 +14,18 @@ list-long : length vectorList ≡ length (caseLines 1 (casesOf 1)) + length (cas
 unfolding vectorList
 list-long = length-append (caseLines 1 (casesOf 1)) (caseLines 2 (casesOf 2))
 
-put-pasts-requires : tie.Need-put-pasts-requires
-put-pasts-requires c κs = ((omega arith, omega arith), omega (arith, list-long, list-fits))
+put-cases-requires : tie.Need-put-cases-requires
+put-cases-requires c κs = ((omega arith, omega arith), omega (arith, list-long, list-fits))
 
-put-pasts-requires-2 : tie.Need-put-pasts-requires-2
-put-pasts-requires-2 c κs = ((omega arith, omega arith), omega (arith, list-long, list-fits))
+put-cases-requires-2 : tie.Need-put-cases-requires-2
+put-cases-requires-2 c κs = ((omega arith, omega arith), omega (arith, list-long, list-fits))
 
 returns : tie.Need-returns
 unfolding vectorList
 returns c =
-    let one = c .before .before .put-pasts .ensures in
-    let two = c .put-pasts2 .ensures in
+    let one = c .before .before .put-cases .ensures in
+    let two = c .put-cases2 .ensures in
     put-whole (omega (arith, list-fits)) (put-then (put (one .0) (one .1)) (put (two .0) (two .1)))
 
 pub list-vectors-spec : {M : Type 1} → statement M
-list-vectors-spec = tie.close (tie.spec put-pasts-requires put-pasts-requires-2 returns)
+list-vectors-spec = tie.close (tie.spec put-cases-requires put-cases-requires-2 returns)

@@ -32,7 +32,9 @@ vector-is c =
 fits : (c : tie.After-decode-vector) → let a = c .before .before .before .before .args in
     a .at + (length (field (a .f-code) space) + length (signedField (toZ w32 (ofZ w32 (a .case .past))) space) + length (signedField (toZ w32 (ofZ w32 (a .case .code))) space)
     + length (field (a .case .residual) space) + length (signedField (c .decode-vector .result .vector) lineEnd)) ≤ length (a .text .now)
-fits c = let s = c .before .before .before .before in rw (past-is (c .before), code-is (c .before), vector-is c, ← line-long (s .args .f-code) (s .args .case)) (s .pre)
+fits c =
+    let s = c .before .before .before .before in
+    rw (past-is (c .before), code-is (c .before), vector-is c, ← line-long (s .args .f-code) (s .args .case)) (s .pre)
 
 decode-vector-requires : tie.Need-decode-vector-requires
 decode-vector-requires c κs = search needs
@@ -53,7 +55,9 @@ put-field-requires-2 : tie.Need-put-field-requires-2
 put-field-requires-2 c κs = omega (arith, fits (c .before .before .before .before .before .before .before .before .before .before .before .before .before .before .before .before))
 
 put-signed-field-requires-3 : tie.Need-put-signed-field-requires-3
-put-signed-field-requires-3 c κs = rw (toZ-ofZ w32 _ (record { sfits = c .struct-told5 .given .1 .0 .1 })) (omega (arith, fits (c .before .before .before .before .before .before .before .before .before .before .before .before .before .before .before .before .before .before .before .before .before)))
+put-signed-field-requires-3 c κs =
+    rw (toZ-ofZ w32 _ (record { sfits = c .struct-told5 .given .1 .0 .1 }))
+    (omega (arith, fits (c .before .before .before .before .before .before .before .before .before .before .before .before .before .before .before .before .before .before .before .before .before)))
 
 same-length : tie.Need-same-length
 same-length c = search needs
@@ -61,14 +65,18 @@ same-length c = search needs
 returns : tie.Need-returns
 unfolding caseLine
 returns c =
-    let at-vector = c .before .before .before .before .before .before .before .before .before .before .before .before .before .before .before .before .before .before .before .before .before .before .before .before in
-    let one = c .before .before .before .before .before .before .before .before .before .before .before .before .before .before .before .before .before .before .before .before .before .before .put-field .ensures in
-    let two = c .before .before .before .before .before .before .before .before .before .before .before .before .before .before .before .before .before .put-signed-field .ensures in
-    let three = c .before .before .before .before .before .before .before .before .before .before .before .before .put-signed-field2 .ensures in
-    let four = c .before .before .before .before .before .before .before .put-field2 .ensures in
-    let five = c .before .before .put-signed-field3 .ensures in
-    let whole = put-then (put (one .0) (one .1)) (put-then (put (two .0) (two .1)) (put-then (put (three .0) (three .1)) (put-then (put (four .0) (four .1)) (put (five .0) (five .1))))) in
-    let line = rw (past-is (at-vector .before), code-is (at-vector .before), toZ-ofZ w32 (at-vector .decode-vector .result .vector) (record { sfits = c .before .before .before .struct-told5 .given .1 .0 .1 }), vector-is at-vector) at whole in
+    let five = c .before .before in
+    let four = five .before .before .before .before .before in
+    let three = four .before .before .before .before .before in
+    let two = three .before .before .before .before .before in
+    let one = two .before .before .before .before .before in
+    let decoded = one .before .before in
+    let from-residual = put-then (put (four .put-field2 .ensures .0) (four .put-field2 .ensures .1)) (put (five .put-signed-field3 .ensures .0) (five .put-signed-field3 .ensures .1)) in
+    let from-code = put-then (put (three .put-signed-field2 .ensures .0) (three .put-signed-field2 .ensures .1)) from-residual in
+    let from-past = put-then (put (two .put-signed-field .ensures .0) (two .put-signed-field .ensures .1)) from-code in
+    let whole = put-then (put (one .put-field .ensures .0) (one .put-field .ensures .1)) from-past in
+    let vector-kept = toZ-ofZ w32 (decoded .decode-vector .result .vector) (record { sfits = five .before .struct-told5 .given .1 .0 .1 }) in
+    let line = rw (past-is (decoded .before), code-is (decoded .before), vector-kept, vector-is decoded) at whole in
     (line .ends, line .lies)
 
 pub put-case-spec : {M : Type 1} → statement M

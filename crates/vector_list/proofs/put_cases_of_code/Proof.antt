@@ -1,4 +1,4 @@
--- `put_residuals` meets its contract: a line for each residual so far is written. Assumes nothing.
+-- `put_cases_of_code` meets its contract: a line for each residual so far is written. Assumes nothing.
 use mathlib.Core.Path.{_≡_, ap, _∙_}
 use Prim.Native.Nat.{_-_}
 use native.Mathlib.Omega.{arith}
@@ -14,8 +14,8 @@ use Rattle.text_writer.proofs.PutLaws.{put, PutBlocks, put-none, put-block, blo
 use Rattle.vector_list.specs.Cases.{casesOfCode}
 use Rattle.vector_list.specs.List.{caseLines}
 use Rattle.vector_list.proofs.BlockLaws.{residualLine, residual-lines}
-use Rattle.vector_list.proofs.put_residuals.Statement.{statement}
-use Rattle.vector_list.proofs.put_residuals.Tie as tie
+use Rattle.vector_list.proofs.put_cases_of_code.Statement.{statement}
+use Rattle.vector_list.proofs.put_cases_of_code.Tie as tie
 
 abbrev Inv-loop : tie.InvT-loop
 Inv-loop text₀ at f-code past code f count end₀ residual₀ text end residual =
@@ -65,8 +65,8 @@ returns c =
     let all = put-all (c .before .loop .inv) (omega arith) in
     rw (whole (c .before .before)) (all .ends, all .lies)
 
-pub put-residuals-spec : {M : Type 1} → statement M
-put-residuals-spec =
+pub put-cases-of-code-spec : {M : Type 1} → statement M
+put-cases-of-code-spec =
     tie.close
     (tie.spec
     Inv-loop
