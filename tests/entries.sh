@@ -2,8 +2,7 @@
 # shellcheck disable=SC2016
 # tests/entries.sh: the public entries are the functions of crates/entries, and these alone.
 # - Each function there is `pub`, has an `ensures` and no `requires`.
-# - crates/format3_c calls functions of `entries` alone; the programs, crates/panel and crates/vectors, call, apart from these, what reads
-#   their input and writes their output.
+# - crates/format3_c calls functions of `entries` alone; so do the programs, crates/panel and crates/vectors, except to read input and write output.
 # Then it shows that it can fail: it refuses copies of these crates, each with one change.
 set -euo pipefail
 cd "$(dirname "$0")/.."

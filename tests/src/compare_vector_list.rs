@@ -1,15 +1,17 @@
-//! Compares lists of all legal vector inputs for f_code 1 and 2, and the vector entry with such a list.
+//! Compares a list of all legal vector inputs for f_code 1 and 2 with the other decoder's, and the vector entry with such a list.
 
 use std::collections::BTreeMap;
 
 use crate::compare::{nearest_f, require_same};
+use crate::decoder::refusals::Refusal;
 use crate::decoder::vector_list::vector_list;
 use crate::decoder::Entries;
 
 /// The number of lines, if the list is the other decoder's.
 pub fn same_list(tested: &str) -> Result<usize, String> {
     let ours = vector_list();
-    for (number, (ours, theirs)) in (1..).zip(ours.lines().zip(tested.lines())) {
+    let lines = ours.split_inclusive('\n').zip(tested.split_inclusive('\n'));
+    for (number, (ours, theirs)) in (1..).zip(lines) {
         require_same(|| format!("line {number}"), ours, theirs)?;
     }
     let bytes = |list: &str| format!("{} bytes", list.len());
@@ -30,20 +32,23 @@ pub fn listed_vectors(tested: &Entries, list: &str) -> Result<usize, String> {
     let mut listed = BTreeMap::new();
     for line in list.lines() {
         let [f_code, past, code, residual, vector] = numbers_of(line)?;
-        if listed
-            .insert([f_code, past, code, residual], vector)
-            .is_some()
-        {
-            return Err(format!("a second line {line}"));
+        let before = listed.insert([f_code, past, code, residual], vector);
+        if before.is_some() {
+            return Err(format!("a second line for the input of {line}"));
         }
     }
+    let count = listed.len();
     for input in inputs() {
         let [f_code, past, code, residual] = input;
-        let ours = listed.get(&input).map_or((22, 0), |vector| (0, *vector));
+        let refused = (Refusal::NumberOutOfRange.number(), 0);
+        let ours = listed.remove(&input).map_or(refused, |vector| (0, vector));
         let theirs = (tested.vector)(f_code, past, code, residual);
         require_same(|| format!("vector of {input:?}"), ours, theirs)?;
     }
-    Ok(listed.len())
+    match listed.first_key_value() {
+        Some((input, _)) => Err(format!("a line for {input:?}, far out of range")),
+        None => Ok(count),
+    }
 }
 
 /// f_code, past, code and residual, within their ranges and just past them.

@@ -1,17 +1,19 @@
-//! Tests the list of all legal vector inputs for f_code 1 and 2: the one that the program prints is the other decoder's and the
-//! one given with the request, and wrong lists and wrong vector entries are found.
+//! Tests the list of all legal vector inputs for f_code 1 and 2: the one that `vectors` prints is the other decoder's and the one
+//! given with the request, and wrong lists and wrong vector entries are found.
 
 mod found;
 
 use std::fs;
 
+use format3_tests::compare::nearest_f;
 use format3_tests::compare_vector_list::{listed_vectors, numbers_of, same_list};
+use format3_tests::decoder::refusals::Refusal;
 use format3_tests::decoder::vector_list::vector_list;
 use format3_tests::decoder::{DecodeVector, Entries, ENTRIES};
 use format3_tests::sha256;
 use found::require_found;
 
-/// What the program `vectors` prints: the gate compares the two.
+/// The stored output of `vectors`. The gate compares it with what the program prints.
 fn stored_list() -> String {
     let path = concat!(env!("CARGO_MANIFEST_DIR"), "/../crates/vectors/stdout");
     fs::read_to_string(path).expect("the stored list")
@@ -26,10 +28,6 @@ fn the_stored_list_is_the_decoders() {
 #[test]
 fn the_stored_list_is_the_one_given() {
     let list = stored_list();
-    assert_eq!(list.len(), 68_884);
-    assert!(list.ends_with('\n'));
-    let hash = "83bb91412d1231d63fd0a49d6481b27936cd1b822da0baaa55b09207764d4ca8";
-    assert_eq!(sha256::hex(list.as_bytes()), hash);
     let lines: Vec<&str> = list.lines().collect();
     for (number, line) in [
         (1, "1 -16 -16 0 0"),
@@ -44,14 +42,15 @@ fn the_stored_list_is_the_one_given() {
     ] {
         assert_eq!(lines[number - 1], line, "line {number}");
     }
+    assert_eq!(list.len(), 68_884);
+    let hash = "83bb91412d1231d63fd0a49d6481b27936cd1b822da0baaa55b09207764d4ca8";
+    assert_eq!(sha256::hex(list.as_bytes()), hash);
 }
 
 /// "1,056 and 4,160 lines, each case once": f_code, past, code and residual rise from line to line.
 #[test]
 fn the_lines_rise() {
-    let list = stored_list();
-    let lines: Result<Vec<[i32; 5]>, String> = list.lines().map(numbers_of).collect();
-    let lines = lines.expect("lines of five numbers");
+    let lines = numbers(&stored_list());
     assert!(lines.windows(2).all(|pair| pair[0][..4] < pair[1][..4]));
     let of = |f_code| lines.iter().filter(|line| line[0] == f_code).count();
     assert_eq!([of(1), of(2)], [1056, 4160]);
@@ -62,32 +61,39 @@ fn the_decoders_entry_accepts_what_is_listed() {
     assert_eq!(listed_vectors(&ENTRIES, &stored_list()), Ok(5216));
 }
 
-/// The list with other lines in the place of each, by the numbers of these lines.
-fn with_lines(lines: impl Fn([i32; 5]) -> Vec<[i32; 5]>) -> String {
-    let list = vector_list();
-    let numbers = list.lines().map(|line| numbers_of(line).expect("a line"));
-    let text = |[f_code, past, code, residual, vector]: [i32; 5]| {
-        format!("{f_code} {past} {code} {residual} {vector}\n")
-    };
-    numbers.flat_map(lines).map(text).collect()
+/// The numbers of each line of a list.
+fn numbers(list: &str) -> Vec<[i32; 5]> {
+    let lines: Result<Vec<[i32; 5]>, String> = list.lines().map(numbers_of).collect();
+    lines.expect("lines of five numbers")
 }
 
-/// The list without some lines.
+/// The list of these lines.
+fn text(lines: impl IntoIterator<Item = [i32; 5]>) -> String {
+    let line = |[f_code, past, code, residual, vector]: [i32; 5]| {
+        format!("{f_code} {past} {code} {residual} {vector}\n")
+    };
+    lines.into_iter().map(line).collect()
+}
+
+/// The decoder's list, with each line replaced by those that `lines` makes of its numbers.
+fn with_lines(lines: impl Fn([i32; 5]) -> Vec<[i32; 5]>) -> String {
+    text(numbers(&vector_list()).into_iter().flat_map(lines))
+}
+
+/// The decoder's list, without the lines that `left_out` picks.
 fn without(left_out: fn([i32; 5]) -> bool) -> String {
     with_lines(|line| if left_out(line) { vec![] } else { vec![line] })
 }
 
-#[test]
-fn wrong_lists_are_found() {
+/// Lists with other inputs or vectors.
+fn other_cases() -> Vec<(&'static str, String)> {
     let right = vector_list();
-    let second = right.find("2 -32").expect("the lines of f_code 2");
-    let (first, second) = right.split_at(second);
-    for (name, wrong) in [
+    vec![
         ("code 16 left out", without(|[_, _, code, _, _]| code == 16)),
         ("code 0 left out", without(|[_, _, code, _, _]| code == 0)),
         (
             "the past's last value missing",
-            without(|[f_code, past, _, _, _]| past == 16 * f_code - 1),
+            without(|[f_code, past, _, _, _]| past == 16 * nearest_f(f_code) - 1),
         ),
         (
             "residual 1 at code 0",
@@ -97,27 +103,54 @@ fn wrong_lists_are_found() {
             }),
         ),
         (
-            "residual before code",
+            "a vector that is not moved",
+            with_lines(|[f_code, past, code, residual, _]| {
+                let size = (code.abs() - 1) * nearest_f(f_code) + residual + 1;
+                vec![[f_code, past, code, residual, past + code.signum() * size]]
+            }),
+        ),
+        ("f_code 1 alone", without(|[f_code, ..]| f_code == 2)),
+        ("a line more", right + "2 32 -16 0 0\n"),
+        ("nothing", String::new()),
+    ]
+}
+
+/// Lists with the right cases, in another order or written in another way.
+fn other_texts() -> Vec<(&'static str, String)> {
+    let right = vector_list();
+    let second = right.find("2 -32").expect("the lines of f_code 2");
+    let (first, second) = right.split_at(second);
+    let mut by_residual = numbers(&right);
+    by_residual.sort_by_key(|[f_code, past, code, residual, _]| [*f_code, *past, *residual, *code]);
+    vec![
+        ("residual rising before code", text(by_residual)),
+        (
+            "residual's column before code's",
             with_lines(|[f_code, past, code, residual, vector]| {
                 vec![[f_code, past, residual, code, vector]]
             }),
         ),
-        (
-            "a vector that is not moved",
-            with_lines(|[f_code, past, code, residual, _]| {
-                let size = (code.abs() - 1) * f_code + residual + 1;
-                vec![[f_code, past, code, residual, past + code.signum() * size]]
-            }),
-        ),
-        ("f_code 1 alone", first.into()),
         ("f_code 2 first", [second, first].concat()),
         ("the first line twice", ["1 -16 -16 0 0\n", &right].concat()),
-        ("a line more", [&*right, "2 32 -16 0 0\n"].concat()),
-        ("a line that is not ended", right.trim_end().into()),
-        ("a space at the end of a line", right.replace('\n', " \n")),
-        ("nothing", String::new()),
-    ] {
+        ("a last line that is not ended", right.trim_end().into()),
+        (
+            "a space at the end of each line",
+            right.replace('\n', " \n"),
+        ),
+        (
+            "a carriage return for the last line feed",
+            right.trim_end().replacen('\n', "\r\n", 1),
+        ),
+    ]
+}
+
+#[test]
+fn wrong_lists_are_found() {
+    for (name, wrong) in other_cases().into_iter().chain(other_texts()) {
         require_found(name, same_list(&wrong));
+    }
+    for (name, wrong) in other_cases() {
+        require_found(name, listed_vectors(&ENTRIES, &wrong));
     }
 }
 
@@ -130,22 +163,21 @@ fn right(f_code: i32, past: i32, code: i32, residual: i32) -> (u32, i32) {
 fn wrong_vector_entries_are_found() {
     let wrong: [(&str, DecodeVector); 5] = [
         (
-            "code 16 with residual f - 1",
-            |f_code, past, code, residual| match (code, residual) {
-                (16, 1) => (22, 0),
-                _ => right(f_code, past, code, residual),
+            "no code 16 with residual f - 1",
+            |f_code, past, code, residual| {
+                if code == 16 && residual == nearest_f(f_code) - 1 {
+                    return (Refusal::NumberOutOfRange.number(), 0);
+                }
+                right(f_code, past, code, residual)
             },
         ),
-        (
-            "residual 1 at code 0",
-            |f_code, past, code, residual| match (f_code, code, residual) {
-                (2, 0, 1) => right(2, past, 0, 0),
-                _ => right(f_code, past, code, residual),
-            },
-        ),
+        ("residual 1 at code 0", |f_code, past, code, residual| {
+            let dropped = f_code == 2 && code == 0 && residual == 1;
+            right(f_code, past, code, if dropped { 0 } else { residual })
+        }),
         ("a past of 16f", |f_code, past, code, residual| {
-            let past = if past == 16 * f_code { -past } else { past };
-            right(f_code, past, code, residual)
+            let is_end = past == 16 * nearest_f(f_code);
+            right(f_code, if is_end { -past } else { past }, code, residual)
         }),
         ("code -17", |f_code, past, code, residual| {
             right(f_code, past, code.max(-16), residual)
@@ -165,14 +197,14 @@ fn wrong_vector_entries_are_found() {
 }
 
 #[test]
-fn a_list_that_is_malformed_fails() {
+fn malformed_repeated_and_far_lines_fail() {
+    let twice = "1 -16 -16 0 0\n1 -16 -16 0 1\n";
+    let far = vector_list() + "3 0 0 0 0\n";
     for (list, reason) in [
-        (
-            "1 -16 -16 0 0\n1 -16 -16 0 0\n",
-            "a second line 1 -16 -16 0 0",
-        ),
+        (twice, "a second line for the input of 1 -16 -16 0 1"),
         ("1 -16 -16 0\n", "no line of five numbers: 1 -16 -16 0"),
         ("1 -16 -16 0 x\n", "no line of five numbers: 1 -16 -16 0 x"),
+        (&far, "a line for [3, 0, 0, 0], far out of range"),
     ] {
         assert_eq!(listed_vectors(&ENTRIES, list), Err(reason.into()));
     }

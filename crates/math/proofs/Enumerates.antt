@@ -7,7 +7,7 @@ use lib.ListN.{length, getD}
 use Rattle.math.specs.Enumerates.{Enumerates}
 use Rattle.math.proofs.Joined.{blocks, blocks-end, blocks-at, InBlock, in-block}
 
--- the index may be any function that is the same for members
+-- the index may be any function that agrees on the members
 pub enumerates-by : {A : Type 0} {Member : A → Type 0} {index other : A → ℕ} {l : List A} → ((a : A) → Member a → index a ≡ other a) → Enumerates Member index l → Enumerates Member other l
 enumerates-by {l = l} same e = record {
   member = e .member;
@@ -16,7 +16,7 @@ enumerates-by {l = l} same e = record {
   member-back = λ a d m. rw (← same a m) (e .member-back a d m);
 }
 
--- the members may be said in another way
+-- the members may be described in another way
 pub enumerates-as : {A : Type 0} {Member Other : A → Type 0} {index : A → ℕ} {l : List A} → ((a : A) → Member a → Other a) → ((a : A) → Other a → Member a)
     → Enumerates Member index l → Enumerates Other index l
 enumerates-as {l = l} to from e = record {
@@ -32,7 +32,7 @@ module _ {A : Type 0} (block : ℕ → List A) (n : ℕ) (Member : A → Type 0)
   element : (index : ℕ) (d : A) (b : InBlock block n index) → getD (blocks block n) index d ≡ getD (block (b .number)) (b .offset) d
   element index d b = ap (λ (i : ℕ). getD (blocks block n) i d) (b .sum) ∙ blocks-at block (b .number) n (b .offset) d (b .below) (b .inside)
 
-  -- the number of a member's block, and its index there
+  -- a member's index: the length of the blocks before its own, plus its offset in that one
   pub enumerates-blocks : Enumerates Member (λ a. length (blocks block (number a)) + offset a) (blocks block n)
   enumerates-blocks = record {
     member = λ index d h. let b = in-block block n index h in rw (element index d b) (each (b .number) (b .below) .member (b .offset) d (b .inside) .0);

@@ -27,7 +27,7 @@ unfolding joined
 joined-joined f g [] = refl
 joined-joined f g (first ∷ l) = joined-append f (g first) (joined g l) ∙ ap (λ m. joined f (g first) ++ m) (joined-joined f g l)
 
--- the length, if each part has at most b elements
+-- the length is at most b for each part, if no part has more than b elements
 pub joined-most : {A B : Type 0} (f : A → List B) (l : List A) (b : ℕ) → ((k : ℕ) (d : A) → k < length l → length (f (getD l k d)) ≤ b) → length (joined f l) ≤ b * length l
 unfolding joined
 joined-most f [] b h = omega arith

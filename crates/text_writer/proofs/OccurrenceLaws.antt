@@ -1,6 +1,7 @@
 -- Laws of the bytes that occur in a text: a number has neither spaces nor line feeds. Assumes nothing.
+use mathlib.Core.Bool.{Bool, cond}
 use mathlib.Core.List.{List, [], _∷_, _++_}
-use mathlib.Core.Path.{_≡_, refl, _∙_}
+use mathlib.Core.Path.{_≡_, refl, ap, _∙_}
 use Prim.Native.Nat.{ℕ, zero, suc, _+_, _*_, _/_, _%_, _<_}
 use native.Mathlib.Omega.{arith}
 use borrow.Author.Tests.{ne-eqb}
@@ -39,7 +40,8 @@ module _ (byte : ℕ) where
   pub signed-none : byte < 48 → (minus ≡ byte → ⊥) → (number : ℤ) → occurrences byte (signedDecimal number) ≡ 0
   unfolding occurrences
   signed-none h other (pos number) = digits-none h (digitCount number) number
-  signed-none h other (negsuc number) = rw (ne-eqb minus byte other) (omega (arith, digits-none h (digitCount (suc number)) (suc number)))
+  signed-none h other (negsuc number) =
+      omega (arith, digits-none h (digitCount (suc number)) (suc number), ap (λ (t : Bool). cond {A = ℕ} t 1 0) (ne-eqb minus byte other))
 
   -- in a field: once, if the byte is the one after the number
   pub field-occurs : byte < 48 → (minus ≡ byte → ⊥) → (number : ℤ) (after : ℕ) → occurrences byte (signedField number after) ≡ occurrences byte (after ∷ [])

@@ -39,7 +39,7 @@ put-whole {text} {before} {end} {after} fits p =
     let inside : end ≤ length after = omega (arith, ap length (p .lies), written-length 0 text before) in
     ((inside, sym (length-take-le end after inside)), (ends, p .lies ∙ written-whole text before fits))
 
--- ---- a loop that writes a text of n blocks, one after the other: the first k are written
+-- ---- a loop that writes a text of n blocks, one after the other, and has written the first k
 pub record PutBlocks (block : ℕ → List ℕ) (n at : ℕ) (before : List ℕ) (k end : ℕ) (after : List ℕ) : Type 0 where
   pub most : k ≤ n
   pub so-far : Put at (blocks block k) before end after

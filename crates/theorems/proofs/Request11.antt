@@ -1,24 +1,26 @@
 -- Request No. 11: the vector entry's test is that of a legal case; the worked lines are computed, their cases by their indices. Assumes nothing.
 use mathlib.Core.Bool.{Bool, true, false, cond, _&&_}
+use mathlib.Core.List.{List, _++_}
 use mathlib.Core.Path.{_≡_, refl, sym, ap, _∙_}
 use Prim.Native.Nat.{ℕ, _*_, _≤_, _<_}
 use native.Mathlib.Omega.{arith}
 use borrow.Author.Tests.{le-leb}
-use lib.IntN.{ℤ, pos, negsuc}
+use lib.IntN.{ℤ, pos, negsuc, natAbs}
 use lib.ListN.{length, getD}
 use Rattle.refusals.specs.Refusal.{accepted, numberOf}
 use Rattle.refusals.specs.declared.Refusal.the-variants.{NumberOutOfRange}
 use Rattle.math.proofs.Enumerates.{enumerates-as}
 use Rattle.decode_vectors.specs.Vector.{fOf, wrapped, vectorDifferenceOf, vectorOf, codeInRange, residualInRange, pastInRange, fCodeAndPastInRange, vectorEntryInRange, vectorNumber}
-use Rattle.text_writer.specs.Number.{lineEnd, digitCountWithin}
+use Rattle.text_writer.specs.Number.{space, lineEnd, digitCountWithin, signedField}
 use Rattle.text_writer.specs.Occurrences.{lineCount}
+use Rattle.text_writer.proofs.DistinctLaws.{fields-apart}
 use Rattle.text_writer.proofs.OccurrenceLaws.{occurs-append, occurs-joined}
 use Rattle.vector_list.specs.Cases.{casesOf}
 use Rattle.vector_list.specs.Index.{legalCase, casesBelowCode, indexOf}
 use Rattle.vector_list.specs.List.{caseLine, caseLines, vectorList}
 use Rattle.vector_list.specs.declared.VectorCase.{VectorCase}
 use Rattle.vector_list.proofs.CaseLaws as Case
-use Rattle.vector_list.proofs.LineLaws.{one-line, line-apart}
+use Rattle.vector_list.proofs.LineLaws.{one-line}
 use Rattle.theorems.specs.Request11.{OneThenTwo, EveryAcceptedCase, EveryLegalCase, DifferentLines, RisingOrder, CaseCount, LineCounts, Line, WorkedLines}
 
 pub one-then-two : OneThenTwo
@@ -41,8 +43,18 @@ pub every-accepted-case : EveryAcceptedCase
 every-accepted-case fCode least most =
     enumerates-as (λ c m. ap (λ (t : Bool). cond t accepted (numberOf NumberOutOfRange)) (entry-test fCode c least most ∙ m)) (λ c m. sym (entry-test fCode c least most) ∙ accepts _ m) (every-legal-case (fOf fCode))
 
+-- ---- a line tells its f_code and its case, field by field
+space-apart : (m n : ℤ) (r q : List ℕ) → signedField m space ++ r ≡ signedField n space ++ q → (m ≡ n) × (r ≡ q)
+space-apart m n r q = fields-apart m n space r q (omega arith) (λ e. omega arith)
+
 pub different-lines : DifferentLines
-different-lines = line-apart
+unfolding caseLine
+different-lines f g a b e =
+    let f-codes = space-apart (pos f) (pos g) _ _ e in
+    let pasts = space-apart (a .past) (b .past) _ _ (f-codes .1) in
+    let codes = space-apart (a .code) (b .code) _ _ (pasts .1) in
+    let residuals = space-apart (pos (a .residual)) (pos (b .residual)) _ _ (codes .1) in
+    (ap natAbs (f-codes .0), λ i. record { past = pasts .0 i; code = codes .0 i; residual = natAbs (residuals .0 i) })
 
 pub rising-order : RisingOrder
 rising-order f i j d h g =

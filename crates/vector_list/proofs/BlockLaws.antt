@@ -1,4 +1,4 @@
--- The lines of an f_code are those of each past in turn, these are those of each code, and these a line for each residual. Assumes nothing.
+-- The lines of an f_code, past by past; those of a past, code by code; those of a code, residual by residual. Assumes nothing.
 use mathlib.Core.List.{List}
 use mathlib.Core.Path.{_≡_, _∙_}
 use Prim.Native.Nat.{ℕ}

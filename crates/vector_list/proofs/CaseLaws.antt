@@ -1,4 +1,4 @@
--- The list of cases has every legal case once, at its index. Assumes nothing.
+-- The list of cases has every legal case once, at its index, and in order. Assumes nothing.
 use mathlib.Core.Bool.{Bool, true, false, cond, _&&_}
 use mathlib.Core.List.{List}
 use mathlib.Core.Logic.{_⊎_, inl, inr}
@@ -94,7 +94,7 @@ before-positive : (f n : ℕ) → casesBelowCode f (pos (suc n)) ≡ (15 + suc n
 unfolding casesBelowCode
 before-positive f n = rw (lt-ltb 0 (suc n) (omega arith))
 
--- before the next code there are as many more as the code has
+-- before the next code there are more cases, as many as the code has residuals
 before-next : (f : ℕ) (code : ℤ) → lowCode ≤ℤ code → casesBelowCode f (code +ℤ pos 1) ≡ casesBelowCode f code + residualCount f code
 unfolding casesBelowCode residualCount
 before-next f (pos zero) h = refl

@@ -1,10 +1,10 @@
--- How long a line and the whole list are at most, that each case has one line, and that no two lines are the same. Assumes nothing.
+-- How long a line and the whole list are at most, and that each case has one line. Assumes nothing.
 use mathlib.Core.Bool.{true}
 use mathlib.Core.List.{List, [], _∷_, _++_}
-use mathlib.Core.Path.{_≡_, ap}
+use mathlib.Core.Path.{_≡_}
 use Prim.Native.Nat.{ℕ, _+_, _*_, _≤_, _<_}
 use native.Mathlib.Omega.{arith}
-use lib.IntN.{ℤ, pos, natAbs}
+use lib.IntN.{ℤ, pos}
 use lib.ListN.{length, getD, length-append}
 use Rattle.math.specs.Bound.{Within}
 use Rattle.math.specs.Limit.{eqZ}
@@ -16,7 +16,6 @@ use Rattle.decode_vectors.proofs.VectorLaws.{past-known, vectors-in-range}
 use Rattle.decode_vectors.proofs.WrapLaws.{inside-most}
 use Rattle.text_writer.specs.Number.{space, lineEnd, field, signedField}
 use Rattle.text_writer.specs.Occurrences.{occurrences, lineCount}
-use Rattle.text_writer.proofs.DistinctLaws.{fields-apart}
 use Rattle.text_writer.proofs.NumberLaws.{decimal-most, signed-most, field-length}
 use Rattle.text_writer.proofs.OccurrenceLaws.{occurs-append, field-occurs}
 use Rattle.vector_list.specs.Cases.{residualCount, casesOf}
@@ -54,19 +53,6 @@ one-line fCode case =
   where
     line-feeds : (number : ℤ) (after : ℕ) → lineCount (signedField number after) ≡ lineCount (after ∷ [])
     line-feeds = field-occurs lineEnd (omega arith) (λ e. omega arith)
-
--- ---- a line tells its f_code and its case
-space-apart : (m n : ℤ) (r q : List ℕ) → signedField m space ++ r ≡ signedField n space ++ q → (m ≡ n) × (r ≡ q)
-space-apart m n r q = fields-apart m n space r q (omega arith) (λ e. omega arith)
-
-pub line-apart : (f g : ℕ) (a b : VectorCase) → caseLine f a ≡ caseLine g b → (f ≡ g) × (a ≡ b)
-unfolding caseLine
-line-apart f g a b e =
-    let f-codes = space-apart (pos f) (pos g) _ _ e in
-    let pasts = space-apart (a .past) (b .past) _ _ (f-codes .1) in
-    let codes = space-apart (a .code) (b .code) _ _ (pasts .1) in
-    let residuals = space-apart (pos (a .residual)) (pos (b .residual)) _ _ (codes .1) in
-    (ap natAbs (f-codes .0), λ i. record { past = pasts .0 i; code = codes .0 i; residual = natAbs (residuals .0 i) })
 
 -- ---- an f_code of one digit and a small f give a short line
 vector-most : (fCode : ℕ) (past code : ℤ) (residual : ℕ) → Within (16 * fOf fCode) (vectorValue fCode past code residual)

@@ -32,7 +32,7 @@ pub from-none : {low : ℤ} {n : ℕ} {block : ℕ → List ℕ} {at : ℕ} {bef
 from-none {low} e = record { k = 0; here = e ∙ ap (ofZ w32) (same-of low (low +ℤ pos 0) (omega (arith, parts-add low (pos 0)))); done = put-none }
 
 module _ {low : ℤ} {n : ℕ} {block : ℕ → List ℕ} {at : ℕ} {before : List ℕ} {bits end : ℕ} {between : List ℕ} (p : PutFrom low n block at before bits end between) (short : Short low n) where
-  -- the variable, and the next one
+  -- the variable, and its next value
   abbrev pub here-is : Held (low +ℤ pos (p .k))
   here-is = variable w32 (p .here) (within-add {b = 2048} (short .small) (record { within = omega (arith, p .done .most, short .few) })) tt
 

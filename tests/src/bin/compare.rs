@@ -18,8 +18,6 @@ use format3_tests::compare_rows::{row_masks, rows};
 use format3_tests::compare_slices::{
     changed_slices, ended_slices, long_slices, slices, stream_slices, SLICE_ANSWERS,
 };
-use format3_tests::compare_vector_list::listed_vectors;
-use format3_tests::decoder::vector_list::vector_list;
 use format3_tests::library::ENTRIES;
 use format3_tests::{exit_code, panel_argument};
 
@@ -57,8 +55,6 @@ fn run(arguments: &[String]) -> Result<(), String> {
 fn compare_entries(count: u64, seed: u64) -> Result<(), String> {
     println!("{} coefficients", coefficients(&ENTRIES)?);
     println!("{} vectors", vectors(&ENTRIES)?);
-    let listed = listed_vectors(&ENTRIES, &vector_list())?;
-    println!("{listed} listed vectors");
     let encodings = encoded_vectors(&ENTRIES, seed, 100_000)?;
     let (encoded, kinds) = (encodings.values().sum::<usize>(), encodings.len());
     println!("{encoded} vectors encoded, {kinds} kinds of pairs and refusals");

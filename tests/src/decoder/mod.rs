@@ -1,5 +1,5 @@
-//! A second decoder of Format 3, to compare with: written for clarity, not speed, from document 01 and requests No. 1, 4, 6, 11
-//! and 12 alone, and for raw slices from request No. 2 and Annex B. Each module follows one heading, and each function one sentence,
+//! A second decoder of Format 3, to compare with: written for clarity, not speed, from document 01 and requests No. 1, 4, 6, 11 and
+//! 12 alone, and for raw slices from request No. 2 and Annex B. Each module follows one heading, and each function one sentence,
 //! which its comment quotes.
 
 pub mod annex_b;
