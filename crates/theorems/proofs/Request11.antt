@@ -1,5 +1,5 @@
 -- Request No. 11: the vector entry's test is that of a legal case; the worked lines are computed, their cases by their indices. Assumes nothing.
-use mathlib.Core.Bool.{Bool, true, false, cond, _&&_}
+use mathlib.Core.Bool.{Bool, true, false, cond}
 use mathlib.Core.List.{List, _++_}
 use mathlib.Core.Path.{_≡_, refl, sym, ap, _∙_}
 use Prim.Native.Nat.{ℕ, _*_, _≤_, _<_}
@@ -10,7 +10,7 @@ use lib.ListN.{length, getD}
 use Rattle.refusals.specs.Refusal.{accepted, numberOf}
 use Rattle.refusals.specs.declared.Refusal.the-variants.{NumberOutOfRange}
 use Rattle.math.proofs.Enumerates.{enumerates-as}
-use Rattle.decode_vectors.specs.Vector.{fOf, wrapped, vectorDifferenceOf, vectorOf, codeInRange, residualInRange, pastInRange, fCodeAndPastInRange, vectorEntryInRange, vectorNumber}
+use Rattle.decode_vectors.specs.Vector.{fOf, wrapped, vectorDifferenceOf, vectorOf, codeInRange, residualInRange, pastInRange, fCodeAndPastInRange, vectorEntryInRange}
 use Rattle.text_writer.specs.Number.{space, lineEnd, digitCountWithin, signedField}
 use Rattle.text_writer.specs.Occurrences.{lineCount}
 use Rattle.text_writer.proofs.DistinctLaws.{fields-apart}

@@ -3,7 +3,6 @@ use mathlib.Core.List.{List}
 use mathlib.Core.Path.{_≡_, _∙_}
 use Prim.Native.Nat.{ℕ}
 use lib.IntN.{ℤ, pos, negsuc, _+ℤ_}
-use Rattle.math.specs.Joined.{joined}
 use Rattle.math.proofs.Joined.{joined-joined, blocks, joined-tab}
 use Rattle.decode_vectors.specs.Vector.{lowest}
 use Rattle.vector_list.specs.Cases.{pastCount, codeCount, residualCount, pasts, codes, casesOfCode, casesOfPast, casesOf}
