@@ -42,6 +42,6 @@ casesOfCode f past code = tab (residualCount f code) (λ residual. record { past
 unfoldable pub casesOfPast : ℕ → ℤ → List VectorCase
 casesOfPast f past = joined (casesOfCode f past) codes
 
--- all cases
+-- the cases of all pasts
 unfoldable pub casesOf : ℕ → List VectorCase
 casesOf f = joined (casesOfPast f) (pasts f)

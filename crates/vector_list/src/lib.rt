@@ -63,16 +63,12 @@ fn put_cases_of_code(text: &mut [u8], at: usize, f_code: u32, past: i32, code: i
     let count = residual_count(f, code);
     let mut end = at;
     for residual in 0..count {
-        end = put_case(
-            text,
-            end,
-            f_code,
-            VectorCase {
-                past,
-                code,
-                residual,
-            },
-        );
+        let case = VectorCase {
+            past,
+            code,
+            residual,
+        };
+        end = put_case(text, end, f_code, case);
     }
     end
 }
