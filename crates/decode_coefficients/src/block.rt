@@ -12,7 +12,7 @@ ghost use Rattle.decode_coefficients.specs.Marks.{with_coefficient};
 use crate::{marks, scaling};
 
 // How the levels of a block are scaled.
-#[derive(Drop)]
+#[derive(Clone, Copy)]
 pub struct BlockCoding {
     pub intra: bool,
     pub scale: u8,

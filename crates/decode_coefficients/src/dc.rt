@@ -3,7 +3,7 @@ ghost use Rattle.std.specs.Prelude.{◌≡◌};
 ghost use Rattle.decode_coefficients.specs.Dc.{dc_past_of, with_dc_past, dc_pasts_with, reset_dc_pasts, starting_dc_pasts, dc_pasts_left};
 
 // The past DC of Y, Cb and Cr: the DC predictors.
-#[derive(Drop)]
+#[derive(Clone, Copy)]
 pub struct DcPasts {
     pub y: i16,
     pub cb: i16,

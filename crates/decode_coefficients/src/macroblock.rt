@@ -8,7 +8,7 @@ use symbols::macroblock_type;
 use symbols::macroblock_type::SCALE_GIVEN;
 
 // The symbols, and the DC pasts that the macroblock leaves.
-#[derive(Drop)]
+#[derive(Clone, Copy)]
 pub struct SymbolsWithDc {
     pub symbols: MacroblockSymbols,
     pub dc: DcPasts,

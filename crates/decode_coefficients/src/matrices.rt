@@ -2,7 +2,7 @@
 ghost use Rattle.std.specs.Prelude.{◌≡◌, ◌<◌};
 ghost use Rattle.decode_coefficients.specs.Matrices.{default_matrices, matrices_of, matrix_for};
 
-#[derive(Drop)]
+#[derive(Clone, Copy)]
 pub struct Matrices {
     pub intra: [u8; 64],
     pub non_intra: [u8; 64],

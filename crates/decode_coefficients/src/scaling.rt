@@ -88,7 +88,7 @@ pub fn intra_dc(past: i16, difference: i16) -> i16
 }
 
 // The coefficient entry's answer: 0 or a refusal's number, and the coefficient, 0 when refused.
-#[derive(Drop)]
+#[derive(Clone, Copy)]
 pub struct CoefficientAnswer {
     pub number: u32,
     pub value: i16,

@@ -1,4 +1,5 @@
 // The exact inverse transform: rows, then columns, with no rounding in between. Rows of zeros are skipped, and the others counted.
+#![tactic(auto)]
 mod dc;
 pub mod line;
 pub mod pass;
@@ -15,14 +16,14 @@ use decode_coefficients::marks;
 use refusals::Refusal;
 
 // The residues of a block, and the rows worked: how many of its eight rows hold a coefficient other than 0.
-#[derive(Drop)]
+#[derive(Clone, Copy)]
 pub struct Residues {
     pub values: [i16; 64],
     pub rows: usize,
 }
 
 // The transform entry's answer: 0 or a refusal's number, the residues, all zeros when refused, and the rows worked.
-#[derive(Drop)]
+#[derive(Clone, Copy)]
 pub struct TransformAnswer {
     pub number: u32,
     pub residues: [i16; 64],

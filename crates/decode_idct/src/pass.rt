@@ -100,7 +100,7 @@ fn work_row(c: &[i16; 64], v: usize, numbers: &mut [i64; 64])
 }
 
 // The numbers between the passes, and how many rows gave them.
-#[derive(Drop)]
+#[derive(Clone, Copy)]
 pub struct RowPass {
     pub numbers: [i64; 64],
     pub rows: usize,

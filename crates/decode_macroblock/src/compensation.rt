@@ -9,14 +9,14 @@ use decode_prediction::{fit, prediction};
 use decode_vectors::vector;
 
 // A vector for use, in half pels: already doubled if the full-pel flag is set.
-#[derive(Drop)]
+#[derive(Clone, Copy)]
 pub struct Vector {
     pub right: i32,
     pub down: i32,
 }
 
 // The directions that a macroblock is predicted from, and their vectors; with neither direction it is intra.
-#[derive(Drop)]
+#[derive(Clone, Copy)]
 pub struct Motion {
     pub forward: bool,
     pub backward: bool,
@@ -38,7 +38,7 @@ pub(crate) fn vector_for(block: usize, vector: Vector) -> Vector
 }
 
 // The coordinates of a block in a plane, in half pels.
-#[derive(Drop)]
+#[derive(Clone, Copy)]
 pub struct HalfPels {
     pub px: usize,
     pub py: usize,

@@ -13,7 +13,7 @@ use decode_prediction::fit;
 use symbols::size::PictureSize;
 
 // All directions in use fit, or the first that doesn't.
-#[derive(Drop)]
+#[derive(Clone, Copy)]
 pub enum Fit {
     Fits,
     Forward,

@@ -1,4 +1,5 @@
 // A macroblock of a picture: the locations of its blocks, their prediction, and writing all six into the lent output.
+#![tactic(auto)]
 pub mod block;
 pub mod compensation;
 pub mod fit;

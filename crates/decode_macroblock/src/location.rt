@@ -10,7 +10,7 @@ use decode_prediction::prediction;
 use symbols::size::PictureSize;
 
 // A macroblock's column and row in a picture of this size.
-#[derive(Drop)]
+#[derive(Clone, Copy)]
 pub struct MacroblockPosition {
     pub size: PictureSize,
     pub column: usize,
@@ -18,7 +18,7 @@ pub struct MacroblockPosition {
 }
 
 // A block's location: the part of the picture that is its plane, the length and number of the plane's lines, and the block's column and line.
-#[derive(Drop)]
+#[derive(Clone, Copy)]
 pub struct BlockLocation {
     pub from: usize,
     pub to: usize,

@@ -24,7 +24,7 @@ fn block_coefficients(coefficients: &[i16; 384], block: usize) -> [i16; 64]
 }
 
 // The pels of a block, and the rows that the transform worked for it.
-#[derive(Drop)]
+#[derive(Clone, Copy)]
 pub struct Reconstructed {
     pub pels: [u8; 64],
     pub rows: usize,

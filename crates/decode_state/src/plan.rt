@@ -11,7 +11,7 @@ use decode_macroblock::compensation::Motion;
 use symbols::header::{Header, P_PICTURE};
 
 // What a macroblock will write and change, worked out before it does so.
-#[derive(Drop)]
+#[derive(Clone, Copy)]
 pub struct Plan {
     // The skipped macroblocks before it: the address of the first, their number, and their motion.
     pub first: usize,

@@ -7,14 +7,14 @@ use decode_coefficients::dc::DcPasts;
 use decode_macroblock::compensation::{Motion, Vector};
 
 // The vector predictors: the next vector differences are added to them.
-#[derive(Drop)]
+#[derive(Clone, Copy)]
 pub struct VectorPasts {
     pub forward: Vector,
     pub backward: Vector,
 }
 
 // The state that a slice's start resets.
-#[derive(Drop)]
+#[derive(Clone, Copy)]
 pub struct SliceState {
     pub scale: u8,
     pub dc: DcPasts,

@@ -1,2 +1,3 @@
 // Motion vectors decoded from their codes.
+#![tactic(auto)]
 pub mod vector;

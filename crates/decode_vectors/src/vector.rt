@@ -6,7 +6,7 @@ ghost use Rattle.decode_vectors.specs.Vector.{max_f, max_past, max_vector, f_of,
 use refusals::Refusal;
 
 // The vector entry's answer: 0 or a refusal's number, and the vector, 0 when refused.
-#[derive(Drop)]
+#[derive(Clone, Copy)]
 pub struct VectorAnswer {
     pub number: u32,
     pub vector: i32,

@@ -1,4 +1,5 @@
 // Motion vectors encoded: the code and the residual with which decoding takes the past to a wanted vector.
+#![tactic(auto)]
 ghost use Rattle.std.specs.Prelude.{◌≡◌, ◌-◌, ◌^◌, ◌≤◌, nat_abs};
 ghost use Rattle.math.specs.Bound.{Within};
 ghost use Rattle.decode_vectors.specs.Vector.{max_f, max_past};
@@ -8,7 +9,7 @@ use decode_vectors::vector;
 use refusals::Refusal;
 
 // The encoder's answer: 0 or a refusal's number, the code and the residual, both 0 when refused.
-#[derive(Drop)]
+#[derive(Clone, Copy)]
 pub struct EncodedVector {
     pub number: u32,
     pub code: i32,

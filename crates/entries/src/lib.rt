@@ -1,6 +1,7 @@
 // Every public entry of the project, and nothing else. Each takes every input (none has a `requires`) and returns. Its contract has an
 // equation for the answer, and one for each thing that is lent by `&mut` (borrowed), as the call leaves it; what is lent by `&` stays
 // as it is. The number in an answer is 0, or that of the refusal. Each entry calls the function of another crate that does the work.
+#![tactic(auto)]
 ghost use Rattle.std.specs.Prelude.{◌≡◌, true, false, ◌++◌, ◌+◌, length, drop};
 ghost use Rattle.io.specs.Counts.{IsPrefixLen};
 ghost use Rattle.symbols.specs.Size.{max_macroblocks_small};
@@ -44,7 +45,7 @@ pub const REPORT_BYTES: usize = reel_report::REPORT_BYTES;
 pub const VECTOR_LIST_BYTES: usize = vector_list::VECTOR_LIST_BYTES;
 
 // A record of a file: 0 or the number of the refusal, the record's kind, and where its body starts and how long it is.
-#[derive(Drop)]
+#[derive(Clone, Copy)]
 pub struct ShownRecord {
     pub number: u32,
     pub kind: u8,

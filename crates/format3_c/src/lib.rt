@@ -1,6 +1,7 @@
 // The entries (crate `entries`) for C and Rust. Each returns the answer's number, 0 or that of a refusal, and writes the rest of its
 // answer into the struct, the array or the number that is lent for it. A slice is a pointer and a length. include/format3.h says the
 // same in words.
+#![tactic(auto)]
 ghost use Rattle.std.specs.Prelude.{◌≡◌, true, false};
 ghost use Rattle.symbols.specs.Size.{max_macroblocks_small};
 ghost use Rattle.decode_coefficients.specs.Answer.{coefficient_number, coefficient_value};
@@ -20,7 +21,7 @@ pub const API_VERSION: u32 = 2;
 
 // What `format3_reconstruct` and `format3_reconstruct_small` answer besides the number.
 #[repr(C)]
-#[derive(Drop)]
+#[derive(Clone, Copy)]
 pub struct PictureResult {
     pub place: usize,
     pub made: usize,
@@ -29,7 +30,7 @@ pub struct PictureResult {
 
 // What `format3_show_record` answers besides the number.
 #[repr(C)]
-#[derive(Drop)]
+#[derive(Clone, Copy)]
 pub struct Record {
     pub kind: u8,
     pub start: usize,
@@ -38,7 +39,7 @@ pub struct Record {
 
 // What `format3_read_header` answers besides the number.
 #[repr(C)]
-#[derive(Drop)]
+#[derive(Clone, Copy)]
 pub struct Header {
     pub coding_type: u32,
     pub width: u32,
@@ -48,7 +49,7 @@ pub struct Header {
 
 // What `format3_read_slice` answers besides the number.
 #[repr(C)]
-#[derive(Drop)]
+#[derive(Clone, Copy)]
 pub struct SliceResult {
     pub written: usize,
     pub byte: usize,

@@ -12,7 +12,7 @@ use symbols::header::{Header, HeaderAnswer};
 
 const VERSION: u8 = 3;
 
-#[derive(Drop)]
+#[derive(Clone, Copy)]
 pub enum FileStart {
     // The header, and where the next record starts.
     HeaderRead(Header, usize),
@@ -22,7 +22,7 @@ pub enum FileStart {
 
 // What a caller is told of a file's start: 0, the picture's coding type and its size in macroblocks, and where the next record
 // starts; or the number of a refusal, and zeros.
-#[derive(Drop)]
+#[derive(Clone, Copy)]
 pub struct FileHeader {
     pub number: u32,
     pub coding_type: u32,

@@ -18,14 +18,14 @@ use refusals::Refusal;
 use symbols::pattern;
 
 // The pasts after the blocks and where they end, if all of them are legal.
-#[derive(Drop)]
+#[derive(Clone, Copy)]
 pub enum BlocksAnswer {
     Legal(DcPasts, Cursor),
     Refused(Refusal),
 }
 
 // Which blocks of a macroblock are coded, and how their levels are scaled.
-#[derive(Drop)]
+#[derive(Clone, Copy)]
 pub struct BlocksCoding {
     pub pattern: u8,
     pub intra: bool,

@@ -15,7 +15,7 @@ const MAX_DIFFERENCE: i16 = 255;
 
 const MAX_DC: i16 = 2040;
 
-#[derive(Drop)]
+#[derive(Clone, Copy)]
 pub enum DcAnswer {
     Legal(i16, Cursor),
     Refused(Refusal),

@@ -23,7 +23,7 @@ use symbols::macroblock_type::{INTRA, PATTERN};
 use symbols::pattern::ALL_BLOCKS;
 
 // What reading a macroblock depends on: what its head is tested against, f for each direction, and the DC pasts.
-#[derive(Drop)]
+#[derive(Clone, Copy)]
 pub struct MacroblockContext {
     pub head: HeadContext,
     pub forward_f: u32,
@@ -31,7 +31,7 @@ pub struct MacroblockContext {
     pub dc: DcPasts,
 }
 
-#[derive(Drop)]
+#[derive(Clone, Copy)]
 pub enum SymbolsAnswer {
     Legal(MacroblockSymbols, Cursor),
     Refused(Refusal),

@@ -14,7 +14,7 @@ use symbols::macroblock_type;
 use symbols::macroblock_type::SCALE_GIVEN;
 
 // What the head of a macroblock is tested against.
-#[derive(Drop)]
+#[derive(Clone, Copy)]
 pub struct HeadContext {
     // The picture's coding type and its count of macroblocks.
     pub coding_type: u8,
@@ -26,7 +26,7 @@ pub struct HeadContext {
     pub intra: bool,
 }
 
-#[derive(Drop)]
+#[derive(Clone, Copy)]
 pub enum HeadAnswer {
     Legal(MacroblockHead, Cursor),
     Refused(Refusal),

@@ -21,21 +21,21 @@ const MIN_LEVEL: i16 = -255;
 
 const MAX_LEVEL: i16 = 255;
 
-#[derive(Drop)]
+#[derive(Clone, Copy)]
 pub enum PairAnswer {
     Legal(Pair, Cursor),
     Refused(Refusal),
 }
 
 // Where the pairs end, if all of them are legal.
-#[derive(Drop)]
+#[derive(Clone, Copy)]
 pub enum PairsAnswer {
     Legal(Cursor),
     Refused(Refusal),
 }
 
 // The block has the levels of the pairs before the first one that is refused: of all of them, if the answer is legal. Its marks are beside it.
-#[derive(Drop)]
+#[derive(Clone, Copy)]
 pub struct PairsRead {
     pub answer: PairsAnswer,
     pub block: [i16; 64],

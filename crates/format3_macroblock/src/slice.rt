@@ -13,7 +13,7 @@ const SLICE_BODY_LENGTH: usize = 3;
 
 const MAX_SCALE: u8 = 31;
 
-#[derive(Drop)]
+#[derive(Clone, Copy)]
 pub enum SliceAnswer {
     Legal(SliceHeader),
     Refused(Refusal),

@@ -9,13 +9,13 @@ use format3_records::field::{ByteField, Cursor, SignedField};
 use refusals::Refusal;
 use symbols::vector_codes::{VectorCode, VectorCodes};
 
-#[derive(Drop)]
+#[derive(Clone, Copy)]
 pub enum VectorCodeAnswer {
     Legal(VectorCode, Cursor),
     Refused(Refusal),
 }
 
-#[derive(Drop)]
+#[derive(Clone, Copy)]
 pub enum VectorCodesAnswer {
     Legal(VectorCodes, Cursor),
     Refused(Refusal),

@@ -13,7 +13,7 @@ use symbols::macroblock_type;
 use symbols::macroblock_type::{BACKWARD, FORWARD};
 use symbols::vector_codes::{VectorCode, VectorCodes, Vectors};
 
-#[derive(Drop)]
+#[derive(Clone, Copy)]
 pub enum VectorsAnswer {
     Legal(Vectors, Cursor),
     Refused(Refusal),

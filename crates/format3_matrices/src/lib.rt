@@ -1,5 +1,6 @@
 // The quantizer matrices of a picture, and the record that loads one (kind 2).
 // A weight stands at its coefficient's raster index, 8 × row + column.
+#![tactic(auto)]
 ghost use Rattle.std.specs.Prelude.{◌≡◌, ◌<◌, length};
 ghost use Rattle.format3_matrices.specs.Matrix.{positive, legal_first, loaded_already, matrix_verdict, raster_order, loaded_with, now_loaded};
 
@@ -17,7 +18,7 @@ const NON_INTRA_MATRIX: u8 = 1;
 const FIRST_INTRA_WEIGHT: u8 = 8;
 
 // Which matrices this picture has loaded.
-#[derive(Drop)]
+#[derive(Clone, Copy)]
 pub struct Loaded {
     pub intra: bool,
     pub non_intra: bool,

@@ -32,7 +32,7 @@ use symbols::macroblock_type::INTRA;
 use symbols::size::PictureSize;
 
 // The result of a record: the verdict, and the state after it.
-#[derive(Drop)]
+#[derive(Clone, Copy)]
 pub struct RecordOutcome {
     pub verdict: Verdict,
     pub state: PictureState,

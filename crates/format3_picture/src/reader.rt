@@ -21,7 +21,7 @@ use symbols::header::Header;
 
 // The answer: 0 or a refusal's number, the place (a byte offset in the file), how many macroblocks were made (written), and the rows
 // that the transform worked for them.
-#[derive(Drop)]
+#[derive(Clone, Copy)]
 pub struct Answer {
     pub number: u32,
     pub place: usize,

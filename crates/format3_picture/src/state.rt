@@ -9,7 +9,7 @@ use format3_records::turn::Turn;
 use symbols::header::Header;
 
 // The state of a picture between records.
-#[derive(Drop)]
+#[derive(Clone, Copy)]
 pub struct PictureState {
     pub header: Header,
     // Which quantizer matrices have been loaded.

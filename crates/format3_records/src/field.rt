@@ -7,31 +7,31 @@ ghost use Rattle.format3_records.specs.Field.{twos_complement, byte, two_bytes, 
 use refusals::Refusal;
 
 // Where the next field starts, counted from the start of the bytes that the reader was given.
-#[derive(Drop)]
+#[derive(Clone, Copy)]
 pub struct Cursor {
     pub at: usize,
 }
 
-#[derive(Drop)]
+#[derive(Clone, Copy)]
 pub enum ByteField {
     Value(u8, Cursor),
     Truncated,
 }
 
-#[derive(Drop)]
+#[derive(Clone, Copy)]
 pub enum TwoByteField {
     Value(u16, Cursor),
     Truncated,
 }
 
-#[derive(Drop)]
+#[derive(Clone, Copy)]
 pub enum SignedField {
     Value(i16, Cursor),
     Truncated,
 }
 
 // A byte that was also tested for its range.
-#[derive(Drop)]
+#[derive(Clone, Copy)]
 pub enum TestedByte {
     Legal(u8, Cursor),
     Refused(Refusal),

@@ -14,7 +14,7 @@ pub const MACROBLOCK_KIND: u8 = 4;
 
 const LAST_KIND: u8 = MACROBLOCK_KIND;
 
-#[derive(Drop)]
+#[derive(Clone, Copy)]
 pub enum Record {
     // A whole record: its kind, and its body's offset and length.
     Found {
@@ -89,7 +89,7 @@ fn shown_body<'a>(file: &'a [u8], offset: usize) -> &'a [u8]
 }
 
 // A record shown by itself: its kind, and its body as a slice of the file itself; kind 0 and an empty slice if it is refused.
-#[derive(Drop)]
+#[derive(Clone, Copy)]
 pub struct Shown<'a> {
     pub kind: u8,
     pub body: &'a [u8],

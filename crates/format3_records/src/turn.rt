@@ -5,7 +5,7 @@ ghost use Rattle.format3_records.specs.Turn.{in_turn, turn_after};
 use crate::record::{HEADER_KIND, MACROBLOCK_KIND, MATRIX_KIND, SLICE_KIND};
 
 // How far the records have got.
-#[derive(Drop)]
+#[derive(Clone, Copy)]
 pub enum Turn {
     // No record has been read.
     Start,

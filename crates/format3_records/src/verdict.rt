@@ -1,7 +1,7 @@
 // The answer of a test that gives no value: passed, or refused.
 use refusals::Refusal;
 
-#[derive(Drop)]
+#[derive(Clone, Copy)]
 pub enum Verdict {
     Passed,
     Refused(Refusal),

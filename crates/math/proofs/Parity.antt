@@ -4,7 +4,7 @@ use mathlib.Core.Path.{◌≡◌, refl, sym, ap, ◌∙◌}
 use Prim.Native.Nat.{ℕ, zero, suc, ◌+◌, ◌%◌}
 use native.Mathlib.Omega.{arith}
 use borrow.Author.Tests.{eqb-true, eqb-false}
-use lib.Dec.{eqb}
+use lib.Dec.{eqb, eqb-suc-zero}
 use lib.IntN.{ℤ, pos, negsuc, neg_ℤ, nat_abs, ◌+ℤ◌}
 use Rattle.math.specs.Limit.{eq_z}
 use Rattle.math.specs.Parity.{is_even}
@@ -13,7 +13,7 @@ use Rattle.math.proofs.Difference.{up, dn, parts_add}
 
 neg-zero : (n : ℕ) → eq_z (neg_ℤ (pos n)) (pos 0) ≡ eqb n 0
 neg-zero zero = refl
-neg-zero (suc n) = refl
+neg-zero (suc n) = sym (eqb-suc-zero n)
 
 pub even-abs : (z : ℤ) → is_even z ≡ eqb (nat_abs z % 2) 0
 even-abs (pos a) = refl

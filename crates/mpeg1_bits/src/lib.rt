@@ -1,19 +1,20 @@
 // Reads bits: a position in the bits of a byte slice, and the next 32 bits from there as one number.
 // The count of a slice's bits may not fit a usize, so a position is a byte and a bit within it, and only the bits of the last four bytes
 // are ever counted.
+#![tactic(auto)]
 ghost use Rattle.std.specs.Prelude.{◌≡◌, ◌+◌, ◌*◌, ◌/◌, ◌%◌, ◌^◌, ◌-◌, ◌<◌, ◌≤◌, length, get_or, drop};
 ghost use Rattle.mpeg1_bits.specs.Bits.{bits, all_zeros, bits_from, skip, window_of, bit_offset, bit_limit};
 ghost use Rattle.mpeg1_bits.specs.Requires.{InBytes};
 
 // Bit `bit` of byte `byte`; bit 0 is the most significant.
-#[derive(Drop)]
+#[derive(Clone, Copy)]
 pub struct BitPosition {
     pub byte: usize,
     pub bit: usize,
 }
 
 // The next 32 bits as a number, with zeros past the end, and how many of them really exist.
-#[derive(Drop)]
+#[derive(Clone, Copy)]
 pub struct Window {
     pub bits: u32,
     pub count: usize,

@@ -24,7 +24,7 @@ const ROOM_BYTES: usize = 1 << 13;
 
 // The numbers of a picture's header that its slices are read with: the size in macroblocks, the coding type, and the f_codes.
 #[repr(C)]
-#[derive(Drop)]
+#[derive(Clone, Copy)]
 pub struct PictureParameters {
     pub width: u32,
     pub height: u32,
@@ -34,7 +34,7 @@ pub struct PictureParameters {
 }
 
 // The refusal's number, the bytes written, and the byte and bit where the refused code or the unread rest starts.
-#[derive(Drop)]
+#[derive(Clone, Copy)]
 pub struct RawSliceAnswer {
     pub number: u32,
     pub written: usize,
@@ -76,7 +76,7 @@ fn put_front(from: &[u8], size: usize, buffer: &mut [u8])
     requires { (size ≤ length from.now) × (size ≤ length buffer.old) }
     ensures { buffer.new ≡ take size from.now ++ drop size buffer.old }
 {
-    bytes::copy(front(from, size), buffer);
+    buffer[..size].copy_from_slice(front(from, size));
 }
 
 // Reads the slice into the room first, so that a refused slice leaves the buffer untouched. Then the records that are whole in the room are

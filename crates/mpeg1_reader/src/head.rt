@@ -14,7 +14,7 @@ use refusals::Refusal;
 use symbols::macroblock_type;
 use symbols::macroblock_type::SCALE_GIVEN;
 
-#[derive(Drop)]
+#[derive(Clone, Copy)]
 pub enum MacroblockHeadAnswer {
     Read(u8, u8, BitPosition),
     Refused(Refusal, BitPosition),

@@ -9,7 +9,7 @@ use mpeg1_slice::extra::ExtraAnswer;
 use mpeg1_slice::{element, extra};
 use refusals::Refusal;
 
-#[derive(Drop)]
+#[derive(Clone, Copy)]
 pub enum SliceHeadAnswer {
     Read(u8, u8, BitPosition),
     Refused(Refusal, BitPosition),

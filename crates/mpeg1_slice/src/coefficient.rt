@@ -12,7 +12,7 @@ use mpeg1_vlc::coefficient::Coefficient;
 use refusals::Refusal;
 use symbols::pair::LAST_POSITION;
 
-#[derive(Drop)]
+#[derive(Clone, Copy)]
 pub enum NextPair {
     Pair(u8, i16, BitPosition),
     End(BitPosition),

@@ -12,7 +12,7 @@ use mpeg1_tables::table::TABLE_LENGTH;
 use mpeg1_vlc::difference;
 use refusals::Refusal;
 
-#[derive(Drop)]
+#[derive(Clone, Copy)]
 pub enum DifferenceAnswer {
     Read(i16, BitPosition),
     Refused(Refusal, BitPosition),

@@ -14,7 +14,7 @@ use mpeg1_tables::table::TABLE_LENGTH;
 use mpeg1_vlc::{reader, slice_start};
 use refusals::Refusal;
 
-#[derive(Drop)]
+#[derive(Clone, Copy)]
 pub enum SyntaxElement {
     Value(u16, BitPosition),
     Refused(Refusal, BitPosition),

@@ -9,7 +9,7 @@ use crate::element::SyntaxElement;
 use mpeg1_bits::BitPosition;
 use refusals::Refusal;
 
-#[derive(Drop)]
+#[derive(Clone, Copy)]
 pub enum ExtraAnswer {
     To(BitPosition),
     Refused(Refusal, BitPosition),

@@ -15,7 +15,7 @@ use refusals::Refusal;
 const ZERO: u16 = 16;
 
 // The motion code and residual of one component.
-#[derive(Drop)]
+#[derive(Clone, Copy)]
 pub enum ComponentAnswer {
     Read(i8, u8, BitPosition),
     Refused(Refusal, BitPosition),

@@ -2,7 +2,7 @@
 ghost use Rattle.std.specs.Prelude.{◌≡◌};
 ghost use Rattle.mpeg1_tables.specs.Table.{unpacked_of};
 
-#[derive(Drop)]
+#[derive(Clone, Copy)]
 pub enum Code {
     Value(u16, usize),
     NoCode,

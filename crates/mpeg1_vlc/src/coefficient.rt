@@ -16,7 +16,7 @@ use mpeg1_tables::table;
 use mpeg1_tables::table::TABLE_LENGTH;
 
 // Run, level and code length in bits; end of block and code length; no code; or bits that end within a code.
-#[derive(Drop)]
+#[derive(Clone, Copy)]
 pub enum Coefficient {
     Pair(u8, i16, usize),
     EndOfBlock(usize),

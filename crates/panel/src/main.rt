@@ -1,4 +1,5 @@
 // Reads a reel from standard input, and prints a line for each of its pictures.
+#![tactic(auto)]
 use libc::STDOUT_FILENO;
 
 fn main() {

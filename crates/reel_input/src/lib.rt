@@ -1,11 +1,12 @@
 // Reads standard input, which may arrive in pieces of any size.
+#![tactic(auto)]
 ghost use Rattle.std.specs.Prelude.{◌≤◌, length};
 ghost use Rattle.io.specs.Counts.{IsPrefixLen};
 
 use libc::STDIN_FILENO;
 
 // The result of one read: how many bytes it put at the buffer's start (0 at the end of input), and whether it failed.
-#[derive(Drop)]
+#[derive(Clone, Copy)]
 struct Piece {
     length: usize,
     failed: bool,

@@ -9,7 +9,7 @@ pub const MAX_REEL_BYTES: usize = 16384;
 const LENGTH_BYTES: usize = 4;
 
 // What is at an offset of a reel: where a file lies in it, or a cut.
-#[derive(Drop)]
+#[derive(Clone, Copy)]
 pub enum Part {
     File { start: usize, length: usize },
     Cut,

@@ -7,7 +7,7 @@ use format3_header::file_start::FileStart;
 use symbols::header::{B_PICTURE, P_PICTURE};
 
 // The lengths of the kept references (the frame store), each at the start of its own buffer; 0 if there is none.
-#[derive(Drop)]
+#[derive(Clone, Copy)]
 pub struct Kept {
     pub older: usize,
     pub newer: usize,
@@ -57,8 +57,9 @@ pub fn backward_for(start: FileStart, kept: Kept, newer: &[u8]) -> &[u8]
 fn overwrite(bytes: &[u8], buffer: &mut [u8])
     ensures { buffer.new ≡ written 0 bytes.now buffer.old }
 {
-    let length = buffer.len();
-    bytes::copy(first(bytes, length), buffer);
+    let part = first(bytes, buffer.len());
+    let length = part.len();
+    buffer[..length].copy_from_slice(part);
 }
 
 // Keeps a picture as the newer reference; the previous newer one becomes the older.

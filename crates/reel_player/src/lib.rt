@@ -1,2 +1,3 @@
 // Plays a reel: reconstructs each picture from the references kept so far.
+#![tactic(auto)]
 pub mod play;

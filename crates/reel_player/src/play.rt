@@ -23,7 +23,7 @@ const MAX_LENT_MACROBLOCKS: usize = 40;
 pub const PICTURE_BYTES: usize = 384 * MAX_LENT_MACROBLOCKS;
 
 // A picture of a reel, once it has been read.
-#[derive(Drop)]
+#[derive(Clone, Copy)]
 pub struct Played {
     // Counted from 1.
     pub number: usize,
@@ -33,7 +33,7 @@ pub struct Played {
 }
 
 // A picture just played, how many bytes it has at the output's start (0 if refused), and the references kept after it.
-#[derive(Drop)]
+#[derive(Clone, Copy)]
 struct PlayedFile {
     played: Played,
     length: usize,
@@ -41,7 +41,7 @@ struct PlayedFile {
 }
 
 // How far a reel has been read: the offset of the next length field, the pictures before it, the references kept.
-#[derive(Drop)]
+#[derive(Clone, Copy)]
 pub struct ReelPosition {
     pub at: usize,
     pub pictures: usize,
@@ -49,7 +49,7 @@ pub struct ReelPosition {
 }
 
 // What comes next in a reel.
-#[derive(Drop)]
+#[derive(Clone, Copy)]
 pub enum Next {
     // A picture, how many bytes it has at the output's start (0 if refused), and where to read on.
     Picture {

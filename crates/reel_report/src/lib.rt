@@ -1,4 +1,5 @@
 // Writes the whole report of a reel into a lent buffer: one line per picture, up to where the reel is cut, or `long`.
+#![tactic(auto)]
 pub mod line;
 pub mod planes;
 

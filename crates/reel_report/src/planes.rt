@@ -11,7 +11,7 @@ use reel_parts::references;
 const MACROBLOCK_BYTES: usize = 384;
 
 // The sum of the pels in each plane.
-#[derive(Drop)]
+#[derive(Clone, Copy)]
 pub struct Sums {
     pub y: u64,
     pub cb: u64,

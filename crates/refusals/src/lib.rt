@@ -1,9 +1,10 @@
 // The refusals of every public entry, and their numbers in answers; 0 is an acceptance.
+#![tactic(auto)]
 ghost use Rattle.std.specs.Prelude.{◌≡◌};
 ghost use Rattle.refusals.specs.Refusal.{number_of};
 
 // Why something is refused, grouped by who can cause it.
-#[derive(Drop)]
+#[derive(Clone, Copy)]
 pub enum Refusal {
     // Caused by the writer of the file.
     FileEmpty,

@@ -15,7 +15,7 @@ pub const B_PICTURE: u8 = 3;
 const MAX_F_CODE: u8 = 7;
 
 // The numbers of a header, as stored in its record.
-#[derive(Drop)]
+#[derive(Clone, Copy)]
 pub struct HeaderFields {
     pub width: u8,
     pub height: u8,
@@ -27,13 +27,13 @@ pub struct HeaderFields {
 }
 
 // How the vectors of one direction are coded; false and 0 if the picture doesn't use it.
-#[derive(Drop)]
+#[derive(Clone, Copy)]
 pub struct VectorCoding {
     pub full_pel: bool,
     pub f_code: u8,
 }
 
-#[derive(Drop)]
+#[derive(Clone, Copy)]
 pub struct Header {
     pub size: PictureSize,
     pub coding_type: u8,
@@ -41,7 +41,7 @@ pub struct Header {
     pub backward: VectorCoding,
 }
 
-#[derive(Drop)]
+#[derive(Clone, Copy)]
 pub enum HeaderAnswer {
     Legal(Header),
     Refused(Refusal),

@@ -2,7 +2,7 @@
 use crate::vector_codes::VectorCodes;
 
 // The head: type, address increment, and scale, which is 0 if the type has none.
-#[derive(Drop)]
+#[derive(Clone, Copy)]
 pub struct MacroblockHead {
     pub macroblock_type: u8,
     pub increment: u16,
@@ -10,7 +10,7 @@ pub struct MacroblockHead {
 }
 
 // The scale and the codes are 0 if they are not given; the pattern marks the coded blocks.
-#[derive(Drop)]
+#[derive(Clone, Copy)]
 pub struct MacroblockSymbols {
     pub macroblock_type: u8,
     pub increment: u16,

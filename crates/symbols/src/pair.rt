@@ -6,7 +6,7 @@ ghost use Rattle.symbols.specs.Pair.{first_position};
 pub const LAST_POSITION: usize = 63;
 
 // The number of positions to skip, and the level after them.
-#[derive(Drop)]
+#[derive(Clone, Copy)]
 pub struct Pair {
     pub run: u8,
     pub level: i16,

@@ -3,13 +3,13 @@ ghost use Rattle.std.specs.Prelude.{◌≡◌, ◌*◌};
 ghost use Rattle.symbols.specs.Size.{max_width, max_height, max_macroblocks, size_of, size_within, macroblock_count, picture_bytes};
 ghost use Rattle.symbols.specs.Requires.{SizeWithin};
 
-#[derive(Drop)]
+#[derive(Clone, Copy)]
 pub struct PictureSize {
     pub width: usize,
     pub height: usize,
 }
 
-#[derive(Drop)]
+#[derive(Clone, Copy)]
 pub enum NewSize {
     Fits(PictureSize),
     Beyond,

@@ -1,6 +1,6 @@
 // The symbols of a slice before its macroblocks: its quantizer scale and the address of its first macroblock.
 
-#[derive(Drop)]
+#[derive(Clone, Copy)]
 pub struct SliceHeader {
     pub scale: u8,
     pub start: u16,

@@ -1,4 +1,5 @@
 // Lists every legal input of the vector entry for f_code 1 and then 2, each with its vector, as text in a lent buffer.
+#![tactic(auto)]
 ghost use Rattle.std.specs.Prelude.{◌≡◌, ◌++◌, ◌+◌, ◌≤◌, length, drop};
 ghost use Rattle.io.specs.Counts.{IsPrefixLen};
 ghost use Rattle.decode_vectors.specs.Vector.{f_of};
@@ -19,7 +20,7 @@ const LINES: usize = 1056 + 4160;
 pub const VECTOR_LIST_BYTES: usize = LINE_BYTES * LINES;
 
 // An input of the vector entry without its f_code, legal or not.
-#[derive(Drop)]
+#[derive(Clone, Copy)]
 pub struct VectorCase {
     pub past: i32,
     pub code: i32,

@@ -1,4 +1,5 @@
 // Prints every legal vector input for f_code 1 and then 2, with its vector.
+#![tactic(auto)]
 use libc::STDOUT_FILENO;
 
 fn main() {
