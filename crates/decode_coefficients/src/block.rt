@@ -52,6 +52,7 @@ pub fn store_level(
 }
 
 // Stores a block's coefficients in the array.
+#[tactic(auto, unfolding(crate::specs::BlockArray::put_block))]
 pub fn store_block(coefficients: &mut [i16; 384], block: usize, values: [i16; 64])
     requires { block < 6 }
     ensures { coefficients.new ≡ put_block block values coefficients.old }
@@ -62,6 +63,7 @@ pub fn store_block(coefficients: &mut [i16; 384], block: usize, values: [i16; 64
 }
 
 // A block before its pairs: the DC first, and zeros.
+#[tactic(auto, unfolding(crate::specs::Block::dc_block))]
 pub fn dc_block(dc: i16) -> [i16; 64]
     ensures { result ≡ dc_block dc }
 {

@@ -11,6 +11,7 @@ pub struct DcPasts {
 }
 
 // The past for a block: Y for the first four, then Cb, then Cr.
+#[tactic(auto, unfolding(crate::specs::Dc::dc_past_of))]
 pub fn dc_past_of(pasts: DcPasts, block: usize) -> i16
     ensures { result ≡ dc_past_of pasts block }
 {
@@ -24,6 +25,7 @@ pub fn dc_past_of(pasts: DcPasts, block: usize) -> i16
 }
 
 // The pasts after a block with this DC.
+#[tactic(auto, unfolding(crate::specs::Dc::with_dc_past))]
 fn with_dc_past(pasts: DcPasts, block: usize, dc: i16) -> DcPasts
     ensures { result ≡ with_dc_past pasts block dc }
 {
@@ -73,6 +75,7 @@ pub fn reset_dc_pasts() -> DcPasts
 }
 
 // The pasts that a macroblock starts from: reset if a skipped one comes before it.
+#[tactic(auto, unfolding(crate::specs::Dc::starting_dc_pasts))]
 pub fn starting_dc_pasts(dc: DcPasts, increment: u16) -> DcPasts
     ensures { result ≡ starting_dc_pasts dc increment }
 {

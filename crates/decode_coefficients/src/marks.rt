@@ -4,6 +4,7 @@ ghost use Rattle.decode_coefficients.specs.Marks.{has_row, has_ac, Marked, with_
 ghost use Rattle.decode_coefficients.specs.Block.{dc_block};
 
 // Whether row v has a mark.
+#[tactic(auto, unfolding(crate::specs::Marks::has_row))]
 pub fn has_row(marks: u64, v: usize) -> bool
     requires { v < 8 }
     ensures { result ≡ has_row marks v }
@@ -20,6 +21,7 @@ pub fn has_ac(marks: u64) -> bool
 }
 
 // The marks after a coefficient is stored at a raster index; one that is 0 sets none.
+#[tactic(auto, unfolding(crate::specs::Marks::with_coefficient))]
 pub(crate) fn with_coefficient(marks: u64, raster: usize, coefficient: i16) -> u64
     requires { raster < 64 }
     ensures { result ≡ with_coefficient marks raster coefficient }
@@ -31,6 +33,7 @@ pub(crate) fn with_coefficient(marks: u64, raster: usize, coefficient: i16) -> u
 }
 
 // The marks of a block before its pairs.
+#[tactic(auto, unfolding(crate::specs::Block::dc_block))]
 pub fn dc_marks(dc: i16) -> u64
     ensures { Marked (dc_block dc) result }
 {

@@ -49,6 +49,7 @@ fn limit(z: i32) -> i32
 }
 
 // Quotient, move to odd, limit.
+#[tactic(auto, unfolding(crate::specs::Scaling::scaled))]
 fn scale_doubled(doubled: i32, scale: i32, weight: i32) -> i16
     requires { Within 511 doubled × Within 31 scale × Within 255 weight }
     ensures { result ≡ scaled doubled scale weight }
@@ -71,6 +72,7 @@ fn double_level(intra: bool, level: i32) -> i32
 }
 
 // The coefficient of a level; the caller has checked the ranges. A weight of 0 is allowed.
+#[tactic(auto, unfolding(crate::specs::Scaling::coefficient_of))]
 pub(crate) fn scale_level(intra: bool, level: i32, scale: i32, weight: i32) -> i16
     requires { Within 255 level × Within 31 scale × Within 255 weight }
     ensures { result ≡ coefficient_of intra level scale weight }
@@ -107,6 +109,7 @@ fn in_range(low: i32, high: i32, z: i32) -> bool
     true
 }
 
+#[tactic(auto, unfolding(crate::specs::Answer::coefficient_entry_in_range))]
 fn coefficient_entry_in_range(level: i32, scale: i32, weight: i32) -> bool
     ensures { result ≡ coefficient_entry_in_range level scale weight }
 {

@@ -43,6 +43,7 @@ fn vector_difference(f: i32, code: i32, residual: i32) -> i32
 }
 
 // A sum wrapped into -16f..16f-1.
+#[tactic(auto, unfolding(crate::specs::Vector::wrapped))]
 fn wrap(f: i32, sum: i32) -> i32
     requires { Within max_f f × Within (2 ^ 12) sum }
     ensures { result ≡ wrapped f sum }
@@ -57,6 +58,7 @@ fn wrap(f: i32, sum: i32) -> i32
 }
 
 // The vector, which becomes the next past; the caller has checked the ranges.
+#[tactic(auto, unfolding(crate::specs::Vector::vector_of))]
 pub fn next_vector(f: u32, past: i32, code: i32, residual: u32) -> i32
     requires { (f ≤ max_f) × Within max_past past × Within 16 code × (residual < max_f) }
     ensures { result ≡ vector_of f past code residual }
@@ -66,6 +68,7 @@ pub fn next_vector(f: u32, past: i32, code: i32, residual: u32) -> i32
     wrap(f_signed, moved)
 }
 
+#[tactic(auto, unfolding(crate::specs::Vector::code_in_range))]
 pub fn code_in_range(code: i32) -> bool
     ensures { result ≡ code_in_range code }
 {
@@ -78,6 +81,7 @@ pub fn code_in_range(code: i32) -> bool
     true
 }
 
+#[tactic(auto, unfolding(crate::specs::Vector::residual_in_range))]
 pub fn residual_in_range(f: u32, code: i32, residual: u32) -> bool
     ensures { result ≡ residual_in_range f code residual }
 {
@@ -88,6 +92,7 @@ pub fn residual_in_range(f: u32, code: i32, residual: u32) -> bool
 }
 
 // Whether the past, or a vector that is to be the next past, is in -16f..16f-1.
+#[tactic(auto, unfolding(crate::specs::Vector::past_in_range))]
 pub fn past_in_range(f: u32, past: i32) -> bool
     requires { f ≤ max_f }
     ensures { result ≡ past_in_range f past }
@@ -103,6 +108,7 @@ pub fn past_in_range(f: u32, past: i32) -> bool
 }
 
 // Whether the f_code is 1..7, and the past in the range of its f.
+#[tactic(auto, unfolding(crate::specs::Vector::f_code_and_past_in_range))]
 pub fn f_code_and_past_in_range(f_code: u32, past: i32) -> bool
     ensures { result ≡ f_code_and_past_in_range f_code past }
 {
@@ -117,6 +123,7 @@ pub fn f_code_and_past_in_range(f_code: u32, past: i32) -> bool
 }
 
 // Whether every number is in the vector entry's range.
+#[tactic(auto, unfolding(crate::specs::Vector::vector_entry_in_range))]
 fn vector_entry_in_range(f_code: u32, past: i32, code: i32, residual: u32) -> bool
     ensures { result ≡ vector_entry_in_range f_code past code residual }
 {

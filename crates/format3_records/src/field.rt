@@ -85,6 +85,7 @@ fn signed_two_bytes(n: u16) -> i16
 }
 
 // A signed byte.
+#[tactic(auto, unfolding(crate::specs::Field::signed_byte))]
 pub fn read_i8(rest: &[u8]) -> SignedField
     ensures { ParsesAs signed_byte rest.now (signed_result result) }
 {
@@ -95,6 +96,7 @@ pub fn read_i8(rest: &[u8]) -> SignedField
 }
 
 // A signed two-byte number, big-endian.
+#[tactic(auto, unfolding(crate::specs::Field::signed_two_bytes))]
 pub fn read_i16(rest: &[u8]) -> SignedField
     ensures { ParsesAs signed_two_bytes rest.now (signed_result result) }
 {

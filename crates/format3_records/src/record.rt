@@ -26,6 +26,7 @@ pub enum Record {
 }
 
 // The record at an offset: cut (3), of an unknown kind (4), or found.
+#[tactic(auto, unfolding(crate::specs::Record::record_length_at, crate::specs::Record::record_of, crate::specs::Record::kind_at))]
 pub fn record_at(file: &[u8], offset: usize) -> Record
     ensures { result ≡ record_of file.now offset }
 {
@@ -98,7 +99,7 @@ pub struct Shown<'a> {
 pub fn show<'a>(file: &'a [u8], offset: usize) -> Shown<'a>
     ensures kind_value { result.kind ≡ kind_of (record_of file.now offset) }
     ensures body_value { result.body.now ≡ body_of (record_of file.now offset) file.now }
-    ensures ptr_value { result.body.ptr ≡ (file.entry.ref_ptr.0, body_start_of (record_of file.now offset) + file.entry.ref_ptr.1) }
+    ensures ptr_value { result.body.ref_ptr ≡ (file.entry.ref_ptr.0, body_start_of (record_of file.now offset) + file.entry.ref_ptr.1) }
 {
     let kind = shown_kind(file, offset);
     let body = shown_body(file, offset);

@@ -81,6 +81,7 @@ fn legal_coding(used: bool, flag: u8, code: u8) -> bool
 }
 
 // Whether the type is legal, and both directions are coded as the type requires.
+#[tactic(auto, unfolding(crate::specs::Header::legal_codings))]
 fn legal_codings(fields: HeaderFields) -> bool
     ensures { result ≡ legal_codings fields }
 {
@@ -107,6 +108,7 @@ fn legal_codings(fields: HeaderFields) -> bool
 }
 
 // The header with these numbers, if they are legal.
+#[tactic(auto, unfolding(crate::specs::Header::header_with, crate::specs::Header::legal_header))]
 pub fn header_with(fields: HeaderFields) -> HeaderAnswer
     ensures { result ≡ header_with fields }
 {

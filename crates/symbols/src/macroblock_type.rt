@@ -32,6 +32,7 @@ pub fn has_part(macroblock_type: u8, part: u8) -> bool
 }
 
 // Whether a macroblock's type is legal in a picture of this coding type.
+#[tactic(auto, unfolding(crate::specs::MacroblockType::legal_type))]
 pub fn legal_type(coding: u8, macroblock_type: u8) -> bool
     ensures { result ≡ legal_type coding macroblock_type }
 {

@@ -13,6 +13,7 @@ pub struct Pair {
 }
 
 // Where the first pair lands if its run is 0.
+#[tactic(auto, unfolding(crate::specs::Pair::first_position))]
 pub fn first_position(intra: bool) -> usize
     ensures { result ≡ first_position intra }
 {

@@ -27,6 +27,7 @@ impl PictureSize {
     pub const MAX_MACROBLOCKS_SMALL: usize = 99;
 
     // The size, if it is at least 1 by 1 and within the limits.
+    #[tactic(auto, unfolding(crate::specs::Size::size_of, crate::specs::Size::legal_size, crate::specs::Size::size_within))]
     pub fn new(width: usize, height: usize) -> NewSize
         ensures { result ≡ size_of width height }
     {
@@ -46,6 +47,7 @@ impl PictureSize {
     }
 
     // The size, if it has at most `limit` macroblocks.
+    #[tactic(auto, unfolding(crate::specs::Size::size_within))]
     pub fn within(self, limit: usize) -> NewSize
         requires { SizeWithin (max_width * max_height) self }
         ensures { result ≡ size_within limit self }

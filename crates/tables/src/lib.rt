@@ -29,18 +29,21 @@ fn cosine_table() -> [i64; 7]
     COSINES
 }
 
+#[tactic(auto, unfolding(crate::specs::Tables::zigzag, crate::specs::Tables::scan, crate::specs::Tables::index_of, math::specs::Tab::tab))]
 pub fn zigzag_table() -> [u8; 64]
     ensures { result ≡ zigzag }
 {
     ZIGZAG
 }
 
+#[tactic(auto, unfolding(crate::specs::Tables::default_intra))]
 pub fn default_intra() -> [u8; 64]
     ensures { result ≡ default_intra }
 {
     DEFAULT_INTRA
 }
 
+#[tactic(auto, unfolding(crate::specs::Tables::default_non_intra))]
 pub fn default_non_intra() -> [u8; 64]
     ensures { result ≡ default_non_intra }
 {

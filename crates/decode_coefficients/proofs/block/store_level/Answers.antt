@@ -1,0 +1,29 @@
+-- `store_level` meets its contract: it sets one coefficient. Assumes nothing.
+use mathlib.Core.Path.{ap, ◌∙◌}
+use borrow.Author.Rules.{rules}
+use Prim.Native.Nat.{◌<◌, suc-le-suc}
+use native.Mathlib.Omega.{arith}
+use lib.IntN.{ℤ}
+use lib.ListN.{get_or, set}
+use mir.Syntax.{w16}
+use mir.ValLaws.{to_z-of_z}
+use Rattle.math.proofs.Machine.{returned}
+use Rattle.tables.proofs.Zigzag.{raster-below}
+use Rattle.decode_coefficients.specs.Block.{raster_index}
+use Rattle.decode_coefficients.specs.Marks.{with_coefficient}
+use Rattle.decode_coefficients.proofs.block.store_level.Goals as goal
+
+pub bounds-matrix-raster : goal.bounds-matrix-raster
+bounds-matrix-raster c =
+    let below : get_or c.args.order.now c.args.position 0 < 64 = rw c.requires.3 (raster-below c.args.position (suc-le-suc c.requires.0)) in
+    below
+
+pub bounds-block-raster : goal.bounds-block-raster
+bounds-block-raster c =
+    let below : get_or c.args.order.now c.args.position 0 < 64 = rw c.requires.3 (raster-below c.args.position (suc-le-suc c.requires.0)) in
+    below
+
+pub with_coefficient-requires : goal.with_coefficient-requires
+with_coefficient-requires c =
+    let below : get_or c.args.order.now c.args.position 0 < 64 = rw c.requires.3 (raster-below c.args.position (suc-le-suc c.requires.0)) in
+    below

@@ -1,0 +1,19 @@
+-- `shown_body` meets its contract: it slices the body that `record_at` found, which lies within the file. Assumes nothing.
+use mathlib.Core.Path.{refl}
+use Prim.Native.Nat.{◌+◌, ◌≤◌}
+use native.Mathlib.Omega.{arith}
+use native.Mathlib.Nat.{add-sub_cancel_left}
+use lib.ListN.{length}
+use borrow.Author.Rules.{rules}
+use Rattle.format3_records.proofs.Laws.Record.{inside}
+use Rattle.format3_records.proofs.record.shown_body.Goals as goal
+
+pub overflow_add-result : goal.overflow_add-result
+overflow_add-result c =
+    let within : c.in-Found.start + c.in-Found.length ≤ length c.args.file.now = let a = c.args in rw (← c.record_at.ensures, c.in-Found.is) at (inside a.file.now a.offset).fits in
+    omega (arith, within)
+
+pub slice_bounds-result-end : goal.slice_bounds-result-end
+slice_bounds-result-end c =
+    let within : c.in-Found.start + c.in-Found.length ≤ length c.args.file.now = let a = c.args in rw (← c.record_at.ensures, c.in-Found.is) at (inside a.file.now a.offset).fits in
+    within
