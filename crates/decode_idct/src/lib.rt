@@ -62,6 +62,7 @@ fn in_range(c: i16) -> bool
 }
 
 // Whether every coefficient is in range. The loop has no early exit, so it compiles to SIMD code.
+#[tactic(auto, unfolding(math::specs::Test::all_below, crate::specs::Answer::transform_entry_in_range))]
 fn transform_entry_in_range(coefficients: &[i16; 64]) -> bool
     ensures { result ≡ transform_entry_in_range coefficients.now }
 {

@@ -107,6 +107,7 @@ pub struct RowPass {
 }
 
 // Works the rows that are marked. The line of any other row is zeros, which `numbers` holds from the start.
+#[tactic(auto, unfolding(decode_coefficients::specs::Rows::rows_worked))]
 pub(crate) fn row_pass(c: [i16; 64], marks: u64) -> RowPass
     requires { AllWithin (2 ^ 11) c × Marked c marks }
     ensures numbers_value { result.numbers ≡ tab 64 (pass_result c) }

@@ -5,6 +5,7 @@ ghost use Rattle.math.specs.Bound.{Within};
 ghost use Rattle.decode_prediction.specs.Fit.{signed_coordinate, half_pel_coordinate, vector_fits, macroblock_fits};
 
 // Whether a vector fits across, from leftmost pel x in a plane this wide; or down, from topmost pel x in a plane this high.
+#[tactic(auto, unfolding(crate::specs::Fit::vector_fits))]
 fn vector_fits(x: usize, width: usize, vector: i32) -> bool
     requires { (x ≤ 2 ^ 16) × (width ≤ 2 ^ 16) × Within (2 ^ 16) vector }
     ensures { result ≡ vector_fits 16 x width vector }
@@ -21,6 +22,7 @@ fn vector_fits(x: usize, width: usize, vector: i32) -> bool
 }
 
 // Whether a luma vector, right and down, fits for the macroblock in this column and row.
+#[tactic(auto, unfolding(crate::specs::Fit::macroblock_fits))]
 pub fn macroblock_fits(
     width: usize,
     height: usize,

@@ -46,6 +46,7 @@ fn motion_code_of(f: u32, difference: i32) -> i32
 }
 
 // The residual of a difference.
+#[tactic(auto, unfolding(crate::specs::Encoding::residual_of))]
 fn residual_of(f: u32, difference: i32) -> u32
     requires { (1 ≤ f) × Within (2 ^ 12) difference }
     ensures { result ≡ residual_of f difference }
@@ -54,6 +55,7 @@ fn residual_of(f: u32, difference: i32) -> u32
 }
 
 // The difference that decoding must add to the past: in -16f+1..16f if past and wanted are in -16f..16f-1.
+#[tactic(auto, unfolding(crate::specs::Encoding::needed_difference))]
 fn needed_difference(f: i32, past: i32, wanted: i32) -> i32
     requires { Within max_f f × Within max_past past × Within max_past wanted }
     ensures { result ≡ needed_difference f past wanted }
@@ -69,6 +71,7 @@ fn needed_difference(f: i32, past: i32, wanted: i32) -> i32
 }
 
 // Whether the f_code and the past are in range, and so is the wanted vector: exactly then a pair reaches it.
+#[tactic(auto, unfolding(crate::specs::Encoding::vector_reachable))]
 fn vector_reachable(f_code: u32, past: i32, wanted: i32) -> bool
     ensures { result ≡ vector_reachable f_code past wanted }
 {

@@ -32,6 +32,7 @@ pub struct FileHeader {
 }
 
 // Reads the start of the file, up to the header.
+#[tactic(auto, unfolding(crate::specs::FileStart::first_header))]
 pub fn first_header(file: &[u8]) -> FileStart
     ensures { result ≡ first_header file.now }
 {
@@ -65,6 +66,7 @@ pub fn first_header(file: &[u8]) -> FileStart
 }
 
 // Reads the start of the file, then tests the reader's limit and the lengths of the lent buffers.
+#[tactic(auto, unfolding(crate::specs::FileStart::file_start_of))]
 pub fn read_file_start(
     limit: usize,
     file: &[u8],
@@ -87,6 +89,7 @@ pub fn read_file_start(
 }
 
 // Reads the start of the file for a caller who asks for its header alone.
+#[tactic(auto, unfolding(crate::specs::FileStart::file_header_of))]
 pub fn file_header(file: &[u8]) -> FileHeader
     ensures { result ≡ file_header_of (first_header file.now) }
 {

@@ -9,6 +9,7 @@ use symbols::header::{HeaderAnswer, HeaderFields};
 const HEADER_BODY_LENGTH: usize = 7;
 
 // Tests the length of a header's body (6), then its fields (8).
+#[tactic(auto, unfolding(crate::specs::Header::header_of))]
 pub(crate) fn read_header(body: &[u8]) -> HeaderAnswer
     ensures { result ≡ header_of body.now }
 {

@@ -19,6 +19,7 @@ fn reference_length(used: bool, size: PictureSize) -> usize
 }
 
 // Tests the output (19), the forward reference (20) and the backward reference (21).
+#[tactic(auto, unfolding(crate::specs::Lengths::lent_lengths))]
 fn lent_lengths(header: Header, output: usize, forward: usize, backward: usize) -> Verdict
     requires { SizeWithin max_macroblocks header.size }
     ensures { result ≡ lent_lengths header output forward backward }
@@ -37,6 +38,7 @@ fn lent_lengths(header: Header, output: usize, forward: usize, backward: usize) 
 }
 
 // Tests the reader's limit (27), then the lengths of the lent buffers.
+#[tactic(auto, unfolding(crate::specs::Lengths::caller_verdict))]
 pub(crate) fn caller_verdict(
     limit: usize,
     header: Header,

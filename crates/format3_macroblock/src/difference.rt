@@ -21,6 +21,7 @@ pub enum DcAnswer {
     Refused(Refusal),
 }
 
+#[tactic(auto, unfolding(crate::specs::Blocks::legal_difference))]
 fn legal_difference(difference: i16) -> bool
     ensures { result ≡ legal_difference difference }
 {
@@ -33,6 +34,7 @@ fn legal_difference(difference: i16) -> bool
     true
 }
 
+#[tactic(auto, unfolding(crate::specs::Blocks::legal_dc))]
 fn legal_dc(dc: i16) -> bool
     ensures { result ≡ legal_dc dc }
 {
@@ -46,6 +48,7 @@ fn legal_dc(dc: i16) -> bool
 }
 
 // Reads the DC of a block: tests the difference, then the DC itself (17). A block that is not intra has no difference, and DC 0.
+#[tactic(auto, unfolding(crate::specs::Blocks::difference_of))]
 pub(crate) fn read_dc(rest: &[u8], past: i16, intra: bool) -> DcAnswer
     requires { legal_dc past ≡ true }
     ensures { ParsesAs (read_dc_of intra past) rest.now (dc_result result) }

@@ -21,6 +21,7 @@ const MAX_INTRA_PAIRS: u8 = 63;
 
 const MAX_PAIRS: u8 = 64;
 
+#[tactic(auto, unfolding(crate::specs::Blocks::legal_count))]
 fn legal_count(intra: bool, count: u8) -> bool
     ensures { result ≡ legal_count intra count }
 {
@@ -34,6 +35,7 @@ fn legal_count(intra: bool, count: u8) -> bool
 }
 
 // Reads the count of pairs (16).
+#[tactic(auto, unfolding(crate::specs::Blocks::count_of))]
 fn read_count(rest: &[u8], intra: bool) -> TestedByte
     ensures { ParsesAs (count_of intra) rest.now (tested_result result) }
 {
@@ -47,6 +49,7 @@ fn read_count(rest: &[u8], intra: bool) -> TestedByte
 }
 
 // Reads the count of pairs, then the pairs into the block, and marks them.
+#[tactic(auto, unfolding(crate::specs::Blocks::levels_of))]
 pub(crate) fn read_levels(
     rest: &[u8],
     coding: BlockCoding,

@@ -47,6 +47,7 @@ fn legal_pattern(pattern: u8) -> bool
 }
 
 // Reads a pattern (15).
+#[tactic(auto, unfolding(crate::specs::Macroblock::pattern_of))]
 fn read_pattern(rest: &[u8]) -> TestedByte
     ensures { ParsesAs pattern_of rest.now (tested_result result) }
 {
@@ -73,6 +74,7 @@ fn read_coded_pattern(rest: &[u8], macroblock_type: u8) -> TestedByte
 }
 
 // Reads the symbols before the blocks: the head, the vectors' codes and the pattern.
+#[tactic(auto, unfolding(crate::specs::Macroblock::macroblock_symbols_of))]
 pub fn read_macroblock_symbols(body: &[u8], context: MacroblockContext) -> SymbolsAnswer
     ensures { ParsesAs (macroblock_symbols_of context) body.now (symbols_result result) }
 {

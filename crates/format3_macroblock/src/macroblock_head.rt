@@ -50,6 +50,7 @@ fn must_follow(context: HeadContext) -> bool
 }
 
 // Whether the address increment is legal; the macroblock's own address is next + increment - 1.
+#[tactic(auto, unfolding(crate::specs::MacroblockHead::legal_increment))]
 fn legal_increment(context: HeadContext, increment: u16) -> bool
     ensures { result ≡ legal_increment context increment }
 {
@@ -81,6 +82,7 @@ fn read_given_scale(rest: &[u8], macroblock_type: u8) -> TestedByte
 }
 
 // Reads the type (12), the address increment (13) and the scale (10).
+#[tactic(auto, unfolding(crate::specs::MacroblockHead::head_of))]
 pub(crate) fn read_head(body: &[u8], context: HeadContext) -> HeadAnswer
     ensures { ParsesAs (head_of context) body.now (head_result result) }
 {

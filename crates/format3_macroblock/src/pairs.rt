@@ -42,6 +42,7 @@ pub struct PairsRead {
     pub marks: u64,
 }
 
+#[tactic(auto, unfolding(crate::specs::Pairs::legal_level))]
 fn legal_level(level: i16) -> bool
     ensures { result ≡ legal_level level }
 {
@@ -55,6 +56,7 @@ fn legal_level(level: i16) -> bool
 }
 
 // Reads a run and a level; a run of 0 lands at position `next`. The position is tested before the level is read.
+#[tactic(auto, unfolding(crate::specs::Pairs::pair_of))]
 fn read_pair(rest: &[u8], next: usize) -> PairAnswer
     requires { next ≤ 64 }
     ensures { ParsesAs (pair_of next) rest.now (pair_result result) }

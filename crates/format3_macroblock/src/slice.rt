@@ -30,6 +30,7 @@ fn legal_scale(scale: u8) -> bool
 }
 
 // Reads a scale (10).
+#[tactic(auto, unfolding(crate::specs::Slice::scale_of))]
 pub(crate) fn read_scale(rest: &[u8]) -> TestedByte
     ensures { ParsesAs scale_of rest.now (tested_result result) }
 {
@@ -43,6 +44,7 @@ pub(crate) fn read_scale(rest: &[u8]) -> TestedByte
 }
 
 // Reads the body of a slice record: its length (6), its scale (10), its start address.
+#[tactic(auto, unfolding(crate::specs::Slice::slice_of, crate::specs::Slice::slice_fields_of))]
 pub fn read_slice_record(body: &[u8]) -> SliceAnswer
     ensures { result ≡ slice_answer (slice_of body.now) }
 {

@@ -22,6 +22,7 @@ pub enum VectorCodesAnswer {
 }
 
 // Reads a code and its residual; the code is tested before the residual is read.
+#[tactic(auto, unfolding(crate::specs::VectorCodes::vector_code_of))]
 fn read_vector_code(rest: &[u8], f: u32) -> VectorCodeAnswer
     ensures { ParsesAs (vector_code_of f) rest.now (vector_code_result result) }
 {
@@ -54,6 +55,7 @@ fn vector_code_refusal(answer: VectorCodeAnswer) -> Refusal
 }
 
 // Reads the codes of one vector; f is 2^(f_code - 1).
+#[tactic(auto, unfolding(crate::specs::VectorCodes::vector_codes_of))]
 pub(crate) fn read_vector_codes(rest: &[u8], f: u32) -> VectorCodesAnswer
     ensures { ParsesAs (vector_codes_of f) rest.now (vector_codes_result result) }
 {

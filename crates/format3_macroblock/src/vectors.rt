@@ -40,6 +40,7 @@ fn read_given_vector_codes(rest: &[u8], given: bool, f: u32) -> VectorCodesAnswe
 }
 
 // Reads the forward codes, then the backward ones; each direction's f is 2^(f_code - 1).
+#[tactic(auto, unfolding(crate::specs::Vectors::vectors_of))]
 pub(crate) fn read_vectors(
     rest: &[u8],
     macroblock_type: u8,

@@ -25,6 +25,7 @@ pub struct Loaded {
 }
 
 // Whether no weight is 0.
+#[tactic(auto, unfolding(crate::specs::Matrix::positive))]
 fn all_positive(weights: &[u8]) -> bool
     requires { length weights.now ≡ 64 }
     ensures { result ≡ positive weights.now }
@@ -58,6 +59,7 @@ fn loaded_already(which: u8, loaded: Loaded) -> bool
 }
 
 // Tests the body's length (6); then which matrix, whether it was loaded before, and its weights (9).
+#[tactic(auto, unfolding(crate::specs::Matrix::matrix_verdict))]
 pub fn matrix_verdict(body: &[u8], loaded: Loaded) -> Verdict
     ensures { result ≡ matrix_verdict body.now loaded }
 {
@@ -81,6 +83,7 @@ pub fn matrix_verdict(body: &[u8], loaded: Loaded) -> Verdict
 }
 
 // The weights, given in zigzag order, in raster order.
+#[tactic(auto, unfolding(math::specs::Scatter::scatter, crate::specs::Matrix::raster_order))]
 fn raster_order(weights: &[u8]) -> [u8; 64]
     requires { length weights.now ≡ 64 }
     ensures { result ≡ raster_order weights.now }

@@ -27,6 +27,7 @@ pub fn saturating_add(at: usize, bytes: usize) -> usize
 }
 
 // Writes one byte.
+#[tactic(auto, unfolding(crate::specs::Written::written))]
 pub fn write_u8(buffer: &mut [u8], at: usize, byte: u8)
     ensures { buffer.new ≡ written at (byte ∷ []) buffer.old }
 {
@@ -54,6 +55,7 @@ pub fn write_bytes(buffer: &mut [u8], at: usize, bytes: &[u8])
 }
 
 // Writes an unsigned 16-bit number, big-endian.
+#[tactic(auto, unfolding(crate::specs::Written::written, crate::specs::Bytes::big_endian_bytes))]
 fn write_u16(buffer: &mut [u8], at: usize, value: u16)
     ensures { buffer.new ≡ written at (big_endian_bytes value) buffer.old }
 {

@@ -12,6 +12,7 @@ use symbols::macroblock_type::SCALE_GIVEN;
 const SLICE_SIZE: u8 = 4;
 
 // Writes a record's length and kind.
+#[tactic(auto, unfolding(crate::specs::Records::record_head, crate::specs::Bytes::big_endian_bytes))]
 pub fn write_record_head(buffer: &mut [u8], at: usize, size: u16, kind: u8)
     ensures { buffer.new ≡ written at (record_head size kind) buffer.old }
 {
@@ -22,6 +23,7 @@ pub fn write_record_head(buffer: &mut [u8], at: usize, size: u16, kind: u8)
 }
 
 // Writes a slice's whole record.
+#[tactic(auto, unfolding(crate::specs::Records::record_bytes, crate::specs::Records::record_head, crate::specs::Records::slice_body, crate::specs::Bytes::big_endian_bytes))]
 pub fn write_slice_record(buffer: &mut [u8], at: usize, scale: u8, start: u16)
     ensures { buffer.new ≡ written at (slice_record scale start) buffer.old }
 {
@@ -32,6 +34,7 @@ pub fn write_slice_record(buffer: &mut [u8], at: usize, scale: u8, start: u16)
 }
 
 // Writes a macroblock's type, its increment and, if the type has one, its scale. Returns how many bytes that is.
+#[tactic(auto, unfolding(crate::specs::Records::head_bytes, crate::specs::Bytes::big_endian_bytes))]
 pub fn write_macroblock_head(
     buffer: &mut [u8],
     at: usize,
@@ -55,6 +58,7 @@ pub fn write_macroblock_head(
 }
 
 // Writes a motion code and its residual, for one component of a vector.
+#[tactic(auto, unfolding(crate::specs::Records::vector_code_bytes))]
 pub fn write_vector_code(buffer: &mut [u8], at: usize, code: i8, residual: u8)
     ensures { buffer.new ≡ written at (vector_code_bytes code residual) buffer.old }
 {
@@ -63,6 +67,7 @@ pub fn write_vector_code(buffer: &mut [u8], at: usize, code: i8, residual: u8)
 }
 
 // Writes a run and a level.
+#[tactic(auto, unfolding(crate::specs::Records::pair_bytes, crate::specs::Bytes::big_endian_bytes))]
 pub fn write_pair(buffer: &mut [u8], at: usize, run: u8, level: i16)
     ensures { buffer.new ≡ written at (pair_bytes run level) buffer.old }
 {

@@ -10,6 +10,7 @@ pub enum Code {
 }
 
 // Unpacks an entry of the code table.
+#[tactic(auto, unfolding(crate::specs::Table::unpacked_of))]
 pub fn unpacked(entry: u16) -> Code
     ensures { result ≡ unpacked_of entry }
 {

@@ -66,6 +66,7 @@ fn with_sign(level: u16, sign: u32) -> i16
 }
 
 // A pair, with the sign that follows its word.
+#[tactic(auto, unfolding(crate::specs::Coefficient::signed_of))]
 fn signed_pair(value: u16, taken: usize, next: Window) -> Coefficient
     requires { (value < 2 ^ 11) × (taken ≤ 16) × (taken ≤ next.count) × (next.count ≤ 32) }
     ensures { result ≡ signed_of value taken (drop taken (bits_in next)) }
@@ -111,6 +112,7 @@ fn at_most_eight(count: usize) -> usize
 }
 
 // The code of a large level's second eight bits, which are one of the 128 numbers from `low` on.
+#[tactic(auto, unfolding(crate::proofs::Laws::Large::range_of))]
 fn large_code(low: usize, next: Window) -> Code
     requires { T (is_one_of low lowest_large) × (next.count ≤ 32) }
     ensures { result ≡ code_of (byte_words low 128) (bits_in next) }
@@ -132,6 +134,7 @@ fn large_code(low: usize, next: Window) -> Code
 }
 
 // A large level: the eight bits after the first 20.
+#[tactic(auto, unfolding(crate::specs::Coefficient::large_of))]
 fn large_level(low: usize, less: u16, run: u8, next: Window) -> Coefficient
     requires { T (is_one_of low lowest_large) × (less ≤ 256) × (20 ≤ next.count) × (next.count ≤ 32) }
     ensures { result ≡ large_of (byte_words low 128) less run 20 (drop 20 (bits_in next)) }
@@ -148,6 +151,7 @@ fn large_level(low: usize, less: u16, run: u8, next: Window) -> Coefficient
 }
 
 // Run and level after an escape's six bits.
+#[tactic(auto, unfolding(mpeg1_tables::specs::AnnexB::large_positive, mpeg1_tables::specs::AnnexB::large_negative))]
 fn escaped(next: Window) -> Coefficient
     requires { (6 ≤ next.count) × (next.count ≤ 32) }
     ensures { result ≡ escaped_of 6 (drop 6 (bits_in next)) }
@@ -167,6 +171,7 @@ fn escaped(next: Window) -> Coefficient
 }
 
 // A coefficient, given its word: reads what follows it.
+#[tactic(auto, unfolding(crate::specs::Coefficient::finished_of))]
 fn finished(value: u16, taken: usize, next: Window) -> Coefficient
     requires { WordIn value taken next × (next.count ≤ 32) }
     ensures { result ≡ finished_of value taken (drop taken (bits_in next)) }
@@ -181,6 +186,7 @@ fn finished(value: u16, taken: usize, next: Window) -> Coefficient
 }
 
 // Any coefficient except the first of a non-intra block.
+#[tactic(auto, unfolding(crate::specs::Coefficient::coefficient_code_of))]
 fn next_coefficient(codes: &[u16; TABLE_LENGTH], next: Window) -> Coefficient
     requires { (codes.now ≡ code_table) × (next.count ≤ 32) }
     ensures { result ≡ coefficient_code_of next_coefficients (bits_in next) }
@@ -193,6 +199,7 @@ fn next_coefficient(codes: &[u16; TABLE_LENGTH], next: Window) -> Coefficient
 }
 
 // Whether the code is the word `1`, which only the first coefficient of a non-intra block has; all other words are the same there.
+#[tactic(auto, unfolding(crate::specs::Coefficient::is_one_alone))]
 fn is_one_alone(first: bool, next: Window) -> bool
     ensures { result ≡ is_one_alone first next }
 {

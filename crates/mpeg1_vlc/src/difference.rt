@@ -5,6 +5,7 @@ ghost use Rattle.mpeg1_vlc.specs.Difference.{dc_difference_of};
 use crate::lookup::power_of_two;
 
 // The difference coded by the `size`-bit number `value`.
+#[tactic(auto, unfolding(crate::specs::Difference::dc_difference_of))]
 pub fn dc_difference(size: usize, value: u16) -> i16
     requires { (size ≤ 8) × (value < 2 ^ size) }
     ensures { result ≡ dc_difference_of size value }

@@ -21,6 +21,7 @@ pub(crate) fn power_of_two(n: usize) -> usize
 }
 
 // The code of `count` bits, given the codes of these bits padded with zeros and padded with ones.
+#[tactic(auto, unfolding(crate::specs::LookUp::unpadded_of))]
 fn unpadded(count: usize, zeroed: Code, filled: Code) -> Code
     ensures { result ≡ unpadded_of count zeroed filled }
 {

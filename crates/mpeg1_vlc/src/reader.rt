@@ -52,6 +52,7 @@ pub fn read_increment_after_escape(
 }
 
 // A macroblock type in a picture of type `coding_type`.
+#[tactic(auto, unfolding(mpeg1_tables::specs::AnnexB::types_of))]
 pub fn read_type(
     codes: &[u16; TABLE_LENGTH],
     coding_type: u8,

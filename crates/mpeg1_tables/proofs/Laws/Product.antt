@@ -124,6 +124,7 @@ module _ {A : Type 0} (none short : A) where
         ∙ sym (ap (λ (c : Code). after_code none short c b (λ v n rest. listed short none (f v n) rest)) (code-truncated w words b p q))
       where
         begun : (es : List (Entry A)) → Some es → listed short (listed short none (product words f) b) (prepended w.bits es) b ≡ short
+        begun [] x' = elim x' [ ]
         begun (e ∷ es) some = listed-begun short (listed short none (product words f) b) w.bits b e es p q
 
     first-apart : is_prefix w.bits b ≡ false → is_prefix b w.bits ≡ false → listed short none (product words f) b ≡ after_code none short (code_of words b) b (λ v n rest. listed short none (f v n) rest) → listed short none (product (w ∷ words) f) b ≡ after_code none short (code_of (w ∷ words) b) b (λ v n rest. listed short none (f v n) rest)

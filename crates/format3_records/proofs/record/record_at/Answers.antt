@@ -13,12 +13,6 @@ use Rattle.format3_records.specs.Record.{record_of, record_length_at, kind_at}
 use Rattle.format3_records.proofs.Laws.Record.{none_left, few-left, head-left, past_end, before-end}
 use Rattle.format3_records.proofs.record.record_at.Goals as goal
 
-abbrev file : tie.Else4 → List ℕ
-file c = c.before.before.before.before.before.before.args.file.now
-
-abbrev offset : tie.Else4 → ℕ
-offset c = c.before.before.before.before.before.before.args.offset
-
 pub returns-then-file-offset : goal.returns-then-file-offset
 unfolding record_of record_length_at kind_at require◌else◌then◌
 returns-then-file-offset c = rw (none_left _ _ c.if-file-offset.true)
@@ -38,23 +32,29 @@ returns-then-left-length c = rw (head-left _ _ c.if-left-lt3.false, le-leb _ _ c
 pub returns-then-kind-lt-HEADER_KIND : goal.returns-then-kind-lt-HEADER_KIND
 unfolding record_of record_length_at kind_at require◌else◌then◌
 returns-then-kind-lt-HEADER_KIND c =
-    let headed : leb (offset c + 3) (length (file c)) ≡ true = head-left _ _ c.if-left-lt3.false in
-    let some : leb 1 (record_length_at (file c) (offset c)) ≡ true = le-leb _ _ c.if-length-lt1.false in
-    let whole : leb (offset c + 2 + record_length_at (file c) (offset c)) (length (file c)) ≡ true = before-end _ _ c.if-left-lt3.false _ c.if-left-length.false in
+    let file : List ℕ = c.args.file.now in
+    let offset : ℕ = c.args.offset in
+    let headed : leb (offset + 3) (length file) ≡ true = head-left _ _ c.if-left-lt3.false in
+    let some : leb 1 (record_length_at file offset) ≡ true = le-leb _ _ c.if-length-lt1.false in
+    let whole : leb (offset + 2 + record_length_at file offset) (length file) ≡ true = before-end _ _ c.if-left-lt3.false _ c.if-left-length.false in
     rw (headed, some, whole, lt-leb _ _ c.if-kind-lt-HEADER_KIND.true)
 
 pub returns-then-kind-gt-LAST_KIND : goal.returns-then-kind-gt-LAST_KIND
 unfolding record_of record_length_at kind_at require◌else◌then◌
 returns-then-kind-gt-LAST_KIND c =
-    let headed : leb (offset c + 3) (length (file c)) ≡ true = head-left _ _ c.if-left-lt3.false in
-    let some : leb 1 (record_length_at (file c) (offset c)) ≡ true = le-leb _ _ c.if-length-lt1.false in
-    let whole : leb (offset c + 2 + record_length_at (file c) (offset c)) (length (file c)) ≡ true = before-end _ _ c.if-left-lt3.false _ c.if-left-length.false in
+    let file : List ℕ = c.args.file.now in
+    let offset : ℕ = c.args.offset in
+    let headed : leb (offset + 3) (length file) ≡ true = head-left _ _ c.if-left-lt3.false in
+    let some : leb 1 (record_length_at file offset) ≡ true = le-leb _ _ c.if-length-lt1.false in
+    let whole : leb (offset + 2 + record_length_at file offset) (length file) ≡ true = before-end _ _ c.if-left-lt3.false _ c.if-left-length.false in
     rw (headed, some, whole, le-leb _ _ c.if-kind-lt-HEADER_KIND.false, lt-leb _ _ c.if-kind-gt-LAST_KIND.true)
 
 pub returns : goal.returns
 unfolding record_of record_length_at kind_at require◌else◌then◌
 returns c =
-    let headed : leb (offset c + 3) (length (file c)) ≡ true = head-left _ _ c.if-left-lt3.false in
-    let some : leb 1 (record_length_at (file c) (offset c)) ≡ true = le-leb _ _ c.if-length-lt1.false in
-    let whole : leb (offset c + 2 + record_length_at (file c) (offset c)) (length (file c)) ≡ true = before-end _ _ c.if-left-lt3.false _ c.if-left-length.false in
+    let file : List ℕ = c.args.file.now in
+    let offset : ℕ = c.args.offset in
+    let headed : leb (offset + 3) (length file) ≡ true = head-left _ _ c.if-left-lt3.false in
+    let some : leb 1 (record_length_at file offset) ≡ true = le-leb _ _ c.if-length-lt1.false in
+    let whole : leb (offset + 2 + record_length_at file offset) (length file) ≡ true = before-end _ _ c.if-left-lt3.false _ c.if-left-length.false in
     rw (headed, some, whole, le-leb _ _ c.if-kind-lt-HEADER_KIND.false, le-leb _ _ c.if-kind-gt-LAST_KIND.false)

@@ -1,0 +1,16 @@
+-- `pass::middle_row` meets its contract: before number u, the first u of the row are copied into the line. Assumes nothing.
+use Prim.Native.Nat.{◌+◌, ◌-◌, ◌*◌, ◌≤◌}
+use mathlib.Core.Path.{refl}
+use native.Mathlib.Omega.{arith}
+use lib.IntN.{pos}
+use mir.Syntax.{w64}
+use Rattle.math.proofs.Machine.{returned}
+use Rattle.math.specs.Bound.{at}
+use Rattle.math.proofs.Tab.{Filled, filled_none, filled_more, filled-all}
+use Rattle.decode_idct.proofs.pass.middle_row.Given as goal
+
+abbrev pub invariant-loop-u : goal.invariant-loop-u
+invariant-loop-u l = Filled 8 (λ k. at l.t (8 * l.v + k)) (pos 0) l.u l.x × (l.u ≤ 8)
+
+abbrev pub decreases-loop-u : goal.decreases-loop-u
+decreases-loop-u l = 8 - l.u
