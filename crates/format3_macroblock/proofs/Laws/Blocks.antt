@@ -115,7 +115,7 @@ blocks-legal intra pattern (suc n) pasts block bytes =
 pub through-legal : (intra : Bool) (pasts : DcPasts) (block : ℕ) (blocks : List Block) → LegalDcPasts pasts → LegalBlocks intra pasts block blocks → LegalDcPasts (dc_pasts_through intra pasts block blocks)
 unfolding dc_pasts_through
 through-legal intra pasts block [] p legal = p
-through-legal intra pasts block (b ∷ blocks) p legal = through-legal intra _ (block + 1) blocks (after-legal intra pasts block b p legal.0) legal.1
+through-legal intra pasts block (b ∷ blocks) p legal = through-legal intra (dc_pasts_after intra pasts block b) (block + 1) blocks (after-legal intra pasts block b p legal.0) legal.1
 
 -- ---- and their coefficients are in range
 module _ (c : BlockCoding) (matrix : List ℕ) where
@@ -131,7 +131,7 @@ module _ (c : BlockCoding) (matrix : List ℕ) where
   unfolding coefficients_from
   each-in-range pasts block [] legal k = zeros-between 0
   each-in-range pasts block (b ∷ blocks) legal zero = one-in-range (dc_past_of pasts block) b legal.0
-  each-in-range pasts block (b ∷ blocks) legal (suc k) = each-in-range _ (block + 1) blocks legal.1 k
+  each-in-range pasts block (b ∷ blocks) legal (suc k) = each-in-range (dc_pasts_after c.intra pasts block b) (block + 1) blocks legal.1 k
 
   pub in-range : (pasts : DcPasts) (block : ℕ) (blocks : List Block) → LegalBlocks c.intra pasts block blocks → BlocksInRange (coefficients_from c matrix pasts block blocks)
   in-range pasts block blocks legal = record { all = each-in-range pasts block blocks legal }

@@ -14,7 +14,7 @@ use Rattle.format3_macroblock.proofs.blocks.read_blocks.Given as goal
 
 abbrev pub invariant-loop-block : goal.invariant-loop-block
 invariant-loop-block l =
-    BetweenBlocks l.coding l.matrix (record { pasts = l.initial.running; l.coefficients = l.initial.coefficients }) l.rest l.block l.at (record { pasts = l.running; l.coefficients = l.coefficients }) × BlocksMarked l.coefficients l.marks
+    BetweenBlocks l.coding l.matrix (record { pasts = l.initial.running; coefficients = l.initial.coefficients }) l.rest l.block l.at (record { pasts = l.running; coefficients = l.coefficients }) × BlocksMarked l.coefficients l.marks
 
 abbrev pub decreases-loop-block : goal.decreases-loop-block
 decreases-loop-block l =

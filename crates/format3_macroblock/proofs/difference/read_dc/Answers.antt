@@ -21,7 +21,7 @@ pub returns-then-not-legal_difference : goal.returns-then-not-legal_difference
 unfolding difference_of require◌else◌then◌
 returns-then-not-legal_difference c =
     let is-intra : c.args.intra ≡ true = not-false c.args.intra c.if-not-intra.false-raw in
-    let same-difference : to_z w16 (of_z w16 c.in-Value.difference) ≡ c.in-Value.difference = returned w16 c.known_told-1.given.0.1 refl in
+    let same-difference : to_z w16 (of_z w16 c.in-Value.difference) ≡ c.in-Value.difference = returned w16 c.in-Value.known_told-1-own.given.0.1 refl in
     let difference-test : (b : Bool) → c.legal_difference.result ≡ b → legal_difference c.in-Value.difference ≡ b = λ b t. sym (c.legal_difference.ensures ∙ ap legal_difference same-difference) ∙ t in
     let differs : ParsesAs signed_two_bytes c.args.rest.now (value c.in-Value.difference c.in-Value.cursor.at) = rw c.in-Value.is at c.read_i16.ensures in
     rw (is-intra, differs.0, difference-test _ (not-true c.legal_difference.result c.if-not-legal_difference.true-raw))
@@ -29,7 +29,7 @@ returns-then-not-legal_difference c =
 pub intra_dc-dc-requires : goal.intra_dc-dc-requires
 intra_dc-dc-requires c =
     let same-past : to_z w16 (of_z w16 c.args.past) ≡ c.args.past = to_z-of_z w16 c.args.past c.ranges.past in
-    let same-difference : to_z w16 (of_z w16 c.in-Value.difference) ≡ c.in-Value.difference = returned w16 c.known_told-1.given.0.1 refl in
+    let same-difference : to_z w16 (of_z w16 c.in-Value.difference) ≡ c.in-Value.difference = returned w16 c.in-Value.known_told-1-own.given.0.1 refl in
     let difference-test : (b : Bool) → c.legal_difference.result ≡ b → legal_difference c.in-Value.difference ≡ b = λ b t. sym (c.legal_difference.ensures ∙ ap legal_difference same-difference) ∙ t in
     let legal : legal_difference c.in-Value.difference ≡ true = difference-test _ (not-false c.legal_difference.result c.if-not-legal_difference.false-raw) in
     (within-eq same-past (dc-within _ c.requires), within-eq same-difference (difference-within _ legal))
@@ -39,7 +39,7 @@ unfolding difference_of require◌else◌then◌
 returns-then-not-legal_dc c =
     let is-intra : c.args.intra ≡ true = not-false c.args.intra c.if-not-intra.false-raw in
     let same-past : to_z w16 (of_z w16 c.args.past) ≡ c.args.past = to_z-of_z w16 c.args.past c.ranges.past in
-    let same-difference : to_z w16 (of_z w16 c.in-Value.difference) ≡ c.in-Value.difference = returned w16 c.known_told-1.given.0.1 refl in
+    let same-difference : to_z w16 (of_z w16 c.in-Value.difference) ≡ c.in-Value.difference = returned w16 c.in-Value.known_told-1-own.given.0.1 refl in
     let same-dc : to_z w16 (of_z w16 c.intra_dc-dc.result) ≡ intra_dc c.args.past c.in-Value.difference = returned w16 c.intra_dc-dc.type_inv (c.intra_dc-dc.ensures ∙ (λ i. intra_dc (same-past i) (same-difference i))) in
     let dc-test : (b : Bool) → c.legal_dc.result ≡ b → legal_dc (intra_dc c.args.past c.in-Value.difference) ≡ b = λ b t. sym (c.legal_dc.ensures ∙ ap legal_dc same-dc) ∙ t in
     let differs : ParsesAs signed_two_bytes c.args.rest.now (value c.in-Value.difference c.in-Value.cursor.at) = rw c.in-Value.is at c.read_i16.ensures in
@@ -52,7 +52,7 @@ unfolding difference_of require◌else◌then◌
 returns c =
     let is-intra : c.args.intra ≡ true = not-false c.args.intra c.if-not-intra.false-raw in
     let same-past : to_z w16 (of_z w16 c.args.past) ≡ c.args.past = to_z-of_z w16 c.args.past c.ranges.past in
-    let same-difference : to_z w16 (of_z w16 c.in-Value.difference) ≡ c.in-Value.difference = returned w16 c.known_told-1.given.0.1 refl in
+    let same-difference : to_z w16 (of_z w16 c.in-Value.difference) ≡ c.in-Value.difference = returned w16 c.in-Value.known_told-1-own.given.0.1 refl in
     let same-dc : to_z w16 (of_z w16 c.intra_dc-dc.result) ≡ intra_dc c.args.past c.in-Value.difference = returned w16 c.intra_dc-dc.type_inv (c.intra_dc-dc.ensures ∙ (λ i. intra_dc (same-past i) (same-difference i))) in
     let dc-test : (b : Bool) → c.legal_dc.result ≡ b → legal_dc (intra_dc c.args.past c.in-Value.difference) ≡ b = λ b t. sym (c.legal_dc.ensures ∙ ap legal_dc same-dc) ∙ t in
     let differs : ParsesAs signed_two_bytes c.args.rest.now (value c.in-Value.difference c.in-Value.cursor.at) = rw c.in-Value.is at c.read_i16.ensures in

@@ -34,7 +34,7 @@ returns-in_default-read_i16 c =
 pub returns-then-not-legal_level : goal.returns-then-not-legal_level
 unfolding pair_of require◌else◌then◌
 returns-then-not-legal_level c =
-    let same : to_z w16 (of_z w16 c.in-Value-read_i16.level) ≡ c.in-Value-read_i16.level = to_z-of_z w16 c.in-Value-read_i16.level (record { sfits = c.known_told-in-Value-read_i16-1.given.0.1 }) in
+    let same : to_z w16 (of_z w16 c.in-Value-read_i16.level) ≡ c.in-Value-read_i16.level = to_z-of_z w16 c.in-Value-read_i16.level (record { sfits = c.in-Value-read_i16.known_told-in-Value-read_i16-1-own.given.0.1 }) in
     let level-test : (b : Bool) → c.legal_level.result ≡ b → legal_level c.in-Value-read_i16.level ≡ b = λ b t. sym (c.legal_level.ensures ∙ ap legal_level same) ∙ t in
     let ran : ParsesAs byte c.args.rest.now (value c.in-Value.run' c.in-Value.after_run.at) = rw c.in-Value.is at c.read_u8.ensures in
     let near : leb (c.args.next + c.in-Value.run') 63 ≡ true = le-leb _ _ c.if-next-run-gt-LAST_POSITION.false in
@@ -44,7 +44,7 @@ returns-then-not-legal_level c =
 pub returns : goal.returns
 unfolding pair_of require◌else◌then◌
 returns c =
-    let same : to_z w16 (of_z w16 c.in-Value-read_i16.level) ≡ c.in-Value-read_i16.level = to_z-of_z w16 c.in-Value-read_i16.level (record { sfits = c.known_told-in-Value-read_i16-1.given.0.1 }) in
+    let same : to_z w16 (of_z w16 c.in-Value-read_i16.level) ≡ c.in-Value-read_i16.level = to_z-of_z w16 c.in-Value-read_i16.level (record { sfits = c.in-Value-read_i16.known_told-in-Value-read_i16-1-own.given.0.1 }) in
     let level-test : (b : Bool) → c.legal_level.result ≡ b → legal_level c.in-Value-read_i16.level ≡ b = λ b t. sym (c.legal_level.ensures ∙ ap legal_level same) ∙ t in
     let ran : ParsesAs byte c.args.rest.now (value c.in-Value.run' c.in-Value.after_run.at) = rw c.in-Value.is at c.read_u8.ensures in
     let near : leb (c.args.next + c.in-Value.run') 63 ≡ true = le-leb _ _ c.if-next-run-gt-LAST_POSITION.false in

@@ -41,7 +41,7 @@ loop-left-preserved c =
     let got : ParsesAs (pair_of c.loop-left.next) (drop c.loop-left.at c.args.rest.now) (value c.in-Legal.pair c.in-Legal.cursor.at) = rw c.in-Legal.is at found in
     let same-level : let level = c.in-Legal.pair.level in to_z w16 (of_z w16 level) ≡ level = returned w16 c.struct_told-1.given.1.0.1 refl in
     let stored = rw same-level at c.store_level-marks.ensures in
-    rw (stored.0, stored.1) (one_more _ _ _ _ _ c.loop-left.invariant c.loop-left-test.true got)
+    rw (stored.block_after, stored.value) (one_more _ _ _ _ _ c.loop-left.invariant c.loop-left-test.true got)
 
 pub returns-clause-parses_as : goal.returns-clause-parses_as
 returns-clause-parses_as c = ends _ _ _ _ _ c.loop-left.invariant (omega arith)
