@@ -18,6 +18,7 @@ fn limit_pel(sum: i16) -> i16
 }
 
 // Prediction plus residue, limited to 0..255.
+#[tactic(auto, unfolding(crate::specs::Pel::reconstructed_pel))]
 fn reconstruct_pel(predicted: u8, residue: i16) -> u8
     requires { Within 256 residue }
     ensures { result ≡ reconstructed_pel predicted residue }
@@ -38,6 +39,7 @@ pub(crate) fn reconstruct_block(predicted: [u8; 64], residue: [i16; 64]) -> [u8;
 }
 
 // Puts a block at column x of line y. The inner loop compiles to a store of eight bytes.
+#[tactic(auto, unfolding(crate::specs::Pel::pel_index))]
 pub(crate) fn put_block(plane: &mut [u8], stride: usize, x: usize, y: usize, block: [u8; 64])
     requires { (x + 8 ≤ stride) × ((y + 8) * stride ≤ length plane.old) }
     ensures { plane.new ≡ with_block stride x y block plane.old }
@@ -52,6 +54,7 @@ pub(crate) fn put_block(plane: &mut [u8], stride: usize, x: usize, y: usize, blo
 }
 
 // Puts 16 by 16 luma pels at column x of line y. The inner loop compiles to a store of sixteen bytes.
+#[tactic(auto, unfolding(crate::specs::Pel::pel_index))]
 pub(crate) fn put_luma_pels(plane: &mut [u8], stride: usize, x: usize, y: usize, luma: [u8; 256])
     requires { (x + 16 ≤ stride) × ((y + 16) * stride ≤ length plane.old) }
     ensures { plane.new ≡ with_pels 16 stride x y luma plane.old }

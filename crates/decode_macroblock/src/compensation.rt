@@ -25,6 +25,7 @@ pub struct Motion {
 }
 
 // The vector for a block's plane: halved for chroma.
+#[tactic(auto, unfolding(crate::specs::Compensation::vector_for))]
 pub(crate) fn vector_for(block: usize, vector: Vector) -> Vector
     requires { VectorWithin max_vector vector }
     ensures { result ≡ vector_for block vector }
@@ -55,6 +56,7 @@ fn half_pels(location: BlockLocation, vector: Vector) -> HalfPels
 }
 
 // The prediction from one reference, with the vector for the block's plane.
+#[tactic(auto, unfolding(crate::specs::Compensation::predicted_from))]
 fn predict_block_from(reference: &[u8], location: BlockLocation, vector: Vector) -> [u8; 64]
     requires { Readable location vector reference.now }
     ensures { result ≡ predicted_from reference.now location vector }
@@ -86,6 +88,7 @@ pub(crate) fn is_whole_pel(vector: Vector) -> bool
 }
 
 // The same with a vector that points to whole pels: a plain copy, no averaging.
+#[tactic(auto, unfolding(crate::specs::Compensation::predicted_from))]
 pub(crate) fn copy_block_from(reference: &[u8], location: BlockLocation, vector: Vector) -> [u8; 64]
     requires { Readable location vector reference.now × (is_whole_pel vector ≡ true) }
     ensures { result ≡ predicted_from reference.now location vector }
@@ -103,6 +106,7 @@ pub(crate) fn copy_block_from(reference: &[u8], location: BlockLocation, vector:
 }
 
 // The 16 by 16 luma pels that a vector points to.
+#[tactic(auto, unfolding(crate::specs::Compensation::copied_luma_from))]
 pub(crate) fn copy_luma_from(reference: &[u8], location: BlockLocation, vector: Vector) -> [u8; 256]
     requires { Readable location vector reference.now × ((half_pels location vector).px + 32 ≤ 2 * location.stride) × ((half_pels location vector).py + 32 ≤ 2 * location.lines) }
     ensures { result ≡ copied_luma_from reference.now location vector }
@@ -120,6 +124,7 @@ pub(crate) fn copy_luma_from(reference: &[u8], location: BlockLocation, vector: 
 }
 
 // The prediction of a block from the directions in use.
+#[tactic(auto, unfolding(crate::specs::Compensation::predicted_block))]
 pub(crate) fn predict(
     forward: &[u8],
     backward: &[u8],

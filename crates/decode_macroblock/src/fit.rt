@@ -21,6 +21,7 @@ pub enum Fit {
 }
 
 // An unused direction always fits.
+#[tactic(auto, unfolding(crate::specs::Fit::direction_fits))]
 fn direction_fits(used: bool, position: MacroblockPosition, vector: Vector) -> bool
     requires { Inside position × VectorWithin max_vector vector }
     ensures { result ≡ direction_fits used position vector }
@@ -41,6 +42,7 @@ fn direction_fits(used: bool, position: MacroblockPosition, vector: Vector) -> b
 }
 
 // Tests forward before backward.
+#[tactic(auto, unfolding(crate::specs::Fit::fit_of))]
 pub fn fit_of(size: PictureSize, address: usize, motion: Motion) -> Fit
     requires { SizeWithin max_macroblocks size × (address < macroblock_count size) × MotionWithin max_vector motion }
     ensures { result ≡ fit_of size address motion }
@@ -69,6 +71,7 @@ fn or_else(fit: Fit, next: Fit) -> Fit
 }
 
 // The first misfit among `skipped` macroblocks from address `first` on.
+#[tactic(auto, unfolding(crate::specs::Fit::first_misfit))]
 pub fn first_misfit(size: PictureSize, first: usize, skipped: usize, motion: Motion) -> Fit
     requires { SizeWithin max_macroblocks size × (first + skipped ≤ macroblock_count size) × MotionWithin max_vector motion }
     ensures { result ≡ first_misfit size first skipped motion }

@@ -85,6 +85,7 @@ fn chroma_location(position: MacroblockPosition, from: usize) -> BlockLocation
 }
 
 // The location of a block: 0 to 3 are Y, 4 is Cb and 5 is Cr. Y is tested first because most blocks are Y.
+#[tactic(auto, unfolding(crate::specs::Location::block_location))]
 pub(crate) fn block_location(position: MacroblockPosition, block: usize) -> BlockLocation
     requires { Inside position × (block < 6) }
     ensures { result ≡ block_location position block }
@@ -115,6 +116,7 @@ pub(crate) fn read(picture: &[u8], location: BlockLocation) -> [u8; 64]
 }
 
 // Puts a block at its location, by lending on the part of the output that is its plane.
+#[tactic(auto, unfolding(crate::specs::Location::put_at, math::specs::Part::part))]
 pub(crate) fn put(output: &mut [u8], location: BlockLocation, block: [u8; 64])
     requires { BlockInside location (length output.old) }
     ensures { output.new ≡ put_at location block output.old }
@@ -126,6 +128,7 @@ pub(crate) fn put(output: &mut [u8], location: BlockLocation, block: [u8; 64])
 }
 
 // Puts 16 by 16 luma pels at their location.
+#[tactic(auto, unfolding(crate::specs::Location::put_luma_at, math::specs::Part::part))]
 pub(crate) fn put_luma(output: &mut [u8], location: BlockLocation, luma: [u8; 256])
     requires { BlockInside location (length output.old) × (location.x + 16 ≤ location.stride) × ((location.y + 16) * location.stride ≤ location.to - location.from) }
     ensures { output.new ≡ put_luma_at location luma output.old }

@@ -31,6 +31,7 @@ pub struct Reconstructed {
 }
 
 // A coded block: prediction plus residue.
+#[tactic(auto, unfolding(decode_idct::specs::Transform::residues_by))]
 pub(crate) fn reconstruct_coded_block(
     predicted: [u8; 64],
     coefficients: &[i16; 384],
@@ -51,6 +52,7 @@ pub(crate) fn reconstruct_coded_block(
     }
 }
 
+#[tactic(auto, unfolding(crate::specs::Block::with_residue))]
 pub(crate) fn add_residue(
     predicted: [u8; 64],
     pattern: u8,

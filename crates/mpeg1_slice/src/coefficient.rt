@@ -20,6 +20,7 @@ pub enum NextPair {
 }
 
 // The next pair, or the end of the block. `next` is the position that a run of 0 would take.
+#[tactic(auto, unfolding(crate::specs::Blocks::next_pair_of))]
 pub fn read_next_pair(
     codes: &[u16; TABLE_LENGTH],
     bytes: &[u8],

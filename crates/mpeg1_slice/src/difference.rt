@@ -18,6 +18,7 @@ pub enum DifferenceAnswer {
     Refused(Refusal, BitPosition),
 }
 
+#[tactic(auto, unfolding(crate::specs::Blocks::difference_at))]
 pub fn read_difference(
     codes: &[u16; TABLE_LENGTH],
     block: usize,

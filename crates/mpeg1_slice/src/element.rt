@@ -97,6 +97,7 @@ pub(crate) fn next_motion_code(
 }
 
 // The size of a block's DC difference.
+#[tactic(auto, unfolding(crate::specs::Blocks::size_words))]
 pub(crate) fn next_size(
     codes: &[u16; TABLE_LENGTH],
     block: usize,

@@ -43,6 +43,7 @@ fn after_stuffing(codes: &[u16; TABLE_LENGTH], bytes: &[u8], from: BitPosition) 
     }
 }
 
+#[tactic(auto, unfolding(crate::specs::Increment::amount_of))]
 fn amount(value: u16) -> u16
     ensures { result ≡ amount_of value }
 {
@@ -79,6 +80,7 @@ fn after_escape(codes: &[u16; TABLE_LENGTH], bytes: &[u8], from: BitPosition) ->
     }
 }
 
+#[tactic(auto, unfolding(crate::specs::Increment::increment_at))]
 pub fn read_address_increment(
     codes: &[u16; TABLE_LENGTH],
     bytes: &[u8],

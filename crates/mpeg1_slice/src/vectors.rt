@@ -21,6 +21,7 @@ pub enum ComponentAnswer {
     Refused(Refusal, BitPosition),
 }
 
+#[tactic(auto, unfolding(crate::specs::Vectors::residual_at))]
 fn read_residual(bytes: &[u8], at: BitPosition, f_code: u8, value: u16) -> SyntaxElement
     requires { InBytes bytes.now at × (f_code ≤ 7) }
     ensures { result ≡ element_answer (residual_at f_code value bytes.now at) }
@@ -43,6 +44,7 @@ fn code_of(value: u16) -> i8
     code - 16
 }
 
+#[tactic(auto, unfolding(crate::specs::Vectors::component_at))]
 pub fn read_component(
     codes: &[u16; TABLE_LENGTH],
     bytes: &[u8],

@@ -35,6 +35,7 @@ fn file_length_at(reel: &[u8], at: usize) -> usize
 }
 
 // The file whose length field is at an offset, or `Cut` if the reel ends within either.
+#[tactic(auto, unfolding(crate::specs::Part::part_at))]
 pub fn part_at(reel: &[u8], at: usize) -> Part
     ensures { result ≡ part_at reel.now at }
 {

@@ -36,4 +36,4 @@ column_pass-values-requires c = subst (AllWithin (2 ^ 34)) (sym c.row_pass-row_p
 
 pub returns-clause-values : goal.returns-clause-values
 returns-clause-values c = let rows = c.row_pass-row_pass.ensures in
-    c.column_pass-values.ensures ∙ ap (λ (t : List ℤ). tab 64 (λ k. residue_of (pass_result t k))) rows.0 ∙ passes _
+    c.column_pass-values.ensures ∙ ap (λ (t : List ℤ). tab 64 (λ k. residue_of (pass_result t k))) rows.numbers_value ∙ passes _

@@ -1,0 +1,13 @@
+-- `overwrite` meets its contract: it copies as many bytes as fit. Assumes nothing.
+use mathlib.Core.Path.{sym, ◌∙◌}
+use native.Mathlib.Omega.{arith}
+use lib.ListN.{length, length-take}
+use lib.Seq.{take_all}
+use borrow.Author.Rules.{rules}
+use Rattle.format3_writer.proofs.Laws.Written.{written-clipped, written-whole}
+use Rattle.reel_parts.proofs.references.overwrite.Goals as goal
+
+pub returns : goal.returns
+returns c =
+    rw (take_all (length c.first-part.result.now) c.first-part.result.now (omega arith)) at c.before.before.copy.ensures.1
+    ∙ sym (written-clipped c.args.bytes.now c.args.buffer.now ∙ rw (← c.first-part.ensures) (written-whole c.first-part.result.now c.args.buffer.now (rw c.first-part.ensures (simp length-take (omega arith)))))
