@@ -27,6 +27,7 @@ pub struct Plan {
 }
 
 // A skipped macroblock's motion: P copies with vector 0, B repeats the last macroblock's.
+#[tactic(auto, unfolding(crate::specs::Plan::skip_motion))]
 fn skip_motion(coding: u8, last: Motion) -> Motion
     ensures { result ≡ skip_motion coding last }
 {
@@ -37,6 +38,7 @@ fn skip_motion(coding: u8, last: Motion) -> Motion
 }
 
 // The plan for a macroblock's symbols.
+#[tactic(auto, unfolding(crate::specs::Plan::plan_of))]
 pub fn make_plan(header: Header, next: usize, before: SliceState, macroblock: SymbolsWithDc) -> Plan
     requires { Plannable header next before macroblock }
     ensures { result ≡ plan_of header next before macroblock }

@@ -46,6 +46,7 @@ fn decode(coding: VectorCoding, past: Vector, codes: VectorCodes) -> Vector
 }
 
 // The pasts that a macroblock's own codes are added to: 0 after a skip in P, kept in B.
+#[tactic(auto, unfolding(crate::specs::Vectors::vector_pasts_before))]
 fn vector_pasts_before(coding: u8, increment: u16, pasts: VectorPasts) -> VectorPasts
     ensures { result ≡ vector_pasts_before coding increment pasts }
 {
@@ -58,6 +59,7 @@ fn vector_pasts_before(coding: u8, increment: u16, pasts: VectorPasts) -> Vector
 }
 
 // The forward past after a macroblock without a forward vector: 0 in P, kept in B. With one, that vector.
+#[tactic(auto, unfolding(crate::specs::Vectors::forward_after))]
 fn forward_after(header: Header, symbols: MacroblockSymbols, past: Vector) -> Vector
     requires { SymbolsWithin header symbols × VectorWithin max_past past }
     ensures { result ≡ forward_after header symbols past }
@@ -75,6 +77,7 @@ fn forward_after(header: Header, symbols: MacroblockSymbols, past: Vector) -> Ve
 }
 
 // The backward past after a macroblock: unchanged if no vector is given.
+#[tactic(auto, unfolding(crate::specs::Vectors::backward_after))]
 fn backward_after(header: Header, symbols: MacroblockSymbols, past: Vector) -> Vector
     requires { SymbolsWithin header symbols × VectorWithin max_past past }
     ensures { result ≡ backward_after header symbols past }
@@ -89,6 +92,7 @@ fn backward_after(header: Header, symbols: MacroblockSymbols, past: Vector) -> V
 }
 
 // The pasts after a macroblock's own codes: 0 after intra.
+#[tactic(auto, unfolding(crate::specs::Vectors::vector_pasts_after))]
 fn vector_pasts_after(header: Header, symbols: MacroblockSymbols, pasts: VectorPasts) -> VectorPasts
     requires { SymbolsWithin header symbols × VectorPastsWithin pasts }
     ensures { result ≡ vector_pasts_after header symbols pasts }
@@ -115,6 +119,7 @@ fn vector_for_use(coding: VectorCoding, vector: Vector) -> Vector
 }
 
 // Whether a macroblock is predicted forward; in P, even without a vector.
+#[tactic(auto, unfolding(crate::specs::Vectors::predicts_forward))]
 fn predicts_forward(coding: u8, macroblock_type: u8) -> bool
     ensures { result ≡ predicts_forward coding macroblock_type }
 {
@@ -130,6 +135,7 @@ fn predicts_forward(coding: u8, macroblock_type: u8) -> bool
 }
 
 // Whether a macroblock is predicted backward.
+#[tactic(auto, unfolding(crate::specs::Vectors::predicts_backward))]
 fn predicts_backward(macroblock_type: u8) -> bool
     ensures { result ≡ predicts_backward macroblock_type }
 {
@@ -141,6 +147,7 @@ fn predicts_backward(macroblock_type: u8) -> bool
 }
 
 // A macroblock's own directions and vectors for use.
+#[tactic(auto, unfolding(crate::specs::Vectors::own_motion))]
 pub(crate) fn own_motion(header: Header, macroblock_type: u8, pasts: VectorPasts) -> Motion
     requires { VectorPastsWithin pasts }
     ensures { result ≡ own_motion header macroblock_type pasts }
@@ -162,6 +169,7 @@ pub(crate) fn own_motion(header: Header, macroblock_type: u8, pasts: VectorPasts
 }
 
 // The pasts after a macroblock, with the skipped ones before it.
+#[tactic(auto, unfolding(crate::specs::Vectors::next_vector_pasts))]
 pub(crate) fn next_vector_pasts(
     header: Header,
     symbols: MacroblockSymbols,

@@ -34,7 +34,7 @@ returns-in-Refused-next_field c =
 pub loop-refusal-smaller : goal.loop-refusal-smaller
 loop-refusal-smaller c =
     let bit : field_at 1 c.args.bytes.now c.loop-refusal.at ≡ parsed c.in-Value.more c.in-Value.information = step-read _ c.next_field.ensures c.in-Value.is in
-    let byte : field_at 8 (c c).before.before.args.bytes.now c.in-Value.information ≡ parsed c.in-Value-next_field.field-0 c.in-Value-next_field.next = step-read _ c.next_field-in-Value.ensures c.in-Value-next_field.is in
+    let byte : field_at 8 c.args.bytes.now c.in-Value.information ≡ parsed c.in-Value-next_field.field-0 c.in-Value-next_field.next = step-read _ c.next_field-in-Value.ensures c.in-Value-next_field.is in
     let first = bit-ahead _ _ c.loop-refusal.invariant bit in
     let second = byte-ahead _ _ c.loop-refusal.invariant bit byte in
     omega (arith, first.further, second.further, second.inside.not_past)
@@ -42,5 +42,5 @@ loop-refusal-smaller c =
 pub loop-refusal-preserved : goal.loop-refusal-preserved
 loop-refusal-preserved c =
     let bit : field_at 1 c.args.bytes.now c.loop-refusal.at ≡ parsed c.in-Value.more c.in-Value.information = step-read _ c.next_field.ensures c.in-Value.is in
-    let byte : field_at 8 (c c).before.before.args.bytes.now c.in-Value.information ≡ parsed c.in-Value-next_field.field-0 c.in-Value-next_field.next = step-read _ c.next_field-in-Value.ensures c.in-Value-next_field.is in
+    let byte : field_at 8 c.args.bytes.now c.in-Value.information ≡ parsed c.in-Value-next_field.field-0 c.in-Value-next_field.next = step-read _ c.next_field-in-Value.ensures c.in-Value-next_field.is in
     extra-again _ _ c.loop-refusal.invariant bit c.if-more-eq0.false byte

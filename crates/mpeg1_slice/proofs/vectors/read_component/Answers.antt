@@ -28,5 +28,5 @@ code_of-requires c =
 
 pub overflow_cast-result : goal.overflow_cast-result
 overflow_cast-result c =
-    let residual : residual_at (c c).args.f_code c.in-Value.value (c c).args.bytes.now c.in-Value.next ≡ parsed c.in-Value-read_residual.residual c.in-Value-read_residual.end = step-read _ c.read_residual.ensures c.in-Value-read_residual.is in
+    let residual : residual_at c.args.f_code c.in-Value.value c.args.bytes.now c.in-Value.next ≡ parsed c.in-Value-read_residual.residual c.in-Value-read_residual.end = step-read _ c.read_residual.ensures c.in-Value-read_residual.is in
     omega (arith, all-at (residual-small c.args.bytes.now c.args.f_code c.requires.2 _ _) residual)

@@ -9,5 +9,5 @@ use Rattle.reel_parts.proofs.references.overwrite.Goals as goal
 
 pub returns : goal.returns
 returns c =
-    rw (take_all (length c.first-part.result.now) c.first-part.result.now (omega arith)) at c.before.before.copy.ensures.1
-    ∙ sym (written-clipped c.args.bytes.now c.args.buffer.now ∙ rw (← c.first-part.ensures) (written-whole c.first-part.result.now c.args.buffer.now (rw c.first-part.ensures (simp length-take (omega arith)))))
+    rw c.copy_from_slice.ensures.after
+    (sym (written-clipped c.args.bytes.now c.args.buffer.now ∙ rw (← c.first-part.ensures) (written-whole c.first-part.result.now c.args.buffer.now (rw c.first-part.ensures (simp length-take (omega arith))))))
