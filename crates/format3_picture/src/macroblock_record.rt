@@ -77,6 +77,7 @@ fn context_of(picture: PictureState) -> MacroblockContext
 }
 
 // The first misfit among the record's macroblocks: the skipped ones in order, then its own.
+#[tactic(auto, unfolding(crate::specs::MacroblockRecord::record_fit))]
 fn record_fit(size: PictureSize, plan: Plan) -> Fit
     requires { PlanWithin size plan }
     ensures { result ≡ record_fit size plan }
@@ -263,6 +264,7 @@ fn apply_coded<'m>(
 
 // Applies a macroblock record. The plan starts with reset DC pasts, as a non-intra macroblock leaves them. An intra one always has coded
 // blocks, and `apply_coded` fills in the pasts that they leave.
+#[tactic(auto, unfolding(decode_state::specs::Plan::plan_of))]
 pub(crate) fn apply_macroblock<'m>(
     picture: PictureState,
     body: &[u8],

@@ -131,6 +131,7 @@ fn read_records(
 }
 
 // Reconstructs the picture of a Format 3 file from its references, in the lent output, if it has at most `limit` macroblocks.
+#[tactic(auto, unfolding(crate::specs::Picture::picture_refusing))]
 pub fn reconstruct_within(
     limit: usize,
     file: &[u8],

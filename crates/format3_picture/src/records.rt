@@ -42,6 +42,7 @@ pub(crate) fn verdict_refusal(verdict: Verdict) -> Refusal
 }
 
 // Applies a matrix record: marks its matrix as loaded.
+#[tactic(auto, unfolding(crate::specs::Step::matrix_applied))]
 fn apply_matrix(picture: PictureState, body: &[u8]) -> RecordOutcome
     ensures { result ≡ outcome_of (matrix_applied picture body.now) }
 {
@@ -72,6 +73,7 @@ fn apply_matrix(picture: PictureState, body: &[u8]) -> RecordOutcome
 }
 
 // Starts a slice, which must be at the next address (11).
+#[tactic(auto, unfolding(crate::specs::Step::slice_started))]
 fn start_slice(picture: PictureState, start: SliceHeader) -> RecordOutcome
     ensures { result ≡ outcome_of (slice_started picture start) }
 {
@@ -108,6 +110,7 @@ fn apply_slice(picture: PictureState, body: &[u8]) -> RecordOutcome
 }
 
 // Applies a record: its turn (5), then its kind.
+#[tactic(auto, unfolding(crate::specs::Step::record_applied_refusing))]
 pub(crate) fn apply_record<'m>(
     picture: PictureState,
     kind: u8,

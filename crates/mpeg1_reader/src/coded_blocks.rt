@@ -17,6 +17,7 @@ use mpeg1_tables::table::TABLE_LENGTH;
 use symbols::pattern;
 
 // The DC difference of an intra block.
+#[tactic(auto, unfolding(mpeg1_slice::specs::Blocks::given_difference_at, format3_writer::specs::Written::written, format3_writer::specs::Bytes::big_endian_bytes))]
 fn write_difference(
     codes: &[u16; TABLE_LENGTH],
     bytes: &[u8],
@@ -42,6 +43,7 @@ fn write_difference(
     }
 }
 
+#[tactic(auto, unfolding(mpeg1_slice::specs::Blocks::block_at, format3_writer::specs::Records::block_bytes))]
 fn write_block(
     codes: &[u16; TABLE_LENGTH],
     bytes: &[u8],
@@ -70,6 +72,7 @@ fn write_block(
 }
 
 // A block, if the pattern says that it is coded.
+#[tactic(auto, unfolding(mpeg1_slice::specs::Blocks::given_block_at, format3_writer::specs::Records::block_bytes, format3_writer::specs::Written::written))]
 fn write_coded_block(
     pattern: u8,
     codes: &[u16; TABLE_LENGTH],

@@ -149,6 +149,7 @@ fn header_given(given: PictureParameters) -> HeaderAnswer
 }
 
 // Turns the bytes of one slice, from its start code on, into a slice record and macroblock records.
+#[tactic(auto, unfolding(crate::specs::Answer::raw_slice_outcome))]
 pub fn read_slice(bytes: &[u8], given: PictureParameters, buffer: &mut [u8]) -> RawSliceAnswer
     ensures value { result ≡ (raw_slice_outcome (given_fields given) bytes.now buffer.old).answer }
     ensures buffer_after { buffer.new ≡ (raw_slice_outcome (given_fields given) bytes.now buffer.old).buffer }

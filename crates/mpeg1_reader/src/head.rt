@@ -20,6 +20,7 @@ pub enum MacroblockHeadAnswer {
     Refused(Refusal, BitPosition),
 }
 
+#[tactic(auto, unfolding(mpeg1_slice::specs::Macroblock::scale_at))]
 fn read_coded_scale(bytes: &[u8], at: BitPosition, macroblock_type: u8) -> SyntaxElement
     requires { InBytes bytes.now at }
     ensures { result ≡ element_answer (scale_at macroblock_type bytes.now at) }
@@ -30,6 +31,7 @@ fn read_coded_scale(bytes: &[u8], at: BitPosition, macroblock_type: u8) -> Synta
     SyntaxElement::Value(0, at)
 }
 
+#[tactic(auto, unfolding(mpeg1_slice::specs::Macroblock::head_at))]
 pub(crate) fn read_coded_head(
     codes: &[u16; TABLE_LENGTH],
     bytes: &[u8],

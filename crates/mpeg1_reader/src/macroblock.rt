@@ -25,6 +25,7 @@ use symbols::macroblock_type::{INTRA, PATTERN};
 const ALL_BLOCKS: u16 = 63;
 
 // The blocks that are coded: all of an intra macroblock, else those of the pattern if the type has one, else none.
+#[tactic(auto, unfolding(mpeg1_slice::specs::Macroblock::pattern_at))]
 fn read_coded_pattern_code(
     codes: &[u16; TABLE_LENGTH],
     bytes: &[u8],
@@ -44,6 +45,7 @@ fn read_coded_pattern_code(
 }
 
 // Writes the pattern byte, if the record has one, and returns how many bytes that is.
+#[tactic(auto, unfolding(format3_writer::specs::Records::pattern_bytes, format3_writer::specs::Written::written))]
 fn write_pattern(buffer: &mut [u8], offset: usize, macroblock_type: u8, pattern: u8) -> usize
     ensures value { result ≡ length (pattern_bytes macroblock_type pattern) }
     ensures buffer_after { buffer.new ≡ written offset (pattern_bytes macroblock_type pattern) buffer.old }
@@ -59,6 +61,7 @@ fn write_pattern(buffer: &mut [u8], offset: usize, macroblock_type: u8, pattern:
 }
 
 // The pattern and the blocks.
+#[tactic(auto, unfolding(mpeg1_slice::specs::Macroblock::pattern_and_blocks_at))]
 fn write_pattern_and_blocks(
     codes: &[u16; TABLE_LENGTH],
     bytes: &[u8],
@@ -97,6 +100,7 @@ fn write_pattern_and_blocks(
 }
 
 // What follows the head: vectors, pattern and blocks.
+#[tactic(auto, unfolding(mpeg1_slice::specs::Macroblock::vectors_and_blocks_at))]
 fn write_vectors_and_blocks(
     codes: &[u16; TABLE_LENGTH],
     bytes: &[u8],

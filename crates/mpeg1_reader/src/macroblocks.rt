@@ -20,6 +20,7 @@ use mpeg1_tables::table::TABLE_LENGTH;
 use symbols::header::Header;
 
 // An increment and its macroblock.
+#[tactic(auto, unfolding(mpeg1_slice::specs::Slice::next_macroblock_at))]
 fn write_next_record(
     codes: &[u16; TABLE_LENGTH],
     bytes: &[u8],
@@ -43,6 +44,7 @@ fn write_next_record(
 }
 
 // The checkpoint at this position and offset, if the records up to it fit a buffer of this length; otherwise the last one.
+#[tactic(auto, unfolding(crate::specs::RecordOffsets::last_whole))]
 fn last_whole(last: Checkpoint, at: BitPosition, offset: usize, length: usize) -> Checkpoint
     ensures { result ≡ last_whole last (record { at = at; offset = offset }) length }
 {

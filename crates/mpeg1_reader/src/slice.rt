@@ -24,6 +24,7 @@ use symbols::header::Header;
 const SLICE_RECORD_BYTES: usize = 6;
 
 // The address of the first macroblock.
+#[tactic(auto, unfolding(mpeg1_slice::specs::Slice::start_address))]
 fn start_address(header: Header, row: u8, increment: u16) -> u16
     requires { HeaderWithin header × (1 ≤ row) × (row ≤ header.size.height) × (1 ≤ increment) × (increment ≤ max_macroblocks) }
     ensures { result ≡ start_address header row increment }
@@ -74,6 +75,7 @@ fn write_records(
 
 // Reads the slice into a room that holds at least its record and its first macroblock's. The checkpoint says up to where the room has its
 // records.
+#[tactic(auto, unfolding(mpeg1_slice::specs::Slice::raw_slice_of))]
 pub(crate) fn write_slice(
     codes: &[u16; TABLE_LENGTH],
     bytes: &[u8],

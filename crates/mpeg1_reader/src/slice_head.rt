@@ -15,6 +15,7 @@ pub enum SliceHeadAnswer {
     Refused(Refusal, BitPosition),
 }
 
+#[tactic(auto, unfolding(mpeg1_slice::specs::Slice::slice_head_at))]
 pub(crate) fn read_slice_head(bytes: &[u8], height: u8) -> SliceHeadAnswer
     ensures { result ≡ slice_head_answer (slice_head_at height bytes.now first_bit) }
 {

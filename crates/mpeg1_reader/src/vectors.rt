@@ -18,6 +18,7 @@ use symbols::macroblock_type;
 use symbols::macroblock_type::{BACKWARD, FORWARD};
 
 // The code and residual of one component.
+#[tactic(auto, unfolding(format3_writer::specs::Records::vector_code_bytes))]
 fn write_component(
     codes: &[u16; TABLE_LENGTH],
     bytes: &[u8],
@@ -40,6 +41,7 @@ fn write_component(
 }
 
 // The codes of one direction: horizontal, then vertical.
+#[tactic(auto, unfolding(mpeg1_slice::specs::Vectors::vector_codes_at, format3_writer::specs::Records::vector_codes_bytes))]
 fn write_vector_codes(
     codes: &[u16; TABLE_LENGTH],
     bytes: &[u8],
@@ -67,6 +69,7 @@ fn write_vector_codes(
 }
 
 // The codes of one direction, if the type has them; `part` is FORWARD or BACKWARD.
+#[tactic(auto, unfolding(mpeg1_slice::specs::Vectors::given_vector_codes_at, format3_writer::specs::Written::written))]
 fn write_given_vector_codes(
     macroblock_type: u8,
     part: u8,
@@ -88,6 +91,7 @@ fn write_given_vector_codes(
 }
 
 // The codes of both directions.
+#[tactic(auto, unfolding(mpeg1_slice::specs::Macroblock::vectors_at))]
 pub(crate) fn write_vectors(
     codes: &[u16; TABLE_LENGTH],
     bytes: &[u8],

@@ -28,6 +28,7 @@ pub struct VectorCase {
 }
 
 // How many residuals a code has: each below f, or 0 alone for code 0.
+#[tactic(auto, unfolding(crate::specs::Cases::residual_count))]
 fn residual_count(f: u32, code: i32) -> u32
     ensures { result ≡ residual_count f code }
 {
@@ -38,6 +39,7 @@ fn residual_count(f: u32, code: i32) -> u32
 }
 
 // Writes the line of a case and returns where it ends.
+#[tactic(auto, unfolding(crate::specs::List::case_line))]
 fn put_case(text: &mut [u8], at: usize, f_code: u32, case: VectorCase) -> usize
     requires { at + length (case_line f_code case) ≤ length text.old }
     ensures value { result ≡ at + length (case_line f_code case) }
@@ -103,6 +105,7 @@ fn put_cases(text: &mut [u8], at: usize, f_code: u32) -> usize
 
 // Writes the list at the text's start and returns its length; the rest of the buffer stays. The contract first says that it fits,
 // since callers take `&text[..r]`.
+#[tactic(auto, unfolding(crate::specs::List::vector_list))]
 pub fn list_vectors(text: &mut [u8; VECTOR_LIST_BYTES]) -> usize
     ensures prefix_len { IsPrefixLen result text.new }
     ensures value { result ≡ length vector_list }
