@@ -1,6 +1,6 @@
 -- The macroblocks that records make are those that clause 2.4.4 makes of the records' symbols. Assumes nothing.
 use mathlib.Core.Bool.{Bool, true, false, cond}
-use mathlib.Core.List.{List, [], ◌++◌, append_assoc}
+use mathlib.Core.List.{List, [], ◌∷◌, ◌++◌, append_assoc}
 use mathlib.Core.Path.{◌≡◌, refl, sym, ◌∙◌, subst}
 use Prim.Native.Nat.{ℕ, zero, suc}
 use native.Mathlib.Omega.{arith}
@@ -101,7 +101,12 @@ unfolding macroblocks_made_from joined
 made-next s q (refuses refusal) v g stays = let z : ◌≡◌ {A = ℕ} 0 1 = cc in absurd (omega arith)
 made-next s q (matrix-passes turn body) v g stays = refl
 made-next s q (slice-starts turn header legal begins) v g stays = rw begins
-made-next s q (macroblocks-made begun m legal) v g stays = rw (stays (none_after q s m), append_assoc)
+made-next s q (macroblocks-made begun m legal) v g stays =
+    let after : PictureState = (made_record q s m).state in
+    let P : Matrices → Type 0 = λ matrices.
+      macroblocks_made_from s.header matrices s.next s.slice (m ∷ g.further) ++ joined (macroblocks_of_slice s.header matrices) g.slices
+      ≡ (made_record q s m).macroblocks ++ (macroblocks_made_from after.header matrices after.next after.slice g.further ++ joined (macroblocks_of_slice after.header matrices) g.slices) in
+    subst P (sym (stays (none_after q s m))) (rw append_assoc)
 
 -- ---- the whole
 pub made-of-symbols : (file : List ℕ) (h : Header) (end : ℕ) → macroblocks_of h (symbols_of file h end) ≡ made_of (start_state h) (records_after file h end).gathered

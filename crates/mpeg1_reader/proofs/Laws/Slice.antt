@@ -138,14 +138,16 @@ module _ (scale start : ℕ) (first : Macroblock) where
       → one ≡ written 0 (slice_record scale start) before → two ≡ written 6 (macroblock_record first) one
       → RecordsAnswered (joined macroblock_record) h bytes (6 + n) (length two) x r × WrittenAt (joined macroblock_record) (6 + n) two three x
       → RecordsAnswered slice_bytes h bytes 0 (length before) (whole x) r × WrittenAt slice_bytes 0 before three (whole x)
-  slice-together {h} {bytes} (parsed rest p) {r} {n} before {one} {two} e f g (done {checkpoint = c} resumes, here k) = (
-    subst (λ (size : ℕ). RecordsAnswered slice_bytes h bytes 0 (length before) (whole (parsed rest p)) (Done p size c)) size (done (slice-resumes rest e same-room resumes)),
-    here (slice_written rest before e f g k),
-  )
+  slice-together {h} {bytes} (parsed rest p) {r} {n} before {one} {two} e f g (answered, here k) = (of_slice n r e answered, here (slice_written rest before e f g k))
     where
       same-room : length two ≡ length before
       same-room = ap length g ∙ written-length 6 (macroblock_record first) one ∙ ap length f ∙ written-length 0 (slice_record scale start) before
 
-      size : saturating_add 0 (length (slice_records scale start (first ∷ rest))) ≡ saturating_add (6 + n) (length (joined macroblock_record rest))
-      size = sym (offset-sum 6 n (length (joined macroblock_record rest)) ∙ ap (saturating_add 0) (rw e (sym (slice-length rest))))
+      size : (m : ℕ) → m ≡ length (macroblock_record first) → saturating_add 0 (length (slice_records scale start (first ∷ rest))) ≡ saturating_add (6 + m) (length (joined macroblock_record rest))
+      size m d = sym (offset-sum 6 m (length (joined macroblock_record rest)) ∙ ap (saturating_add 0) (rw d (sym (slice-length rest))))
+
+      of_slice : (m : ℕ) (s : RecordsAnswer) → m ≡ length (macroblock_record first) → RecordsAnswered (joined macroblock_record) h bytes (6 + m) (length two) (parsed rest p) s
+          → RecordsAnswered slice_bytes h bytes 0 (length before) (whole (parsed rest p)) s
+      of_slice m s d (done {checkpoint = c} resumes) =
+          subst (λ (end : ℕ). RecordsAnswered slice_bytes h bytes 0 (length before) (whole (parsed rest p)) (Done p end c)) (size m d) (done (slice-resumes rest d same-room resumes))
   slice-together (refused (stop refusal p)) before e f g (stopped, none) = (stopped, none)

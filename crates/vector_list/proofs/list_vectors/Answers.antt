@@ -19,10 +19,8 @@ put_cases-first_end-requires-clause-f_code_in_bounds c = omega (arith, list-long
 pub put_cases-requires-clause-f_code_in_bounds : goal.put_cases-requires-clause-f_code_in_bounds
 put_cases-requires-clause-f_code_in_bounds c = omega (arith, list-long, list-fits)
 
-pub returns-clause-prefix_len : goal.returns-clause-prefix_len
+pub returns : goal.returns
 unfolding vector_list
-returns-clause-prefix_len c = put_whole (omega (arith, list-fits)) (put_then (put c.put_cases-first_end.ensures.value c.put_cases-first_end.ensures.text_after) (put c.put_cases.ensures.value c.put_cases.ensures.text_after))
-
-pub returns-clause-text_after : goal.returns-clause-text_after
-unfolding vector_list
-returns-clause-text_after c = put_whole (omega (arith, list-fits)) (put_then (put c.put_cases-first_end.ensures.value c.put_cases-first_end.ensures.text_after) (put c.put_cases.ensures.value c.put_cases.ensures.text_after))
+returns c =
+    let all = put_whole (omega (arith, list-fits)) (put_then (put c.put_cases-first_end.ensures.value c.put_cases-first_end.ensures.text_after) (put c.put_cases.ensures.value c.put_cases.ensures.text_after)) in
+    record { prefix_len = all.0; value = all.1.0; text_after = all.1.1 }

@@ -34,17 +34,17 @@ read_blocks_to_end-blocks-requires c =
 
 pub returns-in_default-clause-output_after : goal.returns-in_default-clause-output_after
 returns-in_default-clause-output_after c =
-    let found-by : BlocksAnswer → Type 0 = λ answer. ParsesAs (decoded_to_end_of c.args.symbols (scale_after c.args.picture.slice.scale c.args.symbols) (matrices_of c.args.intra.now c.args.«non-intra».now) (starting_dc_pasts c.args.picture.slice.dc c.args.symbols.increment)) c.args.rest.now (decoded_blocks_result answer c.read_blocks_to_end-blocks.new.coefficients) in
+    let found-by : BlocksAnswer → Type 0 = λ answer. ParsesAs (decoded_to_end_of c.args.symbols (scale_after c.args.picture.slice.scale c.args.symbols) (matrices_of c.args.intra.now c.args.non_intra.now) (starting_dc_pasts c.args.picture.slice.dc c.args.symbols.increment)) c.args.rest.now (decoded_blocks_result answer c.read_blocks_to_end-blocks.new.coefficients) in
     let found : found-by c.read_blocks_to_end-blocks.result = rw (c.scale_after-scale.ensures, c.starting_dc_pasts-pasts.ensures) at c.read_blocks_to_end-blocks.ensures.parses_as in
     let refused = subst (λ (x : BlocksAnswer). found-by x) c.in_default.is found in
-    let e = blocks-refused (matrices_of c.args.intra.now c.args.«non-intra».now) c.args.picture c.args.symbols c.args.rest.now refused in
+    let e = blocks-refused (matrices_of c.args.intra.now c.args.non_intra.now) c.args.picture c.args.symbols c.args.rest.now refused in
     rw e (macroblocks-none _ _ _ _)
 
 pub write_coded-requires : goal.write_coded-requires
 write_coded-requires c =
-    let found-by : BlocksAnswer → Type 0 = λ answer. ParsesAs (decoded_to_end_of c.args.symbols (scale_after c.args.picture.slice.scale c.args.symbols) (matrices_of c.args.intra.now c.args.«non-intra».now) (starting_dc_pasts c.args.picture.slice.dc c.args.symbols.increment)) c.args.rest.now (decoded_blocks_result answer c.read_blocks_to_end-blocks.new.coefficients) in
+    let found-by : BlocksAnswer → Type 0 = λ answer. ParsesAs (decoded_to_end_of c.args.symbols (scale_after c.args.picture.slice.scale c.args.symbols) (matrices_of c.args.intra.now c.args.non_intra.now) (starting_dc_pasts c.args.picture.slice.dc c.args.symbols.increment)) c.args.rest.now (decoded_blocks_result answer c.read_blocks_to_end-blocks.new.coefficients) in
     let found : found-by c.read_blocks_to_end-blocks.result = rw (c.scale_after-scale.ensures, c.starting_dc_pasts-pasts.ensures) at c.read_blocks_to_end-blocks.ensures.parses_as in
-    let read : BlocksRead (matrices_of c.args.intra.now c.args.«non-intra».now) c.args.picture c.args.symbols c.args.rest.now (record { pasts = c.in-Legal.running; coefficients = six_blocks c.read_blocks_to_end-blocks.new.coefficients }) = blocks-read (matrices_of c.args.intra.now c.args.«non-intra».now) c.args.picture c.args.symbols c.args.rest.now (subst (λ (x : BlocksAnswer). found-by x) c.in-Legal.is found) in
+    let read : BlocksRead (matrices_of c.args.intra.now c.args.non_intra.now) c.args.picture c.args.symbols c.args.rest.now (record { pasts = c.in-Legal.running; coefficients = six_blocks c.read_blocks_to_end-blocks.new.coefficients }) = blocks-read (matrices_of c.args.intra.now c.args.non_intra.now) c.args.picture c.args.symbols c.args.rest.now (subst (λ (x : BlocksAnswer). found-by x) c.in-Legal.is found) in
     let plan-is : c.with_dc-plan.result ≡ plan_of c.args.picture.header c.args.picture.next c.args.picture.slice (symbols_with_dc_left c.args.symbols c.in-Legal.running) = c.with_dc-plan.ensures ∙ (λ i. with_dc (c.requires.2 i) ((c.dc_pasts_left.ensures ∙ ap (λ (intra : Bool). dc_pasts_left intra c.in-Legal.running) c.has_part-is_intra.ensures) i)) ∙ later-pasts c.args.picture c.args.symbols c.in-Legal.running in
     (
       subst (λ (x : Plan). PlanWritable c.args.picture x c.args.forward.now c.args.backward.now c.args.output.now) (sym plan-is)
@@ -56,22 +56,22 @@ write_coded-requires c =
       },
     )
 
-pub returns-clause-output_after : goal.returns-clause-output_after
-returns-clause-output_after c =
-    let found-by : BlocksAnswer → Type 0 = λ answer. ParsesAs (decoded_to_end_of c.args.symbols (scale_after c.args.picture.slice.scale c.args.symbols) (matrices_of c.args.intra.now c.args.«non-intra».now) (starting_dc_pasts c.args.picture.slice.dc c.args.symbols.increment)) c.args.rest.now (decoded_blocks_result answer c.read_blocks_to_end-blocks.new.coefficients) in
-    let found : found-by c.read_blocks_to_end-blocks.result = rw (c.scale_after-scale.ensures, c.starting_dc_pasts-pasts.ensures) at c.read_blocks_to_end-blocks.ensures.parses_as in
-    let read : BlocksRead (matrices_of c.args.intra.now c.args.«non-intra».now) c.args.picture c.args.symbols c.args.rest.now (record { pasts = c.in-Legal.running; coefficients = six_blocks c.read_blocks_to_end-blocks.new.coefficients }) = blocks-read (matrices_of c.args.intra.now c.args.«non-intra».now) c.args.picture c.args.symbols c.args.rest.now (subst (λ (x : BlocksAnswer). found-by x) c.in-Legal.is found) in
-    let plan-is : c.with_dc-plan.result ≡ plan_of c.args.picture.header c.args.picture.next c.args.picture.slice (symbols_with_dc_left c.args.symbols c.in-Legal.running) = c.with_dc-plan.ensures ∙ (λ i. with_dc (c.requires.2 i) ((c.dc_pasts_left.ensures ∙ ap (λ (intra : Bool). dc_pasts_left intra c.in-Legal.running) c.has_part-is_intra.ensures) i)) ∙ later-pasts c.args.picture c.args.symbols c.in-Legal.running in
-    let coefficients = six_blocks c.read_blocks_to_end-blocks.new.coefficients in
-    let e = read.comes-to ∙ ap (λ (p : Plan). plan_applied c.args.picture p coefficients) (sym plan-is) in
-    rw e c.write_coded.ensures.output_after
-
 pub returns-clause-value : goal.returns-clause-value
 returns-clause-value c =
-    let found-by : BlocksAnswer → Type 0 = λ answer. ParsesAs (decoded_to_end_of c.args.symbols (scale_after c.args.picture.slice.scale c.args.symbols) (matrices_of c.args.intra.now c.args.«non-intra».now) (starting_dc_pasts c.args.picture.slice.dc c.args.symbols.increment)) c.args.rest.now (decoded_blocks_result answer c.read_blocks_to_end-blocks.new.coefficients) in
+    let found-by : BlocksAnswer → Type 0 = λ answer. ParsesAs (decoded_to_end_of c.args.symbols (scale_after c.args.picture.slice.scale c.args.symbols) (matrices_of c.args.intra.now c.args.non_intra.now) (starting_dc_pasts c.args.picture.slice.dc c.args.symbols.increment)) c.args.rest.now (decoded_blocks_result answer c.read_blocks_to_end-blocks.new.coefficients) in
     let found : found-by c.read_blocks_to_end-blocks.result = rw (c.scale_after-scale.ensures, c.starting_dc_pasts-pasts.ensures) at c.read_blocks_to_end-blocks.ensures.parses_as in
-    let read : BlocksRead (matrices_of c.args.intra.now c.args.«non-intra».now) c.args.picture c.args.symbols c.args.rest.now (record { pasts = c.in-Legal.running; coefficients = six_blocks c.read_blocks_to_end-blocks.new.coefficients }) = blocks-read (matrices_of c.args.intra.now c.args.«non-intra».now) c.args.picture c.args.symbols c.args.rest.now (subst (λ (x : BlocksAnswer). found-by x) c.in-Legal.is found) in
+    let read : BlocksRead (matrices_of c.args.intra.now c.args.non_intra.now) c.args.picture c.args.symbols c.args.rest.now (record { pasts = c.in-Legal.running; coefficients = six_blocks c.read_blocks_to_end-blocks.new.coefficients }) = blocks-read (matrices_of c.args.intra.now c.args.non_intra.now) c.args.picture c.args.symbols c.args.rest.now (subst (λ (x : BlocksAnswer). found-by x) c.in-Legal.is found) in
     let plan-is : c.with_dc-plan.result ≡ plan_of c.args.picture.header c.args.picture.next c.args.picture.slice (symbols_with_dc_left c.args.symbols c.in-Legal.running) = c.with_dc-plan.ensures ∙ (λ i. with_dc (c.requires.2 i) ((c.dc_pasts_left.ensures ∙ ap (λ (intra : Bool). dc_pasts_left intra c.in-Legal.running) c.has_part-is_intra.ensures) i)) ∙ later-pasts c.args.picture c.args.symbols c.in-Legal.running in
     let coefficients = six_blocks c.read_blocks_to_end-blocks.new.coefficients in
     let e = read.comes-to ∙ ap (λ (p : Plan). plan_applied c.args.picture p coefficients) (sym plan-is) in
     rw e c.write_coded.ensures.value
+
+pub returns-clause-output_after : goal.returns-clause-output_after
+returns-clause-output_after c =
+    let found-by : BlocksAnswer → Type 0 = λ answer. ParsesAs (decoded_to_end_of c.args.symbols (scale_after c.args.picture.slice.scale c.args.symbols) (matrices_of c.args.intra.now c.args.non_intra.now) (starting_dc_pasts c.args.picture.slice.dc c.args.symbols.increment)) c.args.rest.now (decoded_blocks_result answer c.read_blocks_to_end-blocks.new.coefficients) in
+    let found : found-by c.read_blocks_to_end-blocks.result = rw (c.scale_after-scale.ensures, c.starting_dc_pasts-pasts.ensures) at c.read_blocks_to_end-blocks.ensures.parses_as in
+    let read : BlocksRead (matrices_of c.args.intra.now c.args.non_intra.now) c.args.picture c.args.symbols c.args.rest.now (record { pasts = c.in-Legal.running; coefficients = six_blocks c.read_blocks_to_end-blocks.new.coefficients }) = blocks-read (matrices_of c.args.intra.now c.args.non_intra.now) c.args.picture c.args.symbols c.args.rest.now (subst (λ (x : BlocksAnswer). found-by x) c.in-Legal.is found) in
+    let plan-is : c.with_dc-plan.result ≡ plan_of c.args.picture.header c.args.picture.next c.args.picture.slice (symbols_with_dc_left c.args.symbols c.in-Legal.running) = c.with_dc-plan.ensures ∙ (λ i. with_dc (c.requires.2 i) ((c.dc_pasts_left.ensures ∙ ap (λ (intra : Bool). dc_pasts_left intra c.in-Legal.running) c.has_part-is_intra.ensures) i)) ∙ later-pasts c.args.picture c.args.symbols c.in-Legal.running in
+    let coefficients = six_blocks c.read_blocks_to_end-blocks.new.coefficients in
+    let e = read.comes-to ∙ ap (λ (p : Plan). plan_applied c.args.picture p coefficients) (sym plan-is) in
+    rw e c.write_coded.ensures.output_after

@@ -30,14 +30,14 @@ pub returns-in_default-clause-value : goal.returns-in_default-clause-value
 returns-in_default-clause-value c =
     let found-by : SymbolsAnswer → Type 0 = λ answer. ParsesAs (macroblock_symbols_of (context_of c.args.picture)) c.args.body.now (symbols_result answer) in
     let found : found-by c.read_macroblock_symbols-answer.result = rw c.context_of.ensures at c.read_macroblock_symbols-answer.ensures in
-    let e = symbols-refused (matrices_of c.args.intra.now c.args.«non-intra».now) c.args.picture c.args.body.now (subst (λ (x : SymbolsAnswer). found-by x) c.in_default.is found) in
+    let e = symbols-refused (matrices_of c.args.intra.now c.args.non_intra.now) c.args.picture c.args.body.now (subst (λ (x : SymbolsAnswer). found-by x) c.in_default.is found) in
     rw e (c.refused_record.ensures ∙ rw (c.symbols_refusal.ensures, c.in_default.is))
 
 pub returns-in_default-clause-output_after : goal.returns-in_default-clause-output_after
 returns-in_default-clause-output_after c =
     let found-by : SymbolsAnswer → Type 0 = λ answer. ParsesAs (macroblock_symbols_of (context_of c.args.picture)) c.args.body.now (symbols_result answer) in
     let found : found-by c.read_macroblock_symbols-answer.result = rw c.context_of.ensures at c.read_macroblock_symbols-answer.ensures in
-    let e = symbols-refused (matrices_of c.args.intra.now c.args.«non-intra».now) c.args.picture c.args.body.now (subst (λ (x : SymbolsAnswer). found-by x) c.in_default.is found) in
+    let e = symbols-refused (matrices_of c.args.intra.now c.args.non_intra.now) c.args.picture c.args.body.now (subst (λ (x : SymbolsAnswer). found-by x) c.in_default.is found) in
     rw e (macroblocks-none _ _ _ _)
 
 pub make_plan-plan-requires : goal.make_plan-plan-requires
@@ -67,36 +67,25 @@ apply_coded-requires c =
     let verdict-is : c.fit_verdict-verdict.result ≡ fit_verdict (record_fit c.args.picture.header.size c.make_plan-plan.result) = c.fit_verdict-verdict.ensures ∙ ap fit_verdict c.record_fit.ensures in
     (c.requires, given, plan-is, verdict-is)
 
-pub returns-then-symbols-ne0-clause-output_after : goal.returns-then-symbols-ne0-clause-output_after
-returns-then-symbols-ne0-clause-output_after c =
-    let found-by : SymbolsAnswer → Type 0 = λ answer. ParsesAs (macroblock_symbols_of (context_of c.args.picture)) c.args.body.now (symbols_result answer) in
-    let found : found-by c.read_macroblock_symbols-answer.result = rw c.context_of.ensures at c.read_macroblock_symbols-answer.ensures in
-    let legal : found-by (Legal c.in-Legal.symbols c.in-Legal.end) = subst (λ (x : SymbolsAnswer). found-by x) c.in-Legal.is found in
-    let behind : List ℕ = drop c.in-Legal.end.at c.args.body.now in
-    let applied-as : macroblock_applied (matrices_of c.args.intra.now c.args.«non-intra».now) c.args.picture c.args.body.now ≡ parsed_applied (matrices_of c.args.intra.now c.args.«non-intra».now) c.args.picture (macroblock_with_symbols c.args.picture.slice.dc c.in-Legal.symbols behind) = symbols-read (matrices_of c.args.intra.now c.args.«non-intra».now) c.args.picture c.args.body.now legal in
-    let e = applied-as in
-    rw e (rw rest_from at c.apply_coded.ensures.output_after)
-
 pub returns-then-symbols-ne0-clause-value : goal.returns-then-symbols-ne0-clause-value
 returns-then-symbols-ne0-clause-value c =
     let found-by : SymbolsAnswer → Type 0 = λ answer. ParsesAs (macroblock_symbols_of (context_of c.args.picture)) c.args.body.now (symbols_result answer) in
     let found : found-by c.read_macroblock_symbols-answer.result = rw c.context_of.ensures at c.read_macroblock_symbols-answer.ensures in
     let legal : found-by (Legal c.in-Legal.symbols c.in-Legal.end) = subst (λ (x : SymbolsAnswer). found-by x) c.in-Legal.is found in
     let behind : List ℕ = drop c.in-Legal.end.at c.args.body.now in
-    let applied-as : macroblock_applied (matrices_of c.args.intra.now c.args.«non-intra».now) c.args.picture c.args.body.now ≡ parsed_applied (matrices_of c.args.intra.now c.args.«non-intra».now) c.args.picture (macroblock_with_symbols c.args.picture.slice.dc c.in-Legal.symbols behind) = symbols-read (matrices_of c.args.intra.now c.args.«non-intra».now) c.args.picture c.args.body.now legal in
+    let applied-as : macroblock_applied (matrices_of c.args.intra.now c.args.non_intra.now) c.args.picture c.args.body.now ≡ parsed_applied (matrices_of c.args.intra.now c.args.non_intra.now) c.args.picture (macroblock_with_symbols c.args.picture.slice.dc c.in-Legal.symbols behind) = symbols-read (matrices_of c.args.intra.now c.args.non_intra.now) c.args.picture c.args.body.now legal in
     let e = applied-as in
     rw e (rw rest_from at c.apply_coded.ensures.value)
 
-pub returns-then-rest-gt0-clause-value : goal.returns-then-rest-gt0-clause-value
-returns-then-rest-gt0-clause-value c =
-    let behind : List ℕ = drop c.in-Legal.end.at c.args.body.now in
+pub returns-then-symbols-ne0-clause-output_after : goal.returns-then-symbols-ne0-clause-output_after
+returns-then-symbols-ne0-clause-output_after c =
     let found-by : SymbolsAnswer → Type 0 = λ answer. ParsesAs (macroblock_symbols_of (context_of c.args.picture)) c.args.body.now (symbols_result answer) in
     let found : found-by c.read_macroblock_symbols-answer.result = rw c.context_of.ensures at c.read_macroblock_symbols-answer.ensures in
     let legal : found-by (Legal c.in-Legal.symbols c.in-Legal.end) = subst (λ (x : SymbolsAnswer). found-by x) c.in-Legal.is found in
-    let applied-as : macroblock_applied (matrices_of c.args.intra.now c.args.«non-intra».now) c.args.picture c.args.body.now ≡ parsed_applied (matrices_of c.args.intra.now c.args.«non-intra».now) c.args.picture (macroblock_with_symbols c.args.picture.slice.dc c.in-Legal.symbols behind) = symbols-read (matrices_of c.args.intra.now c.args.«non-intra».now) c.args.picture c.args.body.now legal in
-    let long : length behind ≡ length c.args.body.now - c.in-Legal.end.at = length-drop c.in-Legal.end.at c.args.body.now in
-    let e = applied-as ∙ bytes-behind (matrices_of c.args.intra.now c.args.«non-intra».now) c.args.picture c.in-Legal.symbols behind c.if-symbols-ne0.false (omega (arith, long, c.if-rest-gt0.true)) in
-    rw e c.refused_record-then-rest-gt0.ensures
+    let behind : List ℕ = drop c.in-Legal.end.at c.args.body.now in
+    let applied-as : macroblock_applied (matrices_of c.args.intra.now c.args.non_intra.now) c.args.picture c.args.body.now ≡ parsed_applied (matrices_of c.args.intra.now c.args.non_intra.now) c.args.picture (macroblock_with_symbols c.args.picture.slice.dc c.in-Legal.symbols behind) = symbols-read (matrices_of c.args.intra.now c.args.non_intra.now) c.args.picture c.args.body.now legal in
+    let e = applied-as in
+    rw e (rw rest_from at c.apply_coded.ensures.output_after)
 
 pub returns-then-rest-gt0-clause-output_after : goal.returns-then-rest-gt0-clause-output_after
 returns-then-rest-gt0-clause-output_after c =
@@ -104,10 +93,21 @@ returns-then-rest-gt0-clause-output_after c =
     let found-by : SymbolsAnswer → Type 0 = λ answer. ParsesAs (macroblock_symbols_of (context_of c.args.picture)) c.args.body.now (symbols_result answer) in
     let found : found-by c.read_macroblock_symbols-answer.result = rw c.context_of.ensures at c.read_macroblock_symbols-answer.ensures in
     let legal : found-by (Legal c.in-Legal.symbols c.in-Legal.end) = subst (λ (x : SymbolsAnswer). found-by x) c.in-Legal.is found in
-    let applied-as : macroblock_applied (matrices_of c.args.intra.now c.args.«non-intra».now) c.args.picture c.args.body.now ≡ parsed_applied (matrices_of c.args.intra.now c.args.«non-intra».now) c.args.picture (macroblock_with_symbols c.args.picture.slice.dc c.in-Legal.symbols behind) = symbols-read (matrices_of c.args.intra.now c.args.«non-intra».now) c.args.picture c.args.body.now legal in
+    let applied-as : macroblock_applied (matrices_of c.args.intra.now c.args.non_intra.now) c.args.picture c.args.body.now ≡ parsed_applied (matrices_of c.args.intra.now c.args.non_intra.now) c.args.picture (macroblock_with_symbols c.args.picture.slice.dc c.in-Legal.symbols behind) = symbols-read (matrices_of c.args.intra.now c.args.non_intra.now) c.args.picture c.args.body.now legal in
     let long : length behind ≡ length c.args.body.now - c.in-Legal.end.at = length-drop c.in-Legal.end.at c.args.body.now in
-    let e = applied-as ∙ bytes-behind (matrices_of c.args.intra.now c.args.«non-intra».now) c.args.picture c.in-Legal.symbols behind c.if-symbols-ne0.false (omega (arith, long, c.if-rest-gt0.true)) in
+    let e = applied-as ∙ bytes-behind (matrices_of c.args.intra.now c.args.non_intra.now) c.args.picture c.in-Legal.symbols behind c.if-symbols-ne0.false (omega (arith, long, c.if-rest-gt0.true)) in
     rw e (macroblocks-none _ _ _ _)
+
+pub returns-then-rest-gt0-clause-value : goal.returns-then-rest-gt0-clause-value
+returns-then-rest-gt0-clause-value c =
+    let behind : List ℕ = drop c.in-Legal.end.at c.args.body.now in
+    let found-by : SymbolsAnswer → Type 0 = λ answer. ParsesAs (macroblock_symbols_of (context_of c.args.picture)) c.args.body.now (symbols_result answer) in
+    let found : found-by c.read_macroblock_symbols-answer.result = rw c.context_of.ensures at c.read_macroblock_symbols-answer.ensures in
+    let legal : found-by (Legal c.in-Legal.symbols c.in-Legal.end) = subst (λ (x : SymbolsAnswer). found-by x) c.in-Legal.is found in
+    let applied-as : macroblock_applied (matrices_of c.args.intra.now c.args.non_intra.now) c.args.picture c.args.body.now ≡ parsed_applied (matrices_of c.args.intra.now c.args.non_intra.now) c.args.picture (macroblock_with_symbols c.args.picture.slice.dc c.in-Legal.symbols behind) = symbols-read (matrices_of c.args.intra.now c.args.non_intra.now) c.args.picture c.args.body.now legal in
+    let long : length behind ≡ length c.args.body.now - c.in-Legal.end.at = length-drop c.in-Legal.end.at c.args.body.now in
+    let e = applied-as ∙ bytes-behind (matrices_of c.args.intra.now c.args.non_intra.now) c.args.picture c.in-Legal.symbols behind c.if-symbols-ne0.false (omega (arith, long, c.if-rest-gt0.true)) in
+    rw e c.refused_record-then-rest-gt0.ensures
 
 pub write_predicted-requires : goal.write_predicted-requires
 unfolding plan_of
@@ -126,22 +126,6 @@ write_predicted-requires c =
       same-pattern ∙ c.if-symbols-ne0.false,
     )
 
-pub returns-clause-output_after : goal.returns-clause-output_after
-unfolding plan_of
-returns-clause-output_after c =
-    let found-by : SymbolsAnswer → Type 0 = λ answer. ParsesAs (macroblock_symbols_of (context_of c.args.picture)) c.args.body.now (symbols_result answer) in
-    let found : found-by c.read_macroblock_symbols-answer.result = rw c.context_of.ensures at c.read_macroblock_symbols-answer.ensures in
-    let legal : found-by (Legal c.in-Legal.symbols c.in-Legal.end) = subst (λ (x : SymbolsAnswer). found-by x) c.in-Legal.is found in
-    let given : SymbolsRead c.args.picture c.in-Legal.symbols = record { body = c.args.body.now; rest = _; read = legal.0 } in
-    let plan-is : c.make_plan-plan.result ≡ starting_plan c.args.picture c.in-Legal.symbols = c.make_plan-plan.ensures ∙ ap (λ (dc : DcPasts). plan_of c.args.picture.header c.args.picture.next c.args.picture.slice (record { symbols = c.in-Legal.symbols; dc = dc })) c.reset_dc_pasts-dc.ensures in
-    let same-pattern : c.make_plan-plan.result.pattern ≡ c.in-Legal.symbols.pattern = ap (λ (p : Plan). p.pattern) plan-is in
-    let behind : List ℕ = drop c.in-Legal.end.at c.args.body.now in
-    let applied-as : macroblock_applied (matrices_of c.args.intra.now c.args.«non-intra».now) c.args.picture c.args.body.now ≡ parsed_applied (matrices_of c.args.intra.now c.args.«non-intra».now) c.args.picture (macroblock_with_symbols c.args.picture.slice.dc c.in-Legal.symbols behind) = symbols-read (matrices_of c.args.intra.now c.args.«non-intra».now) c.args.picture c.args.body.now legal in
-    let long : length behind ≡ length c.args.body.now - c.in-Legal.end.at = length-drop c.in-Legal.end.at c.args.body.now in
-    let coefficients = (decoding (matrices_of c.args.intra.now c.args.«non-intra».now) c.args.picture c.in-Legal.symbols behind none_coded).coefficients in
-    let e = applied-as ∙ predicted (matrices_of c.args.intra.now c.args.«non-intra».now) c.args.picture c.in-Legal.symbols behind c.if-symbols-ne0.false ((given-legal given).inter-if-uncoded c.if-symbols-ne0.false) (omega (arith, long, c.if-rest-gt0.false)) ∙ ap (λ (p : Plan). plan_applied c.args.picture p coefficients) (sym plan-is) in
-    rw e (c.write_predicted.ensures.output_after ∙ sym (any-coefficients c.args.picture c.make_plan-plan.result inverse_transform (references c.args.forward.now c.args.backward.now) (same-pattern ∙ c.if-symbols-ne0.false) coefficients c.args.output.now))
-
 pub returns-clause-value : goal.returns-clause-value
 unfolding plan_of
 returns-clause-value c =
@@ -152,8 +136,24 @@ returns-clause-value c =
     let plan-is : c.make_plan-plan.result ≡ starting_plan c.args.picture c.in-Legal.symbols = c.make_plan-plan.ensures ∙ ap (λ (dc : DcPasts). plan_of c.args.picture.header c.args.picture.next c.args.picture.slice (record { symbols = c.in-Legal.symbols; dc = dc })) c.reset_dc_pasts-dc.ensures in
     let same-pattern : c.make_plan-plan.result.pattern ≡ c.in-Legal.symbols.pattern = ap (λ (p : Plan). p.pattern) plan-is in
     let behind : List ℕ = drop c.in-Legal.end.at c.args.body.now in
-    let applied-as : macroblock_applied (matrices_of c.args.intra.now c.args.«non-intra».now) c.args.picture c.args.body.now ≡ parsed_applied (matrices_of c.args.intra.now c.args.«non-intra».now) c.args.picture (macroblock_with_symbols c.args.picture.slice.dc c.in-Legal.symbols behind) = symbols-read (matrices_of c.args.intra.now c.args.«non-intra».now) c.args.picture c.args.body.now legal in
+    let applied-as : macroblock_applied (matrices_of c.args.intra.now c.args.non_intra.now) c.args.picture c.args.body.now ≡ parsed_applied (matrices_of c.args.intra.now c.args.non_intra.now) c.args.picture (macroblock_with_symbols c.args.picture.slice.dc c.in-Legal.symbols behind) = symbols-read (matrices_of c.args.intra.now c.args.non_intra.now) c.args.picture c.args.body.now legal in
     let long : length behind ≡ length c.args.body.now - c.in-Legal.end.at = length-drop c.in-Legal.end.at c.args.body.now in
-    let coefficients = (decoding (matrices_of c.args.intra.now c.args.«non-intra».now) c.args.picture c.in-Legal.symbols behind none_coded).coefficients in
-    let e = applied-as ∙ predicted (matrices_of c.args.intra.now c.args.«non-intra».now) c.args.picture c.in-Legal.symbols behind c.if-symbols-ne0.false ((given-legal given).inter-if-uncoded c.if-symbols-ne0.false) (omega (arith, long, c.if-rest-gt0.false)) ∙ ap (λ (p : Plan). plan_applied c.args.picture p coefficients) (sym plan-is) in
+    let coefficients = (decoding (matrices_of c.args.intra.now c.args.non_intra.now) c.args.picture c.in-Legal.symbols behind none_coded).coefficients in
+    let e = applied-as ∙ predicted (matrices_of c.args.intra.now c.args.non_intra.now) c.args.picture c.in-Legal.symbols behind c.if-symbols-ne0.false ((given-legal given).inter-if-uncoded c.if-symbols-ne0.false) (omega (arith, long, c.if-rest-gt0.false)) ∙ ap (λ (p : Plan). plan_applied c.args.picture p coefficients) (sym plan-is) in
     rw e (c.write_predicted.ensures.value ∙ sym (same_outcome c.args.picture c.make_plan-plan.result (same-pattern ∙ c.if-symbols-ne0.false) coefficients))
+
+pub returns-clause-output_after : goal.returns-clause-output_after
+unfolding plan_of
+returns-clause-output_after c =
+    let found-by : SymbolsAnswer → Type 0 = λ answer. ParsesAs (macroblock_symbols_of (context_of c.args.picture)) c.args.body.now (symbols_result answer) in
+    let found : found-by c.read_macroblock_symbols-answer.result = rw c.context_of.ensures at c.read_macroblock_symbols-answer.ensures in
+    let legal : found-by (Legal c.in-Legal.symbols c.in-Legal.end) = subst (λ (x : SymbolsAnswer). found-by x) c.in-Legal.is found in
+    let given : SymbolsRead c.args.picture c.in-Legal.symbols = record { body = c.args.body.now; rest = _; read = legal.0 } in
+    let plan-is : c.make_plan-plan.result ≡ starting_plan c.args.picture c.in-Legal.symbols = c.make_plan-plan.ensures ∙ ap (λ (dc : DcPasts). plan_of c.args.picture.header c.args.picture.next c.args.picture.slice (record { symbols = c.in-Legal.symbols; dc = dc })) c.reset_dc_pasts-dc.ensures in
+    let same-pattern : c.make_plan-plan.result.pattern ≡ c.in-Legal.symbols.pattern = ap (λ (p : Plan). p.pattern) plan-is in
+    let behind : List ℕ = drop c.in-Legal.end.at c.args.body.now in
+    let applied-as : macroblock_applied (matrices_of c.args.intra.now c.args.non_intra.now) c.args.picture c.args.body.now ≡ parsed_applied (matrices_of c.args.intra.now c.args.non_intra.now) c.args.picture (macroblock_with_symbols c.args.picture.slice.dc c.in-Legal.symbols behind) = symbols-read (matrices_of c.args.intra.now c.args.non_intra.now) c.args.picture c.args.body.now legal in
+    let long : length behind ≡ length c.args.body.now - c.in-Legal.end.at = length-drop c.in-Legal.end.at c.args.body.now in
+    let coefficients = (decoding (matrices_of c.args.intra.now c.args.non_intra.now) c.args.picture c.in-Legal.symbols behind none_coded).coefficients in
+    let e = applied-as ∙ predicted (matrices_of c.args.intra.now c.args.non_intra.now) c.args.picture c.in-Legal.symbols behind c.if-symbols-ne0.false ((given-legal given).inter-if-uncoded c.if-symbols-ne0.false) (omega (arith, long, c.if-rest-gt0.false)) ∙ ap (λ (p : Plan). plan_applied c.args.picture p coefficients) (sym plan-is) in
+    rw e (c.write_predicted.ensures.output_after ∙ sym (any-coefficients c.args.picture c.make_plan-plan.result inverse_transform (references c.args.forward.now c.args.backward.now) (same-pattern ∙ c.if-symbols-ne0.false) coefficients c.args.output.now))

@@ -34,14 +34,14 @@ pub state_after-state-requires : goal.state_after-state-requires
 state_after-state-requires c =
     (c.requires.0.follows, rw c.write_macroblock-rows.ensures.value (macroblock-rows-most c.args.plan.pattern (six_blocks c.args.coefficients.now)))
 
-pub returns-clause-output_after : goal.returns-clause-output_after
-returns-clause-output_after c = let r = references c.args.forward.now c.args.backward.now in
-    let coefficients = six_blocks c.args.coefficients.now in
-    let e = made c.args.picture c.args.plan coefficients (sym c.requires.1 ∙ c.in-Passed.is) in
-    rw e (c.write_macroblock-rows.ensures.output_after ∙ rw c.write_skipped.ensures (own-last c.args.picture c.args.plan inverse_transform r coefficients c.args.output.now))
-
 pub returns-clause-value : goal.returns-clause-value
 returns-clause-value c = let r = references c.args.forward.now c.args.backward.now in
     let coefficients = six_blocks c.args.coefficients.now in
     let e = made c.args.picture c.args.plan coefficients (sym c.requires.1 ∙ c.in-Passed.is) in
     rw (e, c.state_after-state.ensures, c.in-Passed.is, c.write_macroblock-rows.ensures.value, plan-rows c.args.plan coefficients)
+
+pub returns-clause-output_after : goal.returns-clause-output_after
+returns-clause-output_after c = let r = references c.args.forward.now c.args.backward.now in
+    let coefficients = six_blocks c.args.coefficients.now in
+    let e = made c.args.picture c.args.plan coefficients (sym c.requires.1 ∙ c.in-Passed.is) in
+    rw e (c.write_macroblock-rows.ensures.output_after ∙ rw c.write_skipped.ensures (own-last c.args.picture c.args.plan inverse_transform r coefficients c.args.output.now))

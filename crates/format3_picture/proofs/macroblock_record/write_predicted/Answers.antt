@@ -28,12 +28,12 @@ write_prediction-requires c =
       lent = record { forward-whole = c.requires.0.lent.own-lent.forward-whole; backward-whole = c.requires.0.lent.own-lent.backward-whole; output-whole = c.write_skipped.auto.output ∙ c.requires.0.lent.own-lent.output-whole };
     }
 
-pub returns-clause-output_after : goal.returns-clause-output_after
-returns-clause-output_after c = let r = references c.args.forward.now c.args.backward.now in
-    let e = made c.args.picture c.args.plan [] (sym c.requires.1 ∙ c.in-Passed.is) in
-    rw e (c.write_prediction.ensures ∙ rw c.write_skipped.ensures (sym (own-uncoded c.args.picture c.args.plan inverse_transform r c.requires.2 [] _) ∙ own-last c.args.picture c.args.plan inverse_transform r [] c.args.output.now))
-
 pub returns-clause-value : goal.returns-clause-value
 returns-clause-value c = let r = references c.args.forward.now c.args.backward.now in
     let e = made c.args.picture c.args.plan [] (sym c.requires.1 ∙ c.in-Passed.is) in
     rw (e, c.state_after-state.ensures, c.in-Passed.is, no_rows c.args.picture c.args.plan c.requires.2 [])
+
+pub returns-clause-output_after : goal.returns-clause-output_after
+returns-clause-output_after c = let r = references c.args.forward.now c.args.backward.now in
+    let e = made c.args.picture c.args.plan [] (sym c.requires.1 ∙ c.in-Passed.is) in
+    rw e (c.write_prediction.ensures ∙ rw c.write_skipped.ensures (sym (own-uncoded c.args.picture c.args.plan inverse_transform r c.requires.2 [] _) ∙ own-last c.args.picture c.args.plan inverse_transform r [] c.args.output.now))

@@ -25,6 +25,7 @@ use Rattle.format3_picture.proofs.ReaderLaws.{Whole, whole-start, whole-done, wh
 use Rattle.format3_picture.proofs.RecordLaws.{refused-makes-none, step-found, step-unfound, matrix-long}
 use Rattle.format3_picture.proofs.InvariantLaws.{step-ends}
 use Rattle.format3_picture.proofs.reader.read_records.Goals as goal
+use Rattle.format3_picture.proofs.reader.read_records.Goals.{then-kind-eq-MATRIX_KIND, else-kind-eq-MATRIX_KIND}
 
 pub loop-at-init : goal.loop-at-init
 loop-at-init c =
@@ -116,19 +117,22 @@ loop-at-preserved c =
     let verdict-is : (v : Verdict) → c.apply_record-outcome.result.verdict ≡ v → taken.applied.verdict ≡ v = λ v e. sym (ap (λ (o : RecordOutcome). o.verdict) outcome-is) ∙ e in
     let loaded : c.in-Found.kind ≡ matrix_kind → taken.matrices ≡ loaded_with (take c.in-Found.length (drop c.in-Found.from c.args.file.now)) c.loop-at.matrices = λ e. ap (λ (t : RecordStep). t.matrices) (step-found _ _ c.loop-at.picture c.loop-at.matrices shown) ∙ rw (eq-eqb _ _ e) in
     let held : (c.in-Found.kind ≡ matrix_kind → ⊥) → taken.matrices ≡ c.loop-at.matrices = λ e. ap (λ (t : RecordStep). t.matrices) (step-found _ _ c.loop-at.picture c.loop-at.matrices shown) ∙ rw (ne_eqb _ _ e) in
-    let matrices-are : c.if-kind-eq-MATRIX_KIND.matrices ≡ taken.matrices = ⊎_elim (λ w. let loads = rw add-sub_cancel_left at w.1.ensures in w.2 ∙ loads ∙ sym (loaded w.0.taken)) (λ w. w.1 ∙ sym (held w.0.left)) c.if-kind-eq-MATRIX_KIND.branch in
+    let matrices-are : c.if-kind-eq-MATRIX_KIND.matrices ≡ taken.matrices = elim c.if-kind-eq-MATRIX_KIND.branch [
+      | then-kind-eq-MATRIX_KIND w ↦ let loads = rw add-sub_cancel_left at w.load_matrix-matrices.ensures in w.matrices-is ∙ loads ∙ sym (loaded w.if-kind-eq-MATRIX_KIND.true)
+      | else-kind-eq-MATRIX_KIND w ↦ w.matrices-is ∙ sym (held w.if-kind-eq-MATRIX_KIND.false)
+    ] in
     let e = ap (λ (t : RecordStep). t.end) (step-found _ _ c.loop-at.picture c.loop-at.matrices shown) in
     rw (matrices-are, outcome-is, ← e)
     (whole-next _ _ _ c.loop-at.invariant c.loop-at-test.true (verdict-is _ c.in-Passed.is) _ output-is c.apply_record-outcome.auto.output)
-
-pub returns-clause-output_after : goal.returns-clause-output_after
-returns-clause-output_after c =
-    let same-header : c.start_state-picture.result.header ≡ c.args.header = ap (λ (s : PictureState). s.header) c.start_state-picture.ensures in
-    let whole = rw same-header at (whole-done _ _ _ c.loop-at.invariant c.loop-at-test.false) in
-    whole.1
 
 pub returns-clause-value : goal.returns-clause-value
 returns-clause-value c =
     let same-header : c.start_state-picture.result.header ≡ c.args.header = ap (λ (s : PictureState). s.header) c.start_state-picture.ensures in
     let whole = rw same-header at (whole-done _ _ _ c.loop-at.invariant c.loop-at-test.false) in
     c.answer_at_end.ensures ∙ sym whole.0
+
+pub returns-clause-output_after : goal.returns-clause-output_after
+returns-clause-output_after c =
+    let same-header : c.start_state-picture.result.header ≡ c.args.header = ap (λ (s : PictureState). s.header) c.start_state-picture.ensures in
+    let whole = rw same-header at (whole-done _ _ _ c.loop-at.invariant c.loop-at-test.false) in
+    whole.1

@@ -44,16 +44,16 @@ returns-then-kind-eq-SLICE_KIND-clause-output_after c = let e = sym c.in_turn.en
     let is_Slice = eq-eqb _ _ c.if-kind-eq-SLICE_KIND.true in
     rw (e, no-matrix, is_Slice, slice-makes-none) (macroblocks-none _ _ _ _)
 
-pub returns-clause-output_after : goal.returns-clause-output_after
-unfolding record_applied_refusing require◌else◌then◌
-returns-clause-output_after c = let e = sym c.in_turn.ensures ∙ not-false _ c.if-not-in_turn.false-raw in
-    let no-matrix = ne_eqb _ _ c.if-kind-eq-MATRIX_KIND.false in
-    let no-slice = ne_eqb _ _ c.if-kind-eq-SLICE_KIND.false in
-    rw (e, no-matrix, no-slice) c.apply_macroblock.ensures.output_after
-
 pub returns-clause-value : goal.returns-clause-value
 unfolding record_applied_refusing require◌else◌then◌
 returns-clause-value c = let e = sym c.in_turn.ensures ∙ not-false _ c.if-not-in_turn.false-raw in
     let no-matrix = ne_eqb _ _ c.if-kind-eq-MATRIX_KIND.false in
     let no-slice = ne_eqb _ _ c.if-kind-eq-SLICE_KIND.false in
     rw (e, no-matrix, no-slice) c.apply_macroblock.ensures.value
+
+pub returns-clause-output_after : goal.returns-clause-output_after
+unfolding record_applied_refusing require◌else◌then◌
+returns-clause-output_after c = let e = sym c.in_turn.ensures ∙ not-false _ c.if-not-in_turn.false-raw in
+    let no-matrix = ne_eqb _ _ c.if-kind-eq-MATRIX_KIND.false in
+    let no-slice = ne_eqb _ _ c.if-kind-eq-SLICE_KIND.false in
+    rw (e, no-matrix, no-slice) c.apply_macroblock.ensures.output_after

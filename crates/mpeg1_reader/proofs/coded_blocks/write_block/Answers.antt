@@ -84,4 +84,4 @@ returns-in-Done-write_pairs-clause-written_at c =
     let pairs : ℤ → BitPosition → Read (List Pair) = λ d p. pairs_at c.args.intra c.args.bytes.now p in
     let front : Part dc difference c.in-Done.next c.in-Done.first = part-done dc difference c.write_difference.ensures.value c.in-Done.is in
     let back : Part levels_bytes (pairs front.value c.in-Done.next) c.in-Done-write_pairs.end c.in-Done-write_pairs.second = part-done levels_bytes (pairs front.value c.in-Done.next) c.write_pairs.ensures.value c.in-Done-write_pairs.is in
-    both-written dc levels_bytes both difference pairs join front back c.args.offset _ refl c.write_difference.ensures.written_at c.write_pairs.ensures.written_at
+    (both-written dc levels_bytes both difference pairs join front back c.args.offset _ refl c.write_difference.ensures.written_at c.write_pairs.ensures.written_at).1

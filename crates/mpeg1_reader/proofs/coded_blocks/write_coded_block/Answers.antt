@@ -9,7 +9,7 @@ use Rattle.mpeg1_reader.proofs.coded_blocks.write_coded_block.Goals as goal
 
 pub returns-then-is_coded-clause-written_at : goal.returns-then-is_coded-clause-written_at
 unfolding given_block_at
-returns-then-is_coded-clause-written_at c = rw (sym c.is_coded.ensures ∙ c.if-is_coded.true) c.write_block.ensures
+returns-then-is_coded-clause-written_at c = rw (sym c.is_coded.ensures ∙ c.if-is_coded.true) c.write_block.ensures.written_at
 
 pub returns-clause-written_at : goal.returns-clause-written_at
 unfolding given_block_at block_bytes written

@@ -34,5 +34,5 @@ overflow_cast-result c =
 
 pub overflow_cast-result-in-Value-read_coded_scale : goal.overflow_cast-result-in-Value-read_coded_scale
 overflow_cast-result-in-Value-read_coded_scale c =
-    let scale : scale_at c.in-Value.macroblock_type (c c).args.bytes.now c.in-Value.next ≡ parsed c.in-Value-read_coded_scale.scale c.in-Value-read_coded_scale.end = step-read _ c.read_coded_scale.ensures c.in-Value-read_coded_scale.is in
+    let scale : scale_at c.in-Value.macroblock_type c.args.bytes.now c.in-Value.next ≡ parsed c.in-Value-read_coded_scale.scale c.in-Value-read_coded_scale.end = step-read _ c.read_coded_scale.ensures c.in-Value-read_coded_scale.is in
     omega (arith, all-at (scale_small _ _ _) scale)

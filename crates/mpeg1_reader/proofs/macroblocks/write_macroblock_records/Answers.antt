@@ -27,7 +27,7 @@ returns-then-only_zeros_left-clause-records_answered c = let e = passed-end _ _ 
 
 pub returns-in-Refused-clause-records_answered : goal.returns-in-Refused-clause-records_answered
 returns-in-Refused-clause-records_answered c =
-    let more : all_zeros (bits_from c.args.bytes.now c.loop-header.at) ≡ false = sym c.only_zeros_left.ensures ∙ c.if-only_zeros_left.left in
+    let more : all_zeros (bits_from c.args.bytes.now c.loop-header.at) ≡ false = sym c.only_zeros_left.ensures ∙ c.if-only_zeros_left.false in
     let e =
     passed-refused _ _ _ _ c.loop-header.invariant more
     (part-refused macroblock_record (next_macroblock_at c.args.header c.args.bytes.now c.loop-header.at) c.write_next_record.ensures.value c.in-Refused.is)
@@ -36,7 +36,7 @@ returns-in-Refused-clause-records_answered c =
 
 pub returns-in-Refused-clause-written_at : goal.returns-in-Refused-clause-written_at
 returns-in-Refused-clause-written_at c =
-    let more : all_zeros (bits_from c.args.bytes.now c.loop-header.at) ≡ false = sym c.only_zeros_left.ensures ∙ c.if-only_zeros_left.left in
+    let more : all_zeros (bits_from c.args.bytes.now c.loop-header.at) ≡ false = sym c.only_zeros_left.ensures ∙ c.if-only_zeros_left.false in
     let e =
     passed-refused _ _ _ _ c.loop-header.invariant more
     (part-refused macroblock_record (next_macroblock_at c.args.header c.args.bytes.now c.loop-header.at) c.write_next_record.ensures.value c.in-Refused.is)
@@ -45,12 +45,12 @@ returns-in-Refused-clause-written_at c =
 
 pub loop-header-smaller : goal.loop-header-smaller
 loop-header-smaller c =
-    let one : Part macroblock_record (next_macroblock_at (c c).args.header (c c).args.bytes.now (c c).loop.at) c.in-Done.next c.in-Done.size = part-done macroblock_record _ c.write_next_record.ensures.value c.in-Done.is in
+    let one : Part macroblock_record (next_macroblock_at c.args.header c.args.bytes.now c.loop-header.at) c.in-Done.next c.in-Done.size = part-done macroblock_record _ c.write_next_record.ensures.value c.in-Done.is in
     let ahead = passed-ahead _ _ _ _ c.loop-header.invariant one.is in
     omega (arith, ahead.further, ahead.inside.not_past)
 
 pub loop-header-preserved : goal.loop-header-preserved
 loop-header-preserved c =
-    let more : all_zeros (bits_from c.args.bytes.now c.loop-header.at) ≡ false = sym c.only_zeros_left.ensures ∙ c.if-only_zeros_left.left in
-    let one : Part macroblock_record (next_macroblock_at (c c).args.header (c c).args.bytes.now (c c).loop.at) c.in-Done.next c.in-Done.size = part-done macroblock_record _ c.write_next_record.ensures.value c.in-Done.is in
-    rw (c.last_whole-whole.ensures, c.saturating_add-end.ensures) (passed-more _ _ _ _ c.loop-header.invariant (omega (arith, c.good)) more one c.write_next_record.ensures.written_at)
+    let more : all_zeros (bits_from c.args.bytes.now c.loop-header.at) ≡ false = sym c.only_zeros_left.ensures ∙ c.if-only_zeros_left.false in
+    let one : Part macroblock_record (next_macroblock_at c.args.header c.args.bytes.now c.loop-header.at) c.in-Done.next c.in-Done.size = part-done macroblock_record _ c.write_next_record.ensures.value c.in-Done.is in
+    rw (c.last_whole-whole.ensures, c.saturating_add-end.ensures) (passed-more _ _ _ _ c.loop-header.invariant (omega (arith, c.well_formed)) more one c.write_next_record.ensures.written_at)

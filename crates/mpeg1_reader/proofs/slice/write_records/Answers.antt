@@ -48,19 +48,19 @@ write_macroblock_records-requires c =
     let kept = ap length (all-at c.write_macroblock_record.ensures.written_at first.is) ∙ written-length 6 _ _ ∙ ap length c.write_slice_record.ensures ∙ written-length 0 _ _ in
     (c.requires.0, behind, c.requires.2, omega (arith, few, c.requires.5, kept))
 
-pub returns-in-Refused-clause-records_answered : goal.returns-in-Refused-clause-records_answered
-returns-in-Refused-clause-records_answered c = let e =
-    no-increment c.args.header c.args.row c.args.scale c.args.bytes.now c.args.at
-    (step-refused (increment_at c.args.bytes.now c.args.at) c.read_address_increment.ensures c.in-Refused.is)
-    in
-    rw e stopped
-
 pub returns-in-Refused-clause-written_at : goal.returns-in-Refused-clause-written_at
 returns-in-Refused-clause-written_at c = let e =
     no-increment c.args.header c.args.row c.args.scale c.args.bytes.now c.args.at
     (step-refused (increment_at c.args.bytes.now c.args.at) c.read_address_increment.ensures c.in-Refused.is)
     in
     all_none e
+
+pub returns-in-Refused-clause-records_answered : goal.returns-in-Refused-clause-records_answered
+returns-in-Refused-clause-records_answered c = let e =
+    no-increment c.args.header c.args.row c.args.scale c.args.bytes.now c.args.at
+    (step-refused (increment_at c.args.bytes.now c.args.at) c.read_address_increment.ensures c.in-Refused.is)
+    in
+    rw e stopped
 
 pub returns-in-Refused-write_macroblock_record-clause-written_at : goal.returns-in-Refused-write_macroblock_record-clause-written_at
 returns-in-Refused-write_macroblock_record-clause-written_at c =
@@ -89,7 +89,7 @@ returns-in-Done-clause-records_answered c =
     rw (first_read c.args.header c.args.row c.args.scale c.args.bytes.now c.args.at increment first.is)
     (slice-together c.args.scale address first.value rest c.args.room.now first.size
     (rw (← c.start_address-start.ensures) c.write_slice_record.ensures) (all-at c.write_macroblock_record.ensures.written_at first.is)
-    c.write_macroblock_records.ensures)
+    (c.write_macroblock_records.ensures.records_answered, c.write_macroblock_records.ensures.written_at)).0
 
 pub returns-in-Done-clause-written_at : goal.returns-in-Done-clause-written_at
 returns-in-Done-clause-written_at c =
@@ -100,4 +100,4 @@ returns-in-Done-clause-written_at c =
     rw (first_read c.args.header c.args.row c.args.scale c.args.bytes.now c.args.at increment first.is)
     (slice-together c.args.scale address first.value rest c.args.room.now first.size
     (rw (← c.start_address-start.ensures) c.write_slice_record.ensures) (all-at c.write_macroblock_record.ensures.written_at first.is)
-    c.write_macroblock_records.ensures)
+    (c.write_macroblock_records.ensures.records_answered, c.write_macroblock_records.ensures.written_at)).1

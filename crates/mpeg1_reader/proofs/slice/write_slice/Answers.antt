@@ -16,10 +16,10 @@ write_records-requires c =
     let known = all-at (head-row c.args.header.size.height c.args.bytes.now) head in
     (c.requires.0, known.inside, c.requires.1, known.least, known.most, c.requires.3)
 
-pub returns-in-Refused-clause-records_answered : goal.returns-in-Refused-clause-records_answered
-returns-in-Refused-clause-records_answered c = let e = no_start c.args.header c.args.bytes.now (head-refused (slice_head_at c.args.header.size.height c.args.bytes.now first_bit) c.read_slice_head.ensures c.in-Refused.is) in
-    rw e stopped
-
 pub returns-in-Refused-clause-written_at : goal.returns-in-Refused-clause-written_at
 returns-in-Refused-clause-written_at c = let e = no_start c.args.header c.args.bytes.now (head-refused (slice_head_at c.args.header.size.height c.args.bytes.now first_bit) c.read_slice_head.ensures c.in-Refused.is) in
     all_none e
+
+pub returns-in-Refused-clause-records_answered : goal.returns-in-Refused-clause-records_answered
+returns-in-Refused-clause-records_answered c = let e = no_start c.args.header c.args.bytes.now (head-refused (slice_head_at c.args.header.size.height c.args.bytes.now first_bit) c.read_slice_head.ensures c.in-Refused.is) in
+    rw e stopped

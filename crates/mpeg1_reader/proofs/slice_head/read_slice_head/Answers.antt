@@ -21,7 +21,7 @@ pub skip_extra-requires : goal.skip_extra-requires
 skip_extra-requires c =
     let row : slice_start_at c.args.height c.args.bytes.now first_bit ≡ parsed c.in-Value.row c.in-Value.next = step-read _ c.next_start.ensures c.in-Value.is in
     let inside : InBytes c.args.bytes.now c.in-Value.next = (all-at (start-row c.args.height c.args.bytes.now) row).inside in
-    let scale : field_at 5 (c c).args.bytes.now c.in-Value.next ≡ parsed c.in-Value-next_field.scale c.in-Value-next_field.after = step-read _ c.next_field.ensures c.in-Value-next_field.is in
+    let scale : field_at 5 c.args.bytes.now c.in-Value.next ≡ parsed c.in-Value-next_field.scale c.in-Value-next_field.after = step-read _ c.next_field.ensures c.in-Value-next_field.is in
     (all-at (field-onward (standing inside) 5) scale).inside
 
 pub overflow_cast-result : goal.overflow_cast-result
@@ -31,5 +31,5 @@ overflow_cast-result c =
 
 pub overflow_cast-result-in-To : goal.overflow_cast-result-in-To
 overflow_cast-result-in-To c =
-    let scale : field_at 5 (c c).args.bytes.now c.in-Value.next ≡ parsed c.in-Value-next_field.scale c.in-Value-next_field.after = step-read _ c.next_field.ensures c.in-Value-next_field.is in
+    let scale : field_at 5 c.args.bytes.now c.in-Value.next ≡ parsed c.in-Value-next_field.scale c.in-Value-next_field.after = step-read _ c.next_field.ensures c.in-Value-next_field.is in
     omega (arith, all-at (field_below _ _ 5) scale)

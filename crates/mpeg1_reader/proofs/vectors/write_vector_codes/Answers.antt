@@ -68,5 +68,5 @@ returns-in-Done-write_component-clause-written_at c =
     let down : VectorCode → BitPosition → Read VectorCode = λ horizontal p. component_at c.args.f_code c.args.bytes.now p in
     let front : Part component_bytes across c.in-Done.next c.in-Done.across = part-done component_bytes across c.write_component.ensures.value c.in-Done.is in
     let back : Part component_bytes (down front.value c.in-Done.next) c.in-Done-write_component.end c.in-Done-write_component.down = part-done component_bytes (down front.value c.in-Done.next) c.write_component-in-Done.ensures.value c.in-Done-write_component.is in
-    both-written component_bytes component_bytes vector_codes_bytes across down join front back c.args.offset _ refl c.write_component.ensures.written_at
-    c.write_component-in-Done.ensures.written_at
+    (both-written component_bytes component_bytes vector_codes_bytes across down join front back c.args.offset _ refl c.write_component.ensures.written_at
+    c.write_component-in-Done.ensures.written_at).1
