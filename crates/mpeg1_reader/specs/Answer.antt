@@ -2,7 +2,6 @@
 use Rattle.std.specs.Prelude.{List, ◌++◌, ℕ, leb, length, drop}
 use Rattle.refusals.specs.Refusal.{accepted, number_of}
 use Rattle.refusals.specs.declared.Refusal.{Refusal}
-use Rattle.refusals.specs.declared.Refusal.TheVariants as Refusal
 use Rattle.symbols.specs.Guard.{require◌else◌then◌}
 use Rattle.symbols.specs.Parsed.{parsed, refused}
 use Rattle.symbols.specs.Header.{header_with}

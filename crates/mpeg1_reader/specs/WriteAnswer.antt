@@ -10,7 +10,6 @@ use Rattle.mpeg1_slice.specs.Macroblock.{HeadFields, PatternAndBlocks, VectorsAn
 use Rattle.mpeg1_reader.specs.declared.write_answer.WriteAnswer.{WriteAnswer}
 use Rattle.mpeg1_reader.specs.declared.write_answer.WriteAnswer.TheVariants.{Done, Refused}
 use Rattle.mpeg1_reader.specs.declared.head.MacroblockHeadAnswer.{MacroblockHeadAnswer}
-use Rattle.mpeg1_reader.specs.declared.head.MacroblockHeadAnswer.TheVariants as MacroblockHeadAnswer
 
 -- the position after the part and how many bytes it takes, or the refusal and where it happened
 abbrev pub write_answer : {A : Type 0} → (A → List ℕ) → Read A → WriteAnswer

@@ -1,5 +1,6 @@
 // Raw slices: the bits of one slice, read and written as Format 3 records.
 #![tactic(auto)]
+
 pub mod coded_blocks;
 pub mod coded_pairs;
 pub mod entry;

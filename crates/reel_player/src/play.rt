@@ -88,6 +88,7 @@ fn lent_bytes(start: FileStart) -> usize
 }
 
 // Reconstructs a file's picture, using the kept references that its type calls for.
+#[tactic(auto, unfolding(crate::specs::Items::picture_into))]
 fn make<'a>(
     start: FileStart,
     file: &[u8],
@@ -127,6 +128,7 @@ fn carry(start: FileStart, picture: &[u8], kept: Kept, older: &mut [u8], newer: 
 }
 
 // Reconstructs a picture into a lent output and keeps it if it is a reference.
+#[tactic(auto, unfolding(crate::specs::Next::played_as))]
 fn play_into(
     number: usize,
     start: FileStart,
@@ -164,6 +166,7 @@ fn play_into(
 }
 
 // Reconstructs a picture of a reel into the part of the output that it needs.
+#[tactic(auto, unfolding(crate::specs::Next::output_after))]
 fn play_file(
     number: usize,
     file: &[u8],
@@ -186,6 +189,7 @@ fn play_file(
 
 // Plays the reel's next picture, or returns `Cut` if the reel is cut there. The first two buffers hold the references;
 // the picture goes into the third.
+#[tactic(auto, unfolding(crate::specs::Next::next_of))]
 pub fn play_next(
     reel: &[u8],
     position: ReelPosition,

@@ -46,6 +46,7 @@ fn put_lines(reel: &[u8], text: &mut [u8]) -> usize
 
 // Writes the report of a reel at the text's start and returns its length; the rest of the buffer stays. The contract first says that
 // it fits, since callers take `&text[..r]`.
+#[tactic(auto, unfolding(crate::specs::Report::report_of))]
 pub fn report(reel: &[u8], text: &mut [u8; REPORT_BYTES]) -> usize
     ensures prefix_len { IsPrefixLen result text.new }
     ensures value { result ≡ length (report_of reel.now) }

@@ -73,6 +73,7 @@ fn put_planes(buffer: &mut [u8], at: usize, answer: Answer, bytes: &[u8]) -> usi
 }
 
 // A picture's line.
+#[tactic(auto, unfolding(crate::specs::Text::line_text))]
 pub(crate) fn put_picture(buffer: &mut [u8], at: usize, played: Played, bytes: &[u8]) -> usize
     requires line_bytes_in_bounds { at + line_bytes ≤ length buffer.old }
     requires bytes_len_bound { length bytes.now ≤ max_lent_bytes }
@@ -90,6 +91,7 @@ pub(crate) fn put_picture(buffer: &mut [u8], at: usize, played: Played, bytes: &
 }
 
 // The line that says where the reel is cut.
+#[tactic(auto, unfolding(crate::specs::Text::line_text))]
 pub(crate) fn put_cut(buffer: &mut [u8], at: usize, offset: usize) -> usize
     requires { at + cut_bytes ≤ length buffer.old }
     ensures value { result ≡ at + length (line_text (cut offset)) }

@@ -33,6 +33,7 @@ fn sum(pels: &[u8]) -> u64
 }
 
 // The sums of the three planes of a picture.
+#[tactic(auto, unfolding(crate::specs::Planes::sums_of))]
 pub(crate) fn sums_of(picture: &[u8]) -> Sums
     requires { length picture.now ≤ max_lent_bytes }
     ensures { result ≡ sums_of picture.now }

@@ -8,7 +8,6 @@ use lib.ListN.{length, take, drop, length-append}
 use lib.Seq.{length-take-le}
 use borrow.Author.Tests.{le-leb, lt-leb}
 use Rattle.refusals.specs.declared.Refusal.{Refusal}
-use Rattle.refusals.specs.declared.Refusal.TheVariants as Refusal
 use Rattle.math.specs.Joined.{joined}
 use Rattle.symbols.specs.Guard.{require◌else◌then◌}
 use Rattle.symbols.specs.Parsed.{parsed, refused}

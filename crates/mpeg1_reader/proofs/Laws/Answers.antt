@@ -12,14 +12,10 @@ use Rattle.mpeg1_slice.specs.Answers.{component_answer, difference_answer, next_
 use Rattle.mpeg1_slice.specs.Blocks.{PairOrEnd, next_pair, block_end}
 use Rattle.mpeg1_slice.specs.Macroblock.{HeadFields}
 use Rattle.mpeg1_slice.specs.declared.vectors.ComponentAnswer.{ComponentAnswer}
-use Rattle.mpeg1_slice.specs.declared.vectors.ComponentAnswer.TheVariants as ComponentAnswer
 use Rattle.mpeg1_slice.specs.declared.difference.DifferenceAnswer.{DifferenceAnswer}
-use Rattle.mpeg1_slice.specs.declared.difference.DifferenceAnswer.TheVariants as DifferenceAnswer
 use Rattle.mpeg1_slice.specs.declared.coefficient.NextPair.{NextPair}
-use Rattle.mpeg1_slice.specs.declared.coefficient.NextPair.TheVariants as NextPair
 use Rattle.mpeg1_reader.specs.WriteAnswer.{macroblock_head_answer}
 use Rattle.mpeg1_reader.specs.declared.head.MacroblockHeadAnswer.{MacroblockHeadAnswer}
-use Rattle.mpeg1_reader.specs.declared.head.MacroblockHeadAnswer.TheVariants as MacroblockHeadAnswer
 
 pub motion-read : (x : Read VectorCode) {r : ComponentAnswer} {code : ℤ} {residual : ℕ} {p : BitPosition} → r ≡ component_answer x → r ≡ ComponentAnswer.Read code residual p → x ≡ parsed (record { code = code; residual = residual }) p
 motion-read (parsed a q) {r} {code} {residual} {p} e f =

@@ -12,7 +12,7 @@ use Rattle.symbols.specs.Pair.{first_position}
 use Rattle.symbols.specs.declared.pair.Pair.{Pair}
 use Rattle.symbols.specs.Block.{Block, uncoded, coded}
 use Rattle.symbols.specs.Pattern.{is_coded}
-use Rattle.symbols.proofs.Parsed.{All, here, none, all_then, all-cond, all_more, all_any}
+use Rattle.symbols.proofs.Parsed.{All, here, none, all_then, all-cond, all_any}
 use Rattle.format3_writer.specs.Bytes.{big_endian_bytes}
 use Rattle.format3_writer.specs.Records.{block_bytes, pattern_bytes, blocks_bytes}
 use Rattle.format3_writer.proofs.Laws.Lengths.{FewIn, FewPairs, levels-length, pattern-short}

@@ -15,7 +15,6 @@ use Rattle.mpeg1_slice.specs.Read.{stop, Read}
 use Rattle.mpeg1_slice.specs.Slice.{SliceHead, first_bit, slice_start_at, slice_head_at}
 use Rattle.mpeg1_slice.specs.Answers.{extra_answer}
 use Rattle.mpeg1_slice.specs.declared.extra.ExtraAnswer.{ExtraAnswer}
-use Rattle.mpeg1_slice.specs.declared.extra.ExtraAnswer.TheVariants as ExtraAnswer
 use Rattle.mpeg1_slice.proofs.Laws.Read.{all-code, first-inside, standing, field-onward}
 use Rattle.mpeg1_slice.proofs.Laws.Onward.{extra-onward}
 use Rattle.mpeg1_slice.proofs.Laws.Words.{start-read}

@@ -1,19 +1,7 @@
 -- `write_blocks` meets its contract: it writes each block after the previous ones. Assumes nothing.
-use mathlib.Core.Path.{refl}
-use Prim.Native.Nat.{◌-◌, ◌≤◌}
-use native.Mathlib.Omega.{arith}
-use borrow.Author.Rules.{rules}
-use Rattle.symbols.specs.Pattern.{is_coded}
-use Rattle.symbols.proofs.Parsed.{all-at, all-as, all_none}
-use Rattle.format3_writer.specs.Records.{block_bytes}
-use Rattle.format3_writer.proofs.Laws.Lengths.{block-short}
-use Rattle.mpeg1_bits.specs.Requires.{InBytes}
-use Rattle.mpeg1_slice.specs.Blocks.{given_block_at, blocks_from}
-use Rattle.mpeg1_slice.proofs.Laws.Read.{standing}
-use Rattle.mpeg1_slice.proofs.Laws.Onward.{given-block-onward}
-use Rattle.mpeg1_reader.proofs.Laws.Writing.{Part, part-done, part-refused}
-use Rattle.mpeg1_reader.proofs.Laws.Few.{given-short}
-use Rattle.mpeg1_reader.proofs.Laws.Blocks.{Passed, passed_none, passed-refused, passed-end, passed-more}
+use Prim.Native.Nat.{◌-◌}
+use Rattle.mpeg1_slice.specs.Blocks.{blocks_from}
+use Rattle.mpeg1_reader.proofs.Laws.Blocks.{Passed}
 use Rattle.mpeg1_reader.proofs.coded_blocks.write_blocks.Given as goal
 
 abbrev pub invariant-loop-block : goal.invariant-loop-block

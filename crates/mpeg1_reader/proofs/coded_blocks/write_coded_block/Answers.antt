@@ -1,6 +1,5 @@
 -- `write_coded_block` meets its contract: it writes the block if it is coded, else nothing. Assumes nothing.
 use mathlib.Core.Path.{refl, sym, ◌∙◌}
-use borrow.Author.Rules.{rules}
 use Rattle.symbols.proofs.Parsed.{here}
 use Rattle.format3_writer.specs.Written.{written}
 use Rattle.format3_writer.specs.Records.{block_bytes}

@@ -1,6 +1,5 @@
 -- `write_difference` meets its contract: it writes the difference of an intra block, else nothing. Assumes nothing.
 use mathlib.Core.Path.{◌≡◌, refl}
-use borrow.Author.Rules.{rules}
 use borrow.Author.Tests.{not-true, not-false}
 use mir.Syntax.{w16}
 use mir.Val.{to_z, of_z}

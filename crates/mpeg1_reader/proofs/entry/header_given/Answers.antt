@@ -1,6 +1,5 @@
 -- `header_given` meets its contract: a number above 255 exceeds every limit of a header. Assumes nothing.
 use native.Mathlib.Omega.{arith}
-use borrow.Author.Rules.{rules}
 use Rattle.mpeg1_reader.proofs.Laws.Answer.{illegal}
 use Rattle.mpeg1_reader.proofs.entry.header_given.Goals as goal
 

@@ -3,7 +3,6 @@
 use mathlib.Core.Path.{◌≡◌, refl, sym, ap, ◌∙◌}
 use Prim.Native.Nat.{ℕ, ◌<◌, ◌≤◌}
 use native.Mathlib.Omega.{arith}
-use borrow.Author.Rules.{rules}
 use lib.ListN.{length}
 use Rattle.symbols.specs.Slice.{Slice}
 use Rattle.symbols.proofs.Parsed.{all-at}
@@ -71,8 +70,8 @@ returns-else-buffer-size-clause-buffer_after c =
     let outcome : read_outcome slice c.args.buffer.now ≡ accepted_with (slice_bytes accepted-slice.slice) c.in-Done.end c.args.buffer.now = it-fits slice accepted-slice c.args.buffer.now buffer-short fits in
     let answered : accepted_answer c.in-Done.size c.in-Done.end ≡ (read_outcome slice c.args.buffer.now).answer = ap (λ (n : ℕ). accepted_answer n c.in-Done.end) (whole-size slice accepted-slice c.args.buffer.now buffer-short fits) ∙ ap (λ (o : RawSliceOutcome). o.answer) (sym outcome) in
     resumed-there slice accepted-slice c.args.buffer.now buffer-short c.args.room.now refl fits c.write_slice.ensures.written_at c.put_front.ensures
-          c.write_macroblock_records.ensures.written_at
-          ∙ ap (λ (o : RawSliceOutcome). o.buffer) (sym outcome)
+    c.write_macroblock_records.ensures.written_at
+    ∙ ap (λ (o : RawSliceOutcome). o.buffer) (sym outcome)
 
 pub returns-else-buffer-size-clause-value : goal.returns-else-buffer-size-clause-value
 returns-else-buffer-size-clause-value c =

@@ -1,10 +1,9 @@
 -- `read_slice` meets its contract: it tests the given numbers, then reads the slice. Assumes nothing.
-use mathlib.Core.Path.{◌≡◌, refl, sym, ◌∙◌}
-use borrow.Author.Rules.{rules}
+use mathlib.Core.Path.{◌≡◌, sym, ◌∙◌}
 use Rattle.symbols.specs.Header.{header_with}
 use Rattle.symbols.specs.declared.header.HeaderAnswer.TheVariants as Header
 use Rattle.symbols.proofs.Laws.Header.{made-within}
-use Rattle.mpeg1_reader.specs.Answer.{given_fields, raw_slice_outcome}
+use Rattle.mpeg1_reader.specs.Answer.{given_fields}
 use Rattle.mpeg1_reader.proofs.Laws.Answer.{legal-height}
 use Rattle.mpeg1_reader.proofs.entry.read_slice.Goals as goal
 

@@ -2,15 +2,14 @@
 use mathlib.Core.Path.{◌≡◌}
 use Prim.Native.Nat.{◌≤◌}
 use native.Mathlib.Omega.{arith}
-use borrow.Author.Rules.{rules}
 use Rattle.symbols.specs.Parsed.{parsed}
 use Rattle.symbols.proofs.Parsed.{all-at}
 use Rattle.mpeg1_bits.specs.Requires.{InBytes}
 use Rattle.mpeg1_tables.specs.AnnexB.{types_of}
 use Rattle.mpeg1_vlc.proofs.Laws.Range.{type-read}
 use Rattle.mpeg1_slice.specs.Read.{word_at}
-use Rattle.mpeg1_slice.specs.Macroblock.{scale_at, head_at}
-use Rattle.mpeg1_slice.proofs.Laws.Read.{step-read, step-refused, standing, word-onward, word-between}
+use Rattle.mpeg1_slice.specs.Macroblock.{scale_at}
+use Rattle.mpeg1_slice.proofs.Laws.Read.{step-read, standing, word-onward, word-between}
 use Rattle.mpeg1_reader.proofs.Laws.Lengths.{scale_small}
 use Rattle.mpeg1_reader.proofs.head.read_coded_head.Goals as goal
 

@@ -3,7 +3,6 @@ use mathlib.Core.List.{List}
 use mathlib.Core.Path.{◌≡◌, refl, ap}
 use Prim.Native.Nat.{ℕ, ◌≤◌}
 use native.Mathlib.Omega.{arith}
-use borrow.Author.Rules.{rules}
 use Rattle.symbols.specs.Parsed.{parsed}
 use Rattle.symbols.proofs.Parsed.{all-at, all-as, all_none}
 use Rattle.format3_records.specs.Record.{macroblock_kind}
@@ -136,6 +135,6 @@ returns-in-Done-clause-written_at c =
     let e = macroblock-read c.args.header c.args.increment c.args.bytes.now c.args.at found rest.is in
     let body = body_of c.args.increment head rest.value in
     all-as e
-          (rw body
-          (record-written c.args.offset macroblock_kind headed (vectors_and_blocks_bytes type rest.value) c.write_macroblock_head-first.ensures.value rest.size refl c.args.buffer.now c.write_macroblock_head-first.ensures.buffer_after
-          (all-at c.write_vectors_and_blocks.ensures.written_at rest.is) c.write_record_head.ensures))
+    (rw body
+    (record-written c.args.offset macroblock_kind headed (vectors_and_blocks_bytes type rest.value) c.write_macroblock_head-first.ensures.value rest.size refl c.args.buffer.now c.write_macroblock_head-first.ensures.buffer_after
+    (all-at c.write_vectors_and_blocks.ensures.written_at rest.is) c.write_record_head.ensures))

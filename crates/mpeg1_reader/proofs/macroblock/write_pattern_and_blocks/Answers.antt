@@ -3,7 +3,6 @@ use mathlib.Core.List.{List}
 use mathlib.Core.Path.{◌≡◌, refl}
 use Prim.Native.Nat.{ℕ, ◌+◌, ◌≤◌}
 use native.Mathlib.Omega.{arith}
-use borrow.Author.Rules.{rules}
 use Rattle.symbols.specs.Parsed.{parsed}
 use Rattle.symbols.specs.MacroblockType.{is_intra}
 use Rattle.symbols.specs.Block.{Block}
@@ -18,7 +17,7 @@ use Rattle.mpeg1_slice.specs.Macroblock.{PatternAndBlocks, pattern_at, pattern_a
 use Rattle.mpeg1_slice.proofs.Laws.Read.{step-read, step-refused, standing}
 use Rattle.mpeg1_slice.proofs.Laws.Onward.{pattern-onward}
 use Rattle.mpeg1_reader.specs.WriteAnswer.{write_answer, WrittenAt, pattern_and_blocks_field_bytes}
-use Rattle.mpeg1_reader.proofs.Laws.Writing.{Part, part-done, part-refused, first-refused, second-refused, both-written}
+use Rattle.mpeg1_reader.proofs.Laws.Writing.{Part, part-done, part-refused, second-refused, both-written}
 use Rattle.mpeg1_reader.proofs.Laws.Lengths.{pattern-small}
 use Rattle.mpeg1_reader.proofs.Laws.Few.{blocks-few}
 use Rattle.mpeg1_reader.proofs.Laws.Blocks.{blocks-as}
@@ -51,8 +50,8 @@ overflow_add-both c =
     let coded : List Block → List ℕ = blocks_bytes (is_intra c.args.macroblock_type) in
     let blocks : ℕ → BitPosition → Read (List Block) = λ v p. blocks_from (is_intra c.args.macroblock_type) v 6 0 c.args.bytes.now p in
     let known : (c.write_blocks.result ≡ write_answer coded (blocks c.in-Value.value c.in-Value.next))
-        × WrittenAt coded (c.args.offset + c.write_pattern-first.result) c.write_pattern-first.new.buffer c.write_blocks.new.buffer (blocks c.in-Value.value c.in-Value.next)
-        = blocks-as _ _ _ _ _ _ _ c.has_part-intra.ensures (c.write_blocks.ensures.value, c.write_blocks.ensures.written_at) in
+    × WrittenAt coded (c.args.offset + c.write_pattern-first.result) c.write_pattern-first.new.buffer c.write_blocks.new.buffer (blocks c.in-Value.value c.in-Value.next)
+    = blocks-as _ _ _ _ _ _ _ c.has_part-intra.ensures (c.write_blocks.ensures.value, c.write_blocks.ensures.written_at) in
     let back : Part coded (blocks c.in-Value.value c.in-Value.next) c.in-Done.end c.in-Done.second = part-done coded _ known.0 c.in-Done.is in
     let few : c.write_pattern-first.result ≤ 1 = omega (arith, c.write_pattern-first.ensures.value, pattern-short c.args.macroblock_type c.in-Value.value) in
     let six = all-at (blocks-few (is_intra c.args.macroblock_type) c.in-Value.value 6 0 c.args.bytes.now c.in-Value.next) back.is in
@@ -73,8 +72,8 @@ returns-in-Refused-write_blocks-clause-written_at c =
     let coded : List Block → List ℕ = blocks_bytes (is_intra c.args.macroblock_type) in
     let blocks : ℕ → BitPosition → Read (List Block) = λ v p. blocks_from (is_intra c.args.macroblock_type) v 6 0 c.args.bytes.now p in
     let known : (c.write_blocks.result ≡ write_answer coded (blocks c.in-Value.value c.in-Value.next))
-        × WrittenAt coded (c.args.offset + c.write_pattern-first.result) c.write_pattern-first.new.buffer c.write_blocks.new.buffer (blocks c.in-Value.value c.in-Value.next)
-        = blocks-as _ _ _ _ _ _ _ c.has_part-intra.ensures (c.write_blocks.ensures.value, c.write_blocks.ensures.written_at) in
+    × WrittenAt coded (c.args.offset + c.write_pattern-first.result) c.write_pattern-first.new.buffer c.write_blocks.new.buffer (blocks c.in-Value.value c.in-Value.next)
+    = blocks-as _ _ _ _ _ _ _ c.has_part-intra.ensures (c.write_blocks.ensures.value, c.write_blocks.ensures.written_at) in
     let patterned : ℕ → List ℕ = pattern_bytes c.args.macroblock_type in
     let both : PatternAndBlocks → List ℕ = pattern_and_blocks_field_bytes c.args.macroblock_type in
     let front : Part patterned pattern c.in-Value.next c.write_pattern-first.result = record { value = c.in-Value.value; is = value; size = c.write_pattern-first.ensures.value } in
@@ -90,8 +89,8 @@ returns-in-Done-clause-written_at c =
     let coded : List Block → List ℕ = blocks_bytes (is_intra c.args.macroblock_type) in
     let blocks : ℕ → BitPosition → Read (List Block) = λ v p. blocks_from (is_intra c.args.macroblock_type) v 6 0 c.args.bytes.now p in
     let known : (c.write_blocks.result ≡ write_answer coded (blocks c.in-Value.value c.in-Value.next))
-        × WrittenAt coded (c.args.offset + c.write_pattern-first.result) c.write_pattern-first.new.buffer c.write_blocks.new.buffer (blocks c.in-Value.value c.in-Value.next)
-        = blocks-as _ _ _ _ _ _ _ c.has_part-intra.ensures (c.write_blocks.ensures.value, c.write_blocks.ensures.written_at) in
+    × WrittenAt coded (c.args.offset + c.write_pattern-first.result) c.write_pattern-first.new.buffer c.write_blocks.new.buffer (blocks c.in-Value.value c.in-Value.next)
+    = blocks-as _ _ _ _ _ _ _ c.has_part-intra.ensures (c.write_blocks.ensures.value, c.write_blocks.ensures.written_at) in
     let patterned : ℕ → List ℕ = pattern_bytes c.args.macroblock_type in
     let both : PatternAndBlocks → List ℕ = pattern_and_blocks_field_bytes c.args.macroblock_type in
     let front : Part patterned pattern c.in-Value.next c.write_pattern-first.result = record { value = c.in-Value.value; is = value; size = c.write_pattern-first.ensures.value } in

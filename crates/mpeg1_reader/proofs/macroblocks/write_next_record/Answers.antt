@@ -1,11 +1,9 @@
 -- `write_next_record` meets its contract: it reads the increment, then the macroblock. Assumes nothing.
-use mathlib.Core.Path.{◌≡◌, refl}
-use borrow.Author.Rules.{rules}
+use mathlib.Core.Path.{◌≡◌}
 use Rattle.symbols.specs.Parsed.{parsed}
 use Rattle.symbols.proofs.Parsed.{all-at, all_none}
 use Rattle.mpeg1_bits.specs.Requires.{InBytes}
 use Rattle.mpeg1_slice.specs.Increment.{increment_at}
-use Rattle.mpeg1_slice.specs.Slice.{next_macroblock_at}
 use Rattle.mpeg1_slice.proofs.Laws.Read.{step-read, step-refused, standing}
 use Rattle.mpeg1_slice.proofs.Laws.Onward.{increment-ahead}
 use Rattle.mpeg1_reader.proofs.Laws.Macroblocks.{no-increment}

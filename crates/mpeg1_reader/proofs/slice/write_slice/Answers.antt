@@ -1,10 +1,8 @@
 -- `write_slice` meets its contract: it reads the head, then writes the records of what follows. Assumes nothing.
 use mathlib.Core.Path.{◌≡◌}
-use native.Mathlib.Omega.{arith}
-use borrow.Author.Rules.{rules}
 use Rattle.symbols.specs.Parsed.{parsed}
 use Rattle.symbols.proofs.Parsed.{all-at, all_none}
-use Rattle.mpeg1_slice.specs.Slice.{first_bit, slice_head_at, raw_slice_of}
+use Rattle.mpeg1_slice.specs.Slice.{first_bit, slice_head_at}
 use Rattle.mpeg1_reader.specs.RecordOffsets.{stopped}
 use Rattle.mpeg1_reader.proofs.Laws.Start.{head-found, head-refused, head-row}
 use Rattle.mpeg1_reader.proofs.Laws.Slice.{no_start}

@@ -1,14 +1,13 @@
 -- `read_slice_head` meets its contract: it reads start code and scale, and skips the extra information. Assumes nothing.
 use mathlib.Core.Path.{◌≡◌}
 use native.Mathlib.Omega.{arith}
-use borrow.Author.Rules.{rules}
 use Rattle.symbols.specs.Parsed.{parsed}
 use Rattle.symbols.proofs.Parsed.{all-at}
 use Rattle.mpeg1_bits.specs.Requires.{InBytes}
 use Rattle.mpeg1_slice.specs.Read.{field_at}
-use Rattle.mpeg1_slice.specs.Slice.{first_bit, slice_start_at, extra_at, slice_head_at}
-use Rattle.mpeg1_slice.proofs.Laws.Read.{step-read, step-refused, standing, field-onward, field_below}
-use Rattle.mpeg1_reader.proofs.Laws.Start.{skipped-to, skipped-refused, start-row}
+use Rattle.mpeg1_slice.specs.Slice.{first_bit, slice_start_at}
+use Rattle.mpeg1_slice.proofs.Laws.Read.{step-read, standing, field-onward, field_below}
+use Rattle.mpeg1_reader.proofs.Laws.Start.{start-row}
 use Rattle.mpeg1_reader.proofs.slice_head.read_slice_head.Goals as goal
 
 pub next_field-requires : goal.next_field-requires

@@ -1,6 +1,5 @@
 -- `write_component` meets its contract: it writes the code and residual that it reads. Assumes nothing.
-use mathlib.Core.Path.{◌≡◌, refl}
-use borrow.Author.Rules.{rules}
+use mathlib.Core.Path.{◌≡◌}
 use mir.Syntax.{w8}
 use mir.Val.{to_z, of_z}
 use mir.ValLaws.{to_z-of_z}

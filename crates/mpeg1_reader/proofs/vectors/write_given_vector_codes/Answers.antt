@@ -1,6 +1,5 @@
 -- `write_given_vector_codes` meets its contract: it writes nothing if the type has no codes. Assumes nothing.
 use mathlib.Core.Path.{refl, sym, ◌∙◌}
-use borrow.Author.Rules.{rules}
 use Rattle.symbols.proofs.Parsed.{here}
 use Rattle.format3_writer.specs.Written.{written}
 use Rattle.mpeg1_slice.specs.Vectors.{given_vector_codes_at}

@@ -1,7 +1,6 @@
 -- `write_vector_codes` meets its contract: it writes the vertical component after the horizontal one. Assumes nothing.
 use mathlib.Core.Path.{refl}
 use native.Mathlib.Omega.{arith}
-use borrow.Author.Rules.{rules}
 use Rattle.symbols.specs.declared.vector_codes.VectorCode.{VectorCode}
 use Rattle.symbols.specs.declared.vector_codes.VectorCodes.{VectorCodes}
 use Rattle.symbols.proofs.Parsed.{all-at, all_none}

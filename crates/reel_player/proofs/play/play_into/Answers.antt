@@ -16,8 +16,7 @@ use Rattle.reel_player.specs.Next.{AfterPicture, held_in, kept_of, played_as}
 use Rattle.reel_player.specs.Requires.{KeptWithin}
 use Rattle.reel_player.specs.declared.play.PlayedFile.{PlayedFile}
 use Rattle.reel_player.proofs.PlayLaws.{nothing-kept}
-use Rattle.reel_player.proofs.play.play_into.Statement.{statement}
-use Rattle.reel_player.proofs.play.play_into.Tie as tie
+use Rattle.reel_player.proofs.play.play_into.Goals as goal
 
 -- the definition's result, given that the answer and output are those of the picture made
 module _ (number : ℕ) (start : FileStart) (made : Picture) (kept : Kept) (older newer : List ℕ) (answer : Answer) (same : answer ≡ answer_of made) where
@@ -42,55 +41,10 @@ module _ (number : ℕ) (start : FileStart) (made : Picture) (kept : Kept) (olde
   unfolding played_as
   kept_on {output} e h given = rw (← same, ← e, test, eq-eqb answer.number accepted h) (ap (λ (k : Kept). file (length output) k) given.0, given.1)
 
-make-requires : tie.Need-make-requires
-make-requires c κs = search rules
+pub returns-then-answer-ne-ACCEPTED-clause-newer_after : goal.returns-then-answer-ne-ACCEPTED-clause-newer_after
+returns-then-answer-ne-ACCEPTED-clause-newer_after c = let given = refused c.args.number c.args.start (picture_into c.args.start c.args.file.now (held_in c.args.kept c.args.older.now c.args.newer.now) c.args.output.now) c.args.kept c.args.older.now c.args.newer.now c.make-answer.result c.make-answer.ensures.value c.requires c.if-answer-ne-ACCEPTED.true in
+    given.1.1
 
-same_length : tie.Need-same-length
-same_length c = search rules
-
-same-length-2 : tie.Need-same-length-2
-same-length-2 c = search rules
-
-same-length-3 : tie.Need-same-length-3
-same-length-3 c = search rules
-
-returns : tie.Need-returns
-returns c =
-    let args = c.before.before.before.before.before.before.before.before.before.before.before.before.args in
-    let made = c.before.before.before.before.make in
-    let given = refused args.number args.start (picture_into args.start args.file.now (held_in args.kept args.older.now args.newer.now) args.output.now) args.kept args.older.now args.newer.now made.result made.ensures.0 c.before.before.before.before.before.before.before.before.before.before.before.before.requires c.if1.true in
-    (given.0, (given.1.0, (given.1.1, made.ensures.1)))
-
-carry-requires : tie.Need-carry-requires
-carry-requires c κs = search rules
-
-same-length-4 : tie.Need-same-length-4
-same-length-4 c = search rules
-
-same-length-5 : tie.Need-same-length-5
-same-length-5 c = search rules
-
-same-length-6 : tie.Need-same-length-6
-same-length-6 c = search rules
-
-returns-2 : tie.Need-returns-2
-returns-2 c =
-    let args = c.before.before.before.before.before.before.before.before.before.before.before.before.before.before.before.before.before.before.before.before.args in
-    let made = c.before.before.before.before.before.before.before.before.before.before.before.before.make in
-    let given = kept_on args.number args.start (picture_into args.start args.file.now (held_in args.kept args.older.now args.newer.now) args.output.now) args.kept args.older.now args.newer.now made.result made.ensures.0 made.ensures.1 c.before.before.before.before.before.before.before.before.if1.false c.before.before.before.before.carry.ensures in
-    (given.0, (given.1.0, (given.1.1, made.ensures.1)))
-
-pub play-into-spec : {M : Type 1} → statement M
-play-into-spec =
-    tie.close
-    (tie.spec
-    make-requires
-    same_length
-    same-length-2
-    same-length-3
-    returns
-    carry-requires
-    same-length-4
-    same-length-5
-    same-length-6
-    returns-2)
+pub returns-then-answer-ne-ACCEPTED-clause-older_after : goal.returns-then-answer-ne-ACCEPTED-clause-older_after
+returns-then-answer-ne-ACCEPTED-clause-older_after c = let given = refused c.args.number c.args.start (picture_into c.args.start c.args.file.now (held_in c.args.kept c.args.older.now c.args.newer.now) c.args.output.now) c.args.kept c.args.older.now c.args.newer.now c.make-answer.result c.make-answer.ensures.value c.requires c.if-answer-ne-ACCEPTED.true in
+    given.1.0

@@ -1,0 +1,17 @@
+-- `carry` meets its contract: it makes the test of `carried_from`. Assumes nothing.
+use borrow.Author.Tests.{eq-eqb, ne_eqb}
+use borrow.Author.Rules.{rules}
+use Rattle.reel_player.proofs.PlayLaws.{newer-length, nothing-kept}
+use Rattle.reel_player.proofs.play.carry.Goals as goal
+
+pub returns-in_default-clause-older_after : goal.returns-in_default-clause-older_after
+returns-in_default-clause-older_after c = rw c.in_default.is (nothing-kept _ _ _ c.requires).1.0
+
+pub returns-in_default-clause-newer_after : goal.returns-in_default-clause-newer_after
+returns-in_default-clause-newer_after c = rw c.in_default.is (nothing-kept _ _ _ c.requires).1.1
+
+pub returns-then-header-eq-B_PICTURE-clause-older_after : goal.returns-then-header-eq-B_PICTURE-clause-older_after
+returns-then-header-eq-B_PICTURE-clause-older_after c = rw (c.in-HeaderRead.is, eq-eqb _ _ c.if-header-eq-B_PICTURE.true) (nothing-kept _ _ _ c.requires).1.0
+
+pub returns-then-header-eq-B_PICTURE-clause-newer_after : goal.returns-then-header-eq-B_PICTURE-clause-newer_after
+returns-then-header-eq-B_PICTURE-clause-newer_after c = rw (c.in-HeaderRead.is, eq-eqb _ _ c.if-header-eq-B_PICTURE.true) (nothing-kept _ _ _ c.requires).1.1
