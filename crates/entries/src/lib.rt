@@ -195,7 +195,7 @@ pub fn show_record(file: &[u8], offset: usize) -> ShownRecord
 pub fn show<'a>(file: &'a [u8], offset: usize) -> Shown<'a>
     ensures kind { result.kind ≡ kind_of (record_of file.now offset) }
     ensures body { result.body.now ≡ body_of (record_of file.now offset) file.now }
-    ensures place { result.body.ptr ≡ (file.entry.ref_ptr.0, body_start_of (record_of file.now offset) + file.entry.ref_ptr.1) }
+    ensures place { result.body.ref_ptr ≡ (file.entry.ref_ptr.0, body_start_of (record_of file.now offset) + file.entry.ref_ptr.1) }
 {
     record::show(file, offset)
 }

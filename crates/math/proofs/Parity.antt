@@ -1,15 +1,10 @@
 -- Even and odd integers: by the absolute value's remainder, and the number next to one. Assumes nothing.
-use mathlib.Core.Bool.{Bool, true, false, not}
-use mathlib.Core.Path.{◌≡◌, refl, sym, ap, ◌∙◌}
-use Prim.Native.Nat.{ℕ, zero, suc, ◌+◌, ◌%◌}
-use native.Mathlib.Omega.{arith}
-use borrow.Author.Tests.{eqb-true, eqb-false}
+use mathlib.Core.Path.{◌≡◌, refl, sym}
+use Prim.Native.Nat.{ℕ, zero, suc, ◌%◌}
 use lib.Dec.{eqb, eqb-suc-zero}
-use lib.IntN.{ℤ, pos, negsuc, neg_ℤ, nat_abs, ◌+ℤ◌}
+use lib.IntN.{ℤ, pos, negsuc, neg_ℤ, nat_abs}
 use Rattle.math.specs.Limit.{eq_z}
 use Rattle.math.specs.Parity.{is_even}
-use Rattle.math.proofs.Bound.{abs-parts}
-use Rattle.math.proofs.Difference.{up, dn, parts_add}
 
 neg-zero : (n : ℕ) → eq_z (neg_ℤ (pos n)) (pos 0) ≡ eqb n 0
 neg-zero zero = refl

@@ -1,5 +1,6 @@
 // The refusals of every public entry, and their numbers in answers; 0 is an acceptance.
 #![tactic(auto)]
+
 ghost use Rattle.std.specs.Prelude.{◌≡◌};
 ghost use Rattle.refusals.specs.Refusal.{number_of};
 

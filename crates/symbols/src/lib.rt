@@ -1,5 +1,6 @@
 // The symbols of a picture: every syntax is read into them, and every picture is made from them.
 #![tactic(auto)]
+
 pub mod header;
 pub mod macroblock;
 pub mod macroblock_type;

@@ -1,6 +1,7 @@
 // The constant tables: cosines, zigzag order and default matrices.
 // The compiler rebuilds a constant array at each use: copy it to a local and lend that, or read it at literal indices in another constant.
 #![tactic(auto)]
+
 ghost use Rattle.std.specs.Prelude.{◌≡◌};
 ghost use Rattle.tables.specs.Tables.{cosines, zigzag, default_intra, default_non_intra};
 

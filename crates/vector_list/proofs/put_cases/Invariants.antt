@@ -10,6 +10,3 @@ use Rattle.vector_list.proofs.put_cases.Given as goal
 
 abbrev pub invariant-loop-past : goal.invariant-loop-past
 invariant-loop-past l = PutFrom (lowest (pos (f_of l.f_code))) (past_count (f_of l.f_code)) (past_lines l.f_code (f_of l.f_code)) l.at l.initial.text (of_z w32 l.past) l.end l.text
-
-abbrev pub decreases-loop-past : goal.decreases-loop-past
-decreases-loop-past l = nat_abs (pos 16 *ℤ pos (f_of l.f_code) -ℤ l.past)

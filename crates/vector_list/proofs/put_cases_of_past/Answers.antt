@@ -1,6 +1,6 @@
 -- `put_cases_of_past` meets its contract: the lines of each code so far are written. Assumes nothing.
-use mathlib.Core.Path.{◌≡◌, refl}
-use Prim.Native.Nat.{◌<◌}
+use mathlib.Core.Path.{ap, ◌≡◌, refl}
+use Prim.Native.Nat.{◌+◌, ◌<◌}
 use native.Mathlib.Omega.{arith}
 use lib.IntN.{ℤ, pos, negsuc, ◌+ℤ◌}
 use mir.Syntax.{w32}
@@ -8,15 +8,12 @@ use mir.Val.{to_z, of_z}
 use mir.ValLaws.{to_z-of_z}
 use Rattle.math.proofs.Bound.{within-literal}
 use Rattle.decode_vectors.specs.Vector.{f_of}
-use Rattle.text_writer.proofs.PutLaws.{put, block-fits}
+use Rattle.text_writer.proofs.PutLaws.{put, block-fits, put-block, put_all}
 use Rattle.std.proofs.lemmas.Int.{ints}
 use Rattle.vector_list.specs.Cases.{code_count}
 use Rattle.vector_list.proofs.BlockLaws.{code_lines, code_lines_lem}
 use Rattle.vector_list.proofs.LoopLaws.{Short, PutFrom, from-none, here-is, next-is, goes_on, ends, from_more}
 use Rattle.vector_list.proofs.put_cases_of_past.Goals as goal
-
-short : Short (negsuc 15) code_count
-short = record { small = within-literal tt; few = omega arith }
 
 pub loop-code-init : goal.loop-code-init
 loop-code-init c = from-none refl
@@ -33,10 +30,10 @@ loop-code-preserved c =
     let p = c.loop-code.invariant in
     let code_is : to_z w32 c.loop-code.code-bits ≡ negsuc 15 +ℤ pos p.k = omega (arith, ints) in
     let lines = rw code_is at (put c.put_cases_of_code-end.ensures.value c.put_cases_of_code-end.ensures.text_after) in
-    ?
+    record { k = p.k + 1; here = omega (arith, ints); done = put-block p.done (omega (arith, ints)) lines }
 
 pub returns : goal.returns
 returns c =
-    let p = c.loop-code.invariant in
-    let all = rw (to_z-of_z w32 c.args.past c.ranges.past, ← code_lines_lem c.args.f_code (f_of c.args.f_code) c.args.past) at (ends p short refl ?) in
+    let all = rw (to_z-of_z w32 c.args.past c.ranges.past, ← code_lines_lem c.args.f_code (f_of c.args.f_code) c.args.past) at
+      (put_all c.loop-code.invariant.done (omega (arith, ints))) in
     record { value = all.ends; text_after = all.lies }

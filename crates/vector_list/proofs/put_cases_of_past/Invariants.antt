@@ -10,6 +10,3 @@ use Rattle.vector_list.proofs.put_cases_of_past.Given as goal
 
 abbrev pub invariant-loop-code : goal.invariant-loop-code
 invariant-loop-code l = PutFrom (negsuc 15) code_count (code_lines l.f_code (f_of l.f_code) l.past) l.at l.initial.text (of_z w32 l.code) l.end l.text
-
-abbrev pub decreases-loop-code : goal.decreases-loop-code
-decreases-loop-code l = nat_abs (pos 17 -ℤ l.code)

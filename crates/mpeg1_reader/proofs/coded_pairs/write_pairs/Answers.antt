@@ -1,4 +1,5 @@
 -- `write_pairs` meets its contract: it writes each pair after the previous ones, and finally the count in front of them. Assumes nothing.
+use borrow.Author.Rules.{rules}
 use mathlib.Core.Path.{◌≡◌, refl}
 use Prim.Native.Nat.{◌+◌, ◌-◌, ◌≤◌}
 use native.Mathlib.Omega.{arith}
@@ -49,5 +50,5 @@ loop-refusal-smaller c =
 pub loop-refusal-preserved : goal.loop-refusal-preserved
 loop-refusal-preserved c =
     let pair : next_pair_at c.loop-refusal.first c.loop-refusal.next c.args.bytes.now c.loop-refusal.at ≡ parsed (next_pair (record { run = c.in-Pair.run'; level = c.in-Pair.level })) c.in-Pair.after = pair_read _ c.read_next_pair.ensures c.in-Pair.is in
-    let same : to_z w16 (of_z w16 c.in-Pair.level) ≡ c.in-Pair.level = to_z-of_z w16 c.in-Pair.level (record { sfits = c.in-Pair.known_told-in-Pair-1-own.given.1.0.1 }) in
+    let same : to_z w16 (of_z w16 c.in-Pair.level) ≡ c.in-Pair.level = to_z-of_z w16 c.in-Pair.level (search rules) in
     begun_more _ _ _ _ c.loop-refusal.invariant pair (rw (← same) c.write_pair.ensures)

@@ -1,4 +1,5 @@
 -- `write_component` meets its contract: it writes the code and residual that it reads. Assumes nothing.
+use borrow.Author.Rules.{rules}
 use mathlib.Core.Path.{◌≡◌}
 use mir.Syntax.{w8}
 use mir.Val.{to_z, of_z}
@@ -18,5 +19,5 @@ pub returns-in-Read-clause-written_at : goal.returns-in-Read-clause-written_at
 unfolding vector_code_bytes
 returns-in-Read-clause-written_at c =
     let component : component_at c.args.f_code c.args.bytes.now c.args.at ≡ parsed (record { code = c.in-Read.code; residual = c.in-Read.residual }) c.in-Read.next = motion-read _ c.read_component.ensures c.in-Read.is in
-    let same : to_z w8 (of_z w8 c.in-Read.code) ≡ c.in-Read.code = to_z-of_z w8 c.in-Read.code (record { sfits = c.in-Read.known_told-in-Read-1-own.given.0.1 }) in
+    let same : to_z w8 (of_z w8 c.in-Read.code) ≡ c.in-Read.code = to_z-of_z w8 c.in-Read.code (search rules) in
     all-as component (rw (← same) c.write_vector_code.ensures)

@@ -1,7 +1,6 @@
 -- `header_with` meets its contract: it tests the size first, then the codings. Assumes nothing.
 use mathlib.Core.Path.{◌≡◌, sym, ◌∙◌}
 use borrow.Author.Tests.{not-true, not-false}
-use borrow.Author.Rules.{rules}
 use Rattle.symbols.specs.Guard.{require◌else◌then◌}
 use Rattle.symbols.specs.declared.size.NewSize.TheVariants.{Fits}
 use Rattle.symbols.specs.Size.{size_of}

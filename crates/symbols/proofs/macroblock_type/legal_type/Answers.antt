@@ -1,8 +1,7 @@
 -- `legal_type` meets its contract: bits mark the legal types below 32, and none is higher. Assumes nothing.
 use borrow.Author.Tests.{eq-eqb, ne_eqb}
-use borrow.Author.Rules.{rules}
 use Rattle.symbols.specs.MacroblockType.{legal_type}
-use Rattle.symbols.proofs.Laws.MacroblockType.{types-above, types-of-I, types-of-P, types-of-B}
+use Rattle.symbols.proofs.Laws.MacroblockType.{types-of-I, types-of-P, types-of-B}
 use Rattle.symbols.proofs.macroblock_type.legal_type.Goals as goal
 
 pub returns-then-coding-eq-I_PICTURE : goal.returns-then-coding-eq-I_PICTURE

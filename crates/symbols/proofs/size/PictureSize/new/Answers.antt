@@ -1,11 +1,10 @@
 -- `PictureSize::new` meets its contract: it makes the same tests as `legal_size`, in the same order. Assumes nothing.
 use mathlib.Core.Bool.{true, ◌&&◌}
 use mathlib.Core.Path.{◌≡◌}
-use native.Mathlib.Nat.{mul-le-mul}
 use lib.Dec.{leb}
 use borrow.Author.Tests.{le-leb, lt-leb}
 use Rattle.symbols.specs.Guard.{require◌else◌then◌}
-use Rattle.symbols.specs.Size.{max_width, max_height, legal_size, size_of, size_within}
+use Rattle.symbols.specs.Size.{max_width, legal_size, size_of}
 use Rattle.symbols.proofs.size.PictureSize.new.Goals as goal
 
 pub returns-then-width-lt1 : goal.returns-then-width-lt1

@@ -1,5 +1,4 @@
 -- `PictureSize::within` meets its contract: it makes the test of `size_within`. Assumes nothing.
-use native.Mathlib.Omega.{arith}
 use borrow.Author.Tests.{le-leb, lt-leb}
 use Rattle.symbols.specs.Guard.{require◌else◌then◌}
 use Rattle.symbols.specs.Size.{size_within}
