@@ -1,5 +1,6 @@
 // Lists every legal input of the vector entry for f_code 1 and then 2, each with its vector, as text in a lent buffer.
 #![tactic(auto)]
+
 ghost use Rattle.std.specs.Prelude.{◌≡◌, ◌++◌, ◌+◌, ◌≤◌, length, drop};
 ghost use Rattle.io.specs.Counts.{IsPrefixLen};
 ghost use Rattle.decode_vectors.specs.Vector.{f_of};

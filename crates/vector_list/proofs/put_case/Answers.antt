@@ -1,12 +1,11 @@
 -- `put_case` meets its contract: it writes five fields in order, the last with the vector that the vector entry gives. Assumes nothing.
 use mathlib.Core.Path.{◌≡◌, ap, ◌∙◌}
-use Prim.Native.Nat.{◌+◌, ◌≤◌}
 use native.Mathlib.Omega.{arith}
 use borrow.Author.Rules.{rules}
 use lib.IntN.{ℤ}
 use lib.ListN.{length}
 use mir.Syntax.{w32}
-use mir.Val.{SFits, to_z, of_z}
+use mir.Val.{to_z, of_z}
 use mir.ValLaws.{to_z-of_z}
 use Rattle.decode_vectors.specs.Vector.{vector_value}
 use Rattle.text_writer.specs.Number.{space, line_end, signed_field}
@@ -34,7 +33,7 @@ returns c =
     let past_is = to_z-of_z w32 c.args.case.past (search rules) in
     let code_is = to_z-of_z w32 c.args.case.code (search rules) in
     let vector_is : to_z w32 (of_z w32 c.decode_vector-answer.result.vector) ≡ vector_value c.args.f_code c.args.case.past c.args.case.code c.args.case.residual =
-      to_z-of_z w32 c.decode_vector-answer.result.vector (search rules) ∙ rw (past_is, code_is) at c.decode_vector-answer.ensures.vector in
+    to_z-of_z w32 c.decode_vector-answer.result.vector (search rules) ∙ rw (past_is, code_is) at c.decode_vector-answer.ensures.vector in
     let from-residual = put_then (put c.put_field-residual_end.ensures.value c.put_field-residual_end.ensures.text_after) (put c.put_signed_field.ensures.value c.put_signed_field.ensures.text_after) in
     let from-code = put_then (put c.put_signed_field-code_end.ensures.value c.put_signed_field-code_end.ensures.text_after) from-residual in
     let from_past = put_then (put c.put_signed_field-past_end.ensures.value c.put_signed_field-past_end.ensures.text_after) from-code in

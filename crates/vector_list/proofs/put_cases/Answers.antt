@@ -1,16 +1,16 @@
 -- `put_cases` meets its contract: the lines of each past so far are written. Assumes nothing.
-use mathlib.Core.Path.{◌≡◌, refl, ap}
-use Prim.Native.Nat.{◌<◌, ◌+◌}
+use mathlib.Core.Path.{◌≡◌}
+use Prim.Native.Nat.{◌+◌}
 use native.Mathlib.Omega.{arith}
-use lib.IntN.{ℤ, pos, negsuc, ◌+ℤ◌}
+use lib.IntN.{pos, ◌+ℤ◌}
 use mir.Syntax.{w32}
-use mir.Val.{to_z, of_z}
+use mir.Val.{to_z}
 use Rattle.decode_vectors.specs.Vector.{f_of, lowest}
 use Rattle.decode_vectors.proofs.VectorLaws.{factor-most}
 use Rattle.text_writer.proofs.PutLaws.{put, block-fits, put-block, put_all}
 use Rattle.std.proofs.lemmas.Int.{ints}
 use Rattle.vector_list.proofs.BlockLaws.{past-lines}
-use Rattle.vector_list.proofs.LoopLaws.{PutFrom, from-none}
+use Rattle.vector_list.proofs.LoopLaws.{from-none}
 use Rattle.vector_list.proofs.put_cases.Goals as goal
 
 pub loop-past-init : goal.loop-past-init

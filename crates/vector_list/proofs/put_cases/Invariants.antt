@@ -1,5 +1,5 @@
 -- `put_cases` meets its contract: the lines of each past so far are written. Assumes nothing.
-use lib.IntN.{pos, nat_abs, ◌-ℤ◌, ◌*ℤ◌}
+use lib.IntN.{pos}
 use mir.Syntax.{w32}
 use mir.Val.{of_z}
 use Rattle.decode_vectors.specs.Vector.{f_of, lowest}

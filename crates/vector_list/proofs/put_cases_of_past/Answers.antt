@@ -1,18 +1,16 @@
 -- `put_cases_of_past` meets its contract: the lines of each code so far are written. Assumes nothing.
-use mathlib.Core.Path.{ap, ◌≡◌, refl}
-use Prim.Native.Nat.{◌+◌, ◌<◌}
+use mathlib.Core.Path.{◌≡◌, refl}
+use Prim.Native.Nat.{◌+◌}
 use native.Mathlib.Omega.{arith}
-use lib.IntN.{ℤ, pos, negsuc, ◌+ℤ◌}
+use lib.IntN.{pos, negsuc, ◌+ℤ◌}
 use mir.Syntax.{w32}
-use mir.Val.{to_z, of_z}
+use mir.Val.{to_z}
 use mir.ValLaws.{to_z-of_z}
-use Rattle.math.proofs.Bound.{within-literal}
 use Rattle.decode_vectors.specs.Vector.{f_of}
 use Rattle.text_writer.proofs.PutLaws.{put, block-fits, put-block, put_all}
 use Rattle.std.proofs.lemmas.Int.{ints}
-use Rattle.vector_list.specs.Cases.{code_count}
-use Rattle.vector_list.proofs.BlockLaws.{code_lines, code_lines_lem}
-use Rattle.vector_list.proofs.LoopLaws.{Short, PutFrom, from-none, here-is, next-is, goes_on, ends, from_more}
+use Rattle.vector_list.proofs.BlockLaws.{code_lines_lem}
+use Rattle.vector_list.proofs.LoopLaws.{from-none}
 use Rattle.vector_list.proofs.put_cases_of_past.Goals as goal
 
 pub loop-code-init : goal.loop-code-init
@@ -35,5 +33,5 @@ loop-code-preserved c =
 pub returns : goal.returns
 returns c =
     let all = rw (to_z-of_z w32 c.args.past c.ranges.past, ← code_lines_lem c.args.f_code (f_of c.args.f_code) c.args.past) at
-      (put_all c.loop-code.invariant.done (omega (arith, ints))) in
+    (put_all c.loop-code.invariant.done (omega (arith, ints))) in
     record { value = all.ends; text_after = all.lies }

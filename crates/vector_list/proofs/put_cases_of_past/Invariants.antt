@@ -1,5 +1,5 @@
 -- `put_cases_of_past` meets its contract: the lines of each code so far are written. Assumes nothing.
-use lib.IntN.{pos, negsuc, nat_abs, ◌-ℤ◌}
+use lib.IntN.{negsuc}
 use mir.Syntax.{w32}
 use mir.Val.{of_z}
 use Rattle.decode_vectors.specs.Vector.{f_of}

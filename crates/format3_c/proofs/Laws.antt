@@ -1,3 +1,0 @@
--- What the walks through the exports share.
-pub mod Reconstruct
-pub mod Walk
