@@ -11,6 +11,7 @@ use lib.IntN.{ℤ, pos}
 use lib.ListN.{length}
 use mir.Syntax.{w8}
 use prog.Model.{AllFit}
+use Rattle.decode_coefficients.specs.Dc.{dc_pasts_after}
 use Rattle.math.proofs.Test.{clash}
 use Rattle.math.specs.Joined.{joined}
 use Rattle.math.specs.Limit.{eq_z}
@@ -20,7 +21,7 @@ use Rattle.symbols.specs.declared.vector_codes.VectorCodes.{VectorCodes}
 use Rattle.symbols.specs.MacroblockType.{has_scale, has_forward, has_backward, has_pattern, is_intra, legal_type}
 use Rattle.symbols.specs.Pattern.{coded_pattern}
 use Rattle.symbols.specs.declared.pair.Pair.{Pair}
-use Rattle.symbols.specs.Pair.{first_position}
+use Rattle.symbols.specs.Pair.{after_pair, first_position}
 use Rattle.symbols.specs.Block.{Block, uncoded, coded}
 use Rattle.symbols.specs.declared.macroblock.MacroblockSymbols.{MacroblockSymbols}
 use Rattle.symbols.specs.VectorCodes.{no_codes}
@@ -108,7 +109,7 @@ unfolding joined pair_bytes
 pairs-bytes next [] legal = none
 pairs-bytes next (pair ∷ pairs) legal =
     let near : pair.run < 256 = omega (arith, leb-true (next + pair.run) 63 legal.0.position) in
-    more near (both_bytes (word_bytes _) (pairs-bytes _ pairs legal.1))
+    more near (both_bytes (word_bytes _) (pairs-bytes (after_pair next pair) pairs legal.1))
 
 count_small : (intra : Bool) (count : ℕ) → legal_count intra count ≡ true → count < 256
 unfolding legal_count
@@ -128,7 +129,7 @@ block-bytes intra past (coded difference pairs) legal =
 blocks-bytes : (intra : Bool) (pasts : DcPasts) (block : ℕ) (blocks : List Block) → LegalBlocks intra pasts block blocks → Bytes (blocks_bytes intra blocks)
 unfolding joined
 blocks-bytes intra pasts block [] legal = none
-blocks-bytes intra pasts block (b ∷ blocks) legal = both_bytes (block-bytes intra _ b legal.0) (blocks-bytes intra _ _ blocks legal.1)
+blocks-bytes intra pasts block (b ∷ blocks) legal = both_bytes (block-bytes intra _ b legal.0) (blocks-bytes intra (dc_pasts_after intra pasts block b) (block + 1) blocks legal.1)
 
 -- ---- the whole
 pub macroblock-bytes : (c : MacroblockContext) (m : Macroblock) → c.forward_f ≤ 256 → c.backward_f ≤ 256 → LegalMacroblock c m → AllFit w8 (macroblock_body m)

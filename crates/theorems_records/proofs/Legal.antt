@@ -2,10 +2,12 @@
 use mathlib.Core.Bool.{Bool, true, false}
 use mathlib.Core.List.{List, [], ◌∷◌}
 use mathlib.Core.Path.{◌≡◌}
-use Prim.Native.Nat.{ℕ}
+use Prim.Native.Nat.{◌+◌, ℕ}
 use lib.IntN.{ℤ, pos}
 use mir.Syntax.{w8, w16}
 use mir.Val.{SFits}
+use Rattle.decode_coefficients.specs.Dc.{dc_pasts_after}
+use Rattle.symbols.specs.Pair.{after_pair}
 use Rattle.math.proofs.Bound.{within-fits}
 use Rattle.symbols.specs.declared.vector_codes.VectorCodes.{VectorCodes}
 use Rattle.symbols.specs.MacroblockType.{has_scale, has_forward, has_backward, is_intra}
@@ -52,7 +54,7 @@ symbols-fit {m = m} legal = record {
 
 pub pairs-fit : (next : ℕ) (pairs : List Pair) → LegalPairs next pairs → PairsFitFields pairs
 pairs-fit next [] legal = tt
-pairs-fit next (pair ∷ pairs) legal = (level-fits pair.level legal.0.level, pairs-fit _ pairs legal.1)
+pairs-fit next (pair ∷ pairs) legal = (level-fits pair.level legal.0.level, pairs-fit (after_pair next pair) pairs legal.1)
 
 pub block-fits : (intra : Bool) (past : ℤ) (b : Block) → LegalBlock intra past b → BlockFitsFields intra b
 block-fits intra past uncoded legal = tt
@@ -60,7 +62,7 @@ block-fits intra past (coded difference pairs) legal = (given-more intra (pos 0)
 
 blocks-fit : (intra : Bool) (pasts : DcPasts) (block : ℕ) (blocks : List Block) → LegalBlocks intra pasts block blocks → BlocksFitFields intra blocks
 blocks-fit intra pasts block [] legal = tt
-blocks-fit intra pasts block (b ∷ blocks) legal = (block-fits intra _ b legal.0, blocks-fit intra _ _ blocks legal.1)
+blocks-fit intra pasts block (b ∷ blocks) legal = (block-fits intra _ b legal.0, blocks-fit intra (dc_pasts_after intra pasts block b) (block + 1) blocks legal.1)
 
 pub macroblock-fits : {c : MacroblockContext} {m : Macroblock} → LegalMacroblock c m → MacroblockFitsFields m
 macroblock-fits {m = m} legal = record { symbols = symbols-fit legal.symbols; blocks = blocks-fit (is_intra m.symbols.macroblock_type) _ 0 m.blocks legal.blocks }

@@ -14,8 +14,7 @@ use Rattle.vector_list.proofs.LoopLaws.{from-none}
 use Rattle.vector_list.proofs.put_cases.Goals as goal
 
 pub loop-past-init : goal.loop-past-init
-loop-past-init c =
-    from-none (omega (arith, ints, factor-most))
+loop-past-init c = from-none (omega (arith, ints, factor-most))
 
 pub put_cases_of_past-end-requires-clause-past_in_bounds : goal.put_cases_of_past-end-requires-clause-past_in_bounds
 put_cases_of_past-end-requires-clause-past_in_bounds c =

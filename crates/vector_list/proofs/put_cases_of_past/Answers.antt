@@ -32,6 +32,5 @@ loop-code-preserved c =
 
 pub returns : goal.returns
 returns c =
-    let all = rw (to_z-of_z w32 c.args.past c.ranges.past, ← code_lines_lem c.args.f_code (f_of c.args.f_code) c.args.past) at
-    (put_all c.loop-code.invariant.done (omega (arith, ints))) in
+    let all = rw (to_z-of_z w32 c.args.past c.ranges.past, ← code_lines_lem c.args.f_code (f_of c.args.f_code) c.args.past) at (put_all c.loop-code.invariant.done (omega (arith, ints))) in
     record { value = all.ends; text_after = all.lies }
