@@ -1,5 +1,5 @@
 -- How the reader tells the transform which rows of a block to work, so that nothing scans the block: marks, a number of sixty-four bits.
-use Rattle.std.specs.Prelude.{Bool, not, cond, List, ◌≡◌, ℕ, ◌+◌, ◌*◌, ◌/◌, ◌%◌, ◌^◌, ◌<◌, eqb, ltb, ℤ, pos, length, get_or}
+use Rattle.std.specs.Prelude.{Bool, not, cond, List, ◌≡◌, ℕ, ◌*◌, ◌/◌, ◌%◌, ◌^◌, ◌<◌, eqb, ltb, ℤ, pos, length, get_or}
 use Rattle.std.specs.Int.Bits.{bit_or}
 use Rattle.math.specs.Bound.{at}
 use Rattle.math.specs.Limit.{eq_z}

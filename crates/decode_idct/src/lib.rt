@@ -1,5 +1,6 @@
 // The exact inverse transform: rows, then columns, with no rounding in between. Rows of zeros are skipped, and the others counted.
 #![tactic(auto)]
+
 mod dc;
 pub mod line;
 pub mod pass;

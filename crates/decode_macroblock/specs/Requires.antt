@@ -1,5 +1,5 @@
 -- What the code of this crate relies on; no rule of document 01.
-use Rattle.std.specs.Prelude.{List, ℕ, ◌+◌, ◌-◌, ◌*◌, ◌^◌, ◌≤◌, ◌<◌, ◌≡◌, true, pos, ℤ, length, ◌≤ℤ◌}
+use Rattle.std.specs.Prelude.{List, ℕ, ◌+◌, ◌-◌, ◌*◌, ◌^◌, ◌≤◌, ◌<◌, ◌≡◌, true, pos, length, ◌≤ℤ◌}
 use Rattle.math.specs.Bound.{Within}
 use Rattle.symbols.specs.declared.size.PictureSize.{PictureSize}
 use Rattle.symbols.specs.Size.{max_macroblocks, macroblock_count, picture_bytes}

@@ -1,5 +1,6 @@
 // A macroblock of a picture: the locations of its blocks, their prediction, and writing all six into the lent output.
 #![tactic(auto)]
+
 pub mod block;
 pub mod compensation;
 pub mod fit;

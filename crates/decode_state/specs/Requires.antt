@@ -1,5 +1,5 @@
 -- What the code of this crate relies on: symbols that were tested, and vectors in their range; no rule of document 01.
-use Rattle.std.specs.Prelude.{ℕ, ◌≤◌, ◌<◌, ◌-◌}
+use Rattle.std.specs.Prelude.{ℕ, ◌≤◌, ◌<◌}
 use Rattle.math.specs.Bound.{Within}
 use Rattle.symbols.specs.Size.{max_macroblocks}
 use Rattle.symbols.specs.declared.header.Header.{Header}

@@ -1,3 +1,4 @@
 // Motion vectors decoded from their codes.
 #![tactic(auto)]
+
 pub mod vector;

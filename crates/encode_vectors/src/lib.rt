@@ -1,5 +1,6 @@
 // Motion vectors encoded: the code and the residual with which decoding takes the past to a wanted vector.
 #![tactic(auto)]
+
 ghost use Rattle.std.specs.Prelude.{◌≡◌, ◌-◌, ◌^◌, ◌≤◌, nat_abs};
 ghost use Rattle.math.specs.Bound.{Within};
 ghost use Rattle.decode_vectors.specs.Vector.{max_f, max_past};

@@ -2,6 +2,7 @@
 // equation for the answer, and one for each thing that is lent by `&mut` (borrowed), as the call leaves it; what is lent by `&` stays
 // as it is. The number in an answer is 0, or that of the refusal. Each entry calls the function of another crate that does the work.
 #![tactic(auto)]
+
 ghost use Rattle.std.specs.Prelude.{◌≡◌, true, false, ◌++◌, ◌+◌, length, drop};
 ghost use Rattle.io.specs.Counts.{IsPrefixLen};
 ghost use Rattle.symbols.specs.Size.{max_macroblocks_small};

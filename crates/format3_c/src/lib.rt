@@ -2,6 +2,7 @@
 // answer into the struct, the array or the number that is lent for it. A slice is a pointer and a length. include/format3.h says the
 // same in words.
 #![tactic(auto)]
+
 ghost use Rattle.std.specs.Prelude.{◌≡◌, true, false};
 ghost use Rattle.symbols.specs.Size.{max_macroblocks_small};
 ghost use Rattle.decode_coefficients.specs.Answer.{coefficient_number, coefficient_value};

@@ -9,7 +9,6 @@ use Rattle.symbols.specs.declared.header.HeaderAnswer.TheVariants as Header
 use Rattle.format3_records.specs.Record.{record_of}
 use Rattle.format3_records.specs.Turn.{in_turn}
 use Rattle.format3_records.specs.declared.record.Record.{Record}
-use Rattle.format3_records.specs.declared.record.Record.TheVariants as Record
 use Rattle.format3_records.specs.declared.turn.Turn.TheVariants as Turn
 use Rattle.format3_records.specs.declared.verdict.Verdict.{Verdict}
 use Rattle.format3_records.specs.declared.verdict.Verdict.TheVariants.{Passed, Refused}
@@ -17,7 +16,6 @@ use Rattle.format3_header.specs.Header.{header_of}
 use Rattle.format3_header.specs.Lengths.{caller_verdict}
 use Rattle.format3_header.specs.declared.file_start.FileHeader.{FileHeader}
 use Rattle.format3_header.specs.declared.file_start.FileStart.{FileStart}
-use Rattle.format3_header.specs.declared.file_start.FileStart.TheVariants as FileStart
 
 -- "The first byte is the version, 3"
 abbrev pub version : ℕ

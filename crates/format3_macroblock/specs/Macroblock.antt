@@ -1,7 +1,6 @@
 -- A macroblock record (document 01, kind 4, and refusals 6, 10 and 12 to 17): how its symbols are parsed.
 use Rattle.std.specs.Prelude.{Bool, ◌&&◌, List, [], ◌∷◌, ℕ, leb}
 use Rattle.refusals.specs.declared.Refusal.{Refusal}
-use Rattle.refusals.specs.declared.Refusal.TheVariants as Refusal
 use Rattle.symbols.specs.Guard.{require◌else◌then◌}
 use Rattle.symbols.specs.Parsed.{Parser, parsed, refused, ◌then◌, give, refuse, ReadResult, value, stopped}
 use Rattle.symbols.specs.MacroblockType.{is_intra}

@@ -1,7 +1,6 @@
 -- The codes of a motion vector (document 01, kind 4, "Vectors and prediction", and refusals 6 and 14).
 use Rattle.std.specs.Prelude.{ℕ}
 use Rattle.refusals.specs.declared.Refusal.{Refusal}
-use Rattle.refusals.specs.declared.Refusal.TheVariants as Refusal
 use Rattle.symbols.specs.Guard.{require◌else◌then◌}
 use Rattle.symbols.specs.Parsed.{Parser, ◌then◌, give, refuse, ReadResult, value, stopped}
 use Rattle.symbols.specs.declared.vector_codes.VectorCode.{VectorCode}

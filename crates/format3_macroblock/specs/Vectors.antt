@@ -1,7 +1,6 @@
 -- The codes of a macroblock's vectors (document 01, kind 4: "forward codes ..; backward codes").
 use Rattle.std.specs.Prelude.{Bool, ℕ}
 use Rattle.refusals.specs.declared.Refusal.{Refusal}
-use Rattle.refusals.specs.declared.Refusal.TheVariants as Refusal
 use Rattle.symbols.specs.Parsed.{Parser, ◌then◌, give, optional◌default◌read◌, ReadResult, value, stopped}
 use Rattle.symbols.specs.declared.vector_codes.VectorCodes.{VectorCodes}
 use Rattle.symbols.specs.MacroblockType.{has_forward, has_backward}

@@ -1,5 +1,6 @@
 // Slice and macroblock records of Format 3 (kinds 3 and 4), read into symbols; levels are scaled as they are read.
 #![tactic(auto)]
+
 pub mod blocks;
 pub mod difference;
 pub mod levels;

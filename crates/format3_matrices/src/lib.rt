@@ -1,6 +1,7 @@
 // The quantizer matrices of a picture, and the record that loads one (kind 2).
 // A weight stands at its coefficient's raster index, 8 × row + column.
 #![tactic(auto)]
+
 ghost use Rattle.std.specs.Prelude.{◌≡◌, ◌<◌, length};
 ghost use Rattle.format3_matrices.specs.Matrix.{positive, legal_first, loaded_already, matrix_verdict, raster_order, loaded_with, now_loaded};
 

@@ -20,7 +20,6 @@ use Rattle.decode_macroblock.specs.Owner.{owner_of}
 use Rattle.decode_macroblock.proofs.OwnerLaws.{owner-below}
 use Rattle.format3_header.specs.FileStart.{file_start_of}
 use Rattle.format3_header.specs.declared.file_start.FileStart.{FileStart}
-use Rattle.format3_header.specs.declared.file_start.FileStart.TheVariants as FileStart
 use Rattle.format3_picture.specs.Alone.{Alike}
 use Rattle.format3_picture.specs.Picture.{Picture, answer_of, symbols_of, picture_within}
 use Rattle.format3_picture.specs.Reconstruction.{macroblocks_of}

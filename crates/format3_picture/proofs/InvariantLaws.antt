@@ -37,9 +37,7 @@ use Rattle.decode_state.proofs.PlanLaws.{pasts-within, motion-within, no-motion-
 use Rattle.format3_records.specs.Record.{matrix_kind, slice_kind, macroblock_kind, record_of}
 use Rattle.format3_records.specs.Turn.{in_turn, turn_after}
 use Rattle.format3_records.specs.declared.record.Record.{Record}
-use Rattle.format3_records.specs.declared.record.Record.TheVariants as Record
 use Rattle.format3_records.specs.declared.turn.Turn.{Turn}
-use Rattle.format3_records.specs.declared.turn.Turn.TheVariants as Turn
 use Rattle.format3_records.specs.declared.verdict.Verdict.TheVariants.{Passed}
 use Rattle.format3_records.proofs.Laws.Record.{Inside, inside}
 use Rattle.format3_macroblock.specs.Blocks.{legal_dc}

@@ -17,11 +17,9 @@ use Rattle.symbols.specs.declared.size.PictureSize.{PictureSize}
 use Rattle.symbols.specs.declared.header.Header.{Header}
 use Rattle.symbols.proofs.Guard.{require-all}
 use Rattle.format3_records.specs.declared.verdict.Verdict.{Verdict}
-use Rattle.format3_records.specs.declared.verdict.Verdict.TheVariants as Verdict
 use Rattle.format3_header.specs.Lengths.{reference_length, lent_lengths, caller_verdict}
 use Rattle.format3_header.specs.FileStart.{first_header, file_start_of}
 use Rattle.format3_header.specs.declared.file_start.FileStart.{FileStart}
-use Rattle.format3_header.specs.declared.file_start.FileStart.TheVariants as FileStart
 use Rattle.format3_header.proofs.Laws.FileStart.{begun}
 use Rattle.format3_picture.specs.Requires.{LentLengths}
 

@@ -104,8 +104,8 @@ made-next s q (slice-starts turn header legal begins) v g stays = rw begins
 made-next s q (macroblocks-made begun m legal) v g stays =
     let after : PictureState = (made_record q s m).state in
     let P : Matrices → Type 0 = λ matrices.
-      macroblocks_made_from s.header matrices s.next s.slice (m ∷ g.further) ++ joined (macroblocks_of_slice s.header matrices) g.slices
-      ≡ (made_record q s m).macroblocks ++ (macroblocks_made_from after.header matrices after.next after.slice g.further ++ joined (macroblocks_of_slice after.header matrices) g.slices) in
+    macroblocks_made_from s.header matrices s.next s.slice (m ∷ g.further) ++ joined (macroblocks_of_slice s.header matrices) g.slices
+    ≡ (made_record q s m).macroblocks ++ (macroblocks_made_from after.header matrices after.next after.slice g.further ++ joined (macroblocks_of_slice after.header matrices) g.slices) in
     subst P (sym (stays (none_after q s m))) (rw append_assoc)
 
 -- ---- the whole

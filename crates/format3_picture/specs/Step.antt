@@ -10,7 +10,6 @@ use Rattle.decode_state.specs.State.{reset_slice}
 use Rattle.format3_records.specs.Record.{record_of, matrix_kind, slice_kind}
 use Rattle.format3_records.specs.Turn.{in_turn, turn_after}
 use Rattle.format3_records.specs.declared.record.Record.{Record}
-use Rattle.format3_records.specs.declared.record.Record.TheVariants as Record
 use Rattle.format3_records.specs.declared.verdict.Verdict.{Verdict}
 use Rattle.format3_records.specs.declared.verdict.Verdict.TheVariants.{Passed, Refused}
 use Rattle.format3_matrices.specs.Matrix.{matrix_verdict, loaded_with, now_loaded}

@@ -7,7 +7,6 @@ use Rattle.symbols.specs.Slice.{Slice}
 use Rattle.decode_coefficients.specs.declared.matrices.Matrices.{Matrices}
 use Rattle.format3_records.specs.Record.{record_of, matrix_kind, slice_kind}
 use Rattle.format3_records.specs.declared.record.Record.{Record}
-use Rattle.format3_records.specs.declared.record.Record.TheVariants as Record
 use Rattle.format3_macroblock.specs.Slice.{slice_of}
 use Rattle.format3_macroblock.specs.Macroblock.{macroblock_of}
 use Rattle.format3_picture.specs.declared.state.PictureState.{PictureState}

@@ -2,6 +2,7 @@
 // The count of a slice's bits may not fit a usize, so a position is a byte and a bit within it, and only the bits of the last four bytes
 // are ever counted.
 #![tactic(auto)]
+
 ghost use Rattle.std.specs.Prelude.{◌≡◌, ◌+◌, ◌*◌, ◌/◌, ◌%◌, ◌^◌, ◌-◌, ◌<◌, ◌≤◌, length, get_or, drop};
 ghost use Rattle.mpeg1_bits.specs.Bits.{bits, all_zeros, bits_from, skip, window_of, bit_offset, bit_limit};
 ghost use Rattle.mpeg1_bits.specs.Requires.{InBytes};

@@ -5,17 +5,12 @@ use Rattle.symbols.specs.declared.vector_codes.VectorCode.{VectorCode}
 use Rattle.mpeg1_bits.specs.Bits.{bit_offset, bit_limit}
 use Rattle.mpeg1_bits.specs.declared.BitPosition.{BitPosition}
 use Rattle.mpeg1_tables.specs.declared.code.Code.{Code}
-use Rattle.mpeg1_tables.specs.declared.code.Code.TheVariants as Code
 use Rattle.mpeg1_slice.specs.declared.element.SyntaxElement.{SyntaxElement}
 use Rattle.mpeg1_slice.specs.declared.element.SyntaxElement.TheVariants.{Value, Refused}
 use Rattle.mpeg1_slice.specs.declared.extra.ExtraAnswer.{ExtraAnswer}
-use Rattle.mpeg1_slice.specs.declared.extra.ExtraAnswer.TheVariants as ExtraAnswer
 use Rattle.mpeg1_slice.specs.declared.vectors.ComponentAnswer.{ComponentAnswer}
-use Rattle.mpeg1_slice.specs.declared.vectors.ComponentAnswer.TheVariants as ComponentAnswer
 use Rattle.mpeg1_slice.specs.declared.difference.DifferenceAnswer.{DifferenceAnswer}
-use Rattle.mpeg1_slice.specs.declared.difference.DifferenceAnswer.TheVariants as DifferenceAnswer
 use Rattle.mpeg1_slice.specs.declared.coefficient.NextPair.{NextPair}
-use Rattle.mpeg1_slice.specs.declared.coefficient.NextPair.TheVariants as NextPair
 use Rattle.mpeg1_slice.specs.Read.{stop, Read}
 use Rattle.mpeg1_slice.specs.Blocks.{PairOrEnd, next_pair, block_end}
 

@@ -14,7 +14,6 @@ use Rattle.mpeg1_tables.specs.AnnexB.{luminance_sizes, chrominance_sizes}
 use Rattle.mpeg1_vlc.specs.Difference.{dc_difference_of}
 use Rattle.mpeg1_vlc.specs.Coefficient.{words_of, coefficient_code_of}
 use Rattle.mpeg1_vlc.specs.declared.coefficient.Coefficient.{Coefficient}
-use Rattle.mpeg1_vlc.specs.declared.coefficient.Coefficient.TheVariants as Coefficient
 use Rattle.mpeg1_slice.specs.Read.{Reader, refuse_here, word_at, field_at}
 
 -- the table for dct_dc_size: blocks 0 to 3 are luminance, 4 and 5 chrominance

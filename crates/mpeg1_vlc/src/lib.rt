@@ -1,5 +1,6 @@
 // Readers of variable-length codes: macroblock and motion codes, DC sizes, coefficients, start codes and numbers.
 #![tactic(auto)]
+
 pub mod coefficient;
 pub mod difference;
 pub mod lookup;

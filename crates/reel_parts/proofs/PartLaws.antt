@@ -8,7 +8,6 @@ use borrow.Author.Tests.{leb-true, le-leb, lt-leb}
 use Rattle.symbols.proofs.Guard.{require-all}
 use Rattle.reel_parts.specs.Part.{part_at, file_length_at, file, cut, parts_from}
 use Rattle.reel_parts.specs.declared.part.Part.{Part}
-use Rattle.reel_parts.specs.declared.part.Part.TheVariants as Part
 
 -- ---- a file found in the reel lies within it, after its length field
 pub record Inside (reel : List ℕ) (at : ℕ) (p : Part) : Type 0 where

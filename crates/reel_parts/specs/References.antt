@@ -2,7 +2,6 @@
 use Rattle.std.specs.Prelude.{cond, List, [], ℕ, eqb}
 use Rattle.symbols.specs.Header.{type_p, type_b}
 use Rattle.format3_header.specs.declared.file_start.FileStart.{FileStart}
-use Rattle.format3_header.specs.declared.file_start.FileStart.TheVariants as FileStart
 
 -- "A P uses the last accepted I or P, a B the last two, the newer or only one as backward; missing ones are lent empty"
 abbrev pub forward_for : FileStart → List ℕ → List ℕ → List ℕ

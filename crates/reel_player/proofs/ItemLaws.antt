@@ -12,7 +12,6 @@ use Rattle.refusals.specs.Refusal.{accepted}
 use Rattle.symbols.specs.Header.{type_b}
 use Rattle.format3_header.specs.FileStart.{first_header}
 use Rattle.format3_header.specs.declared.file_start.FileStart.{FileStart}
-use Rattle.format3_header.specs.declared.file_start.FileStart.TheVariants as FileStart
 use Rattle.format3_writer.specs.Written.{written}
 use Rattle.format3_writer.proofs.Laws.Written.{written-length, written_back}
 use Rattle.format3_picture.specs.Picture.{Picture, answer_of}
@@ -20,14 +19,12 @@ use Rattle.format3_picture.specs.declared.reader.Answer.{Answer}
 use Rattle.format3_picture.specs.Alone.{Alike}
 use Rattle.reel_parts.specs.Part.{part_at, parts_from}
 use Rattle.reel_parts.specs.declared.part.Part.{Part}
-use Rattle.reel_parts.specs.declared.part.Part.TheVariants as Part
 use Rattle.reel_parts.specs.declared.references.Kept.{Kept}
 use Rattle.reel_parts.proofs.PartLaws.{inside, no-parts, one-file, one-cut}
 use Rattle.reel_player.specs.Items.{Item, picture, cut, Carried, lent_bytes, picture_into, picture_from, bytes_of, carried_from, carried_after, items_from}
 use Rattle.reel_player.specs.Requires.{KeptWithin}
 use Rattle.reel_player.specs.Next.{AfterNext, held_in, kept_of, played_as, output_after, next_of}
 use Rattle.reel_player.specs.declared.play.Next.{Next}
-use Rattle.reel_player.specs.declared.play.Next.TheVariants as Next
 use Rattle.reel_player.specs.declared.play.Played.{Played}
 use Rattle.reel_player.specs.declared.play.ReelPosition.{ReelPosition}
 use Rattle.reel_player.proofs.PlayLaws.{lent-within, lent-part, made_alike}

@@ -13,7 +13,6 @@ use Rattle.symbols.specs.Size.{max_macroblocks, macroblock_count}
 use Rattle.decode_idct.specs.Transform.{inverse_transform}
 use Rattle.format3_header.specs.FileStart.{first_header}
 use Rattle.format3_header.specs.declared.file_start.FileStart.{FileStart}
-use Rattle.format3_header.specs.declared.file_start.FileStart.TheVariants as FileStart
 use Rattle.format3_header.proofs.Laws.FileStart.{begun}
 use Rattle.format3_writer.specs.Written.{written}
 use Rattle.format3_writer.proofs.Laws.Written.{written_same}

@@ -6,7 +6,6 @@ use Rattle.symbols.specs.Size.{macroblock_count, picture_bytes}
 use Rattle.decode_idct.specs.Transform.{inverse_transform}
 use Rattle.format3_header.specs.FileStart.{first_header}
 use Rattle.format3_header.specs.declared.file_start.FileStart.{FileStart}
-use Rattle.format3_header.specs.declared.file_start.FileStart.TheVariants as FileStart
 use Rattle.format3_picture.specs.Picture.{Picture, answer_of, picture_of}
 use Rattle.reel_parts.specs.Part.{ReelPart, parts_of}
 use Rattle.reel_parts.specs.Part as Part

@@ -6,11 +6,9 @@ use Rattle.format3_writer.specs.Written.{written}
 use Rattle.format3_picture.specs.Picture.{Picture, answer_of}
 use Rattle.reel_parts.specs.Part.{part_at}
 use Rattle.reel_parts.specs.declared.part.Part.{Part}
-use Rattle.reel_parts.specs.declared.part.Part.TheVariants as Part
 use Rattle.reel_parts.specs.declared.references.Kept.{Kept}
 use Rattle.reel_player.specs.Items.{Carried, lent_bytes, picture_into, picture_from, bytes_of, carried_after}
 use Rattle.reel_player.specs.declared.play.Next.{Next}
-use Rattle.reel_player.specs.declared.play.Next.TheVariants as Next
 use Rattle.reel_player.specs.declared.play.PlayedFile.{PlayedFile}
 use Rattle.reel_player.specs.declared.play.ReelPosition.{ReelPosition}
 

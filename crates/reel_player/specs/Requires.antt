@@ -4,7 +4,6 @@ use Rattle.symbols.specs.Requires.{SizeWithin}
 use Rattle.symbols.specs.Size.{max_macroblocks}
 use Rattle.symbols.specs.declared.header.Header.{Header}
 use Rattle.format3_header.specs.declared.file_start.FileStart.{FileStart}
-use Rattle.format3_header.specs.declared.file_start.FileStart.TheVariants as FileStart
 use Rattle.reel_parts.specs.declared.references.Kept.{Kept}
 
 -- an accepted header gives a size within the limits

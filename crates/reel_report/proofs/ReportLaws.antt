@@ -9,7 +9,6 @@ use Rattle.format3_writer.specs.Written.{written}
 use Rattle.reel_player.specs.Items.{picture, cut}
 use Rattle.reel_player.specs.Next.{AfterNext, reel_start, next_of}
 use Rattle.reel_player.specs.declared.play.Next.{Next}
-use Rattle.reel_player.specs.declared.play.Next.TheVariants as Next
 use Rattle.reel_player.specs.declared.play.Played.{Played}
 use Rattle.reel_player.specs.declared.play.ReelPosition.{ReelPosition}
 use Rattle.reel_player.proofs.ItemLaws.{Buffers, items_left, none_left, next-cut, next-picture}

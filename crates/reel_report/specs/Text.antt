@@ -3,7 +3,6 @@ use Rattle.std.specs.Prelude.{cond, List, [], ◌∷◌, ◌++◌, ℕ, ◌+◌,
 use Rattle.refusals.specs.Refusal.{accepted}
 use Rattle.symbols.specs.Header.{type_i, type_p}
 use Rattle.format3_header.specs.declared.file_start.FileStart.{FileStart}
-use Rattle.format3_header.specs.declared.file_start.FileStart.TheVariants as FileStart
 use Rattle.format3_picture.specs.declared.reader.Answer.{Answer}
 use Rattle.reel_player.specs.Items.{Item, picture, cut}
 use Rattle.text_writer.specs.Number.{space, line_end, field, field_bytes}

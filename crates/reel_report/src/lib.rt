@@ -1,5 +1,6 @@
 // Writes the whole report of a reel into a lent buffer: one line per picture, up to where the reel is cut, or `long`.
 #![tactic(auto)]
+
 pub mod line;
 pub mod planes;
 

@@ -1,5 +1,6 @@
 // Writes text into a lent buffer, field by field.
 #![tactic(auto)]
+
 ghost use Rattle.std.specs.Prelude.{◌≡◌, ◌+◌, ◌≤◌, nat_abs, length};
 ghost use Rattle.format3_writer.specs.Written.{written};
 ghost use Rattle.text_writer.specs.Number.{field, signed_field};

@@ -20,7 +20,6 @@ use Rattle.decode_macroblock.specs.declared.fit.Fit.TheVariants.{Fits, Forward, 
 use Rattle.format3_records.specs.declared.verdict.Verdict.{Verdict}
 use Rattle.format3_records.specs.declared.verdict.Verdict.TheVariants.{Passed, Refused}
 use Rattle.format3_header.specs.declared.file_start.FileStart.{FileStart}
-use Rattle.format3_header.specs.declared.file_start.FileStart.TheVariants as FileStart
 use Rattle.format3_picture.specs.MacroblockRecord.{refused_record, record_fit, plan_applied_refusing}
 use Rattle.format3_picture.specs.Picture.{Picture, is_complete, Answered, refused_at, end_answer, answered_by, followed, records_from, records_from_refusing, symbols_in, with_output, picture_within, picture_refusing}
 use Rattle.format3_picture.specs.Reconstruction.{plan_for, reconstruction}

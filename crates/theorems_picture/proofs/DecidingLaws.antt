@@ -25,9 +25,7 @@ use Rattle.decode_macroblock.specs.declared.fit.Fit.TheVariants.{Fits, Forward, 
 use Rattle.format3_records.specs.Record.{matrix_kind, slice_kind, macroblock_kind, record_of}
 use Rattle.format3_records.specs.Turn.{in_turn}
 use Rattle.format3_records.specs.declared.record.Record.{Record}
-use Rattle.format3_records.specs.declared.record.Record.TheVariants as Record
 use Rattle.format3_records.specs.declared.turn.Turn.{Turn}
-use Rattle.format3_records.specs.declared.turn.Turn.TheVariants as Turn
 use Rattle.format3_records.specs.declared.verdict.Verdict.{Verdict}
 use Rattle.format3_records.specs.declared.verdict.Verdict.TheVariants.{Passed, Refused}
 use Rattle.format3_matrices.specs.Matrix.{matrix_verdict}

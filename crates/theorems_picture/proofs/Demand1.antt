@@ -23,7 +23,6 @@ use Rattle.decode_macroblock.specs.Macroblock.{MadeMacroblock, with_macroblocks,
 use Rattle.decode_macroblock.specs.Owner.{owner_of}
 use Rattle.format3_records.specs.declared.verdict.Verdict.TheVariants.{Refused}
 use Rattle.format3_header.specs.declared.file_start.FileStart.{FileStart}
-use Rattle.format3_header.specs.declared.file_start.FileStart.TheVariants as FileStart
 use Rattle.format3_picture.specs.Picture.{Picture, is_complete, with_output, symbols_of, picture_within}
 use Rattle.format3_picture.specs.Reconstruction.{macroblocks_of}
 use Rattle.format3_picture.proofs.PictureLaws.{no_header, header-read-is, header-read-byte, header-read-long}

@@ -21,7 +21,6 @@ use Rattle.decode_macroblock.specs.Owner.{owner_of}
 use Rattle.decode_macroblock.specs.Rows.{rows_of}
 use Rattle.decode_macroblock.proofs.OwnerLaws.{owner-below}
 use Rattle.format3_header.specs.declared.file_start.FileStart.{FileStart}
-use Rattle.format3_header.specs.declared.file_start.FileStart.TheVariants as FileStart
 use Rattle.format3_picture.specs.Picture.{Picture, is_complete, end_answer, refused_at, symbols_of, picture_within, answer_of}
 use Rattle.format3_picture.specs.Reconstruction.{macroblocks_of, reconstruction}
 use Rattle.format3_picture.specs.declared.reader.Answer.{Answer}

@@ -22,14 +22,12 @@ use Rattle.symbols.specs.declared.header.HeaderAnswer.TheVariants as Answer
 use Rattle.symbols.proofs.Guard.{require-cases, require-all}
 use Rattle.format3_records.specs.Record.{record_of}
 use Rattle.format3_records.specs.declared.record.Record.{Record}
-use Rattle.format3_records.specs.declared.record.Record.TheVariants as Record
 use Rattle.format3_records.specs.declared.verdict.Verdict.{Verdict}
 use Rattle.format3_records.specs.declared.verdict.Verdict.TheVariants.{Passed, Refused}
 use Rattle.format3_header.specs.Header.{header_of}
 use Rattle.format3_header.specs.Lengths.{caller_verdict}
 use Rattle.format3_header.specs.FileStart.{version, first_header, file_start_of}
 use Rattle.format3_header.specs.declared.file_start.FileStart.{FileStart}
-use Rattle.format3_header.specs.declared.file_start.FileStart.TheVariants as FileStart
 use Rattle.format3_header.proofs.Laws.FileStart.{begun}
 use Rattle.format3_picture.proofs.CallerLaws.{CallerRefusal, RefusedByCaller, caller-refusal}
 use Rattle.theorems_picture.proofs.RefusalLaws.{FoundOf, of-found}

@@ -23,14 +23,11 @@ use Rattle.symbols.proofs.Guard.{require-all, both}
 use Rattle.symbols.proofs.Laws.Size.{SizeLegal, size-legal}
 use Rattle.format3_records.specs.Record.{record_of}
 use Rattle.format3_records.specs.declared.record.Record.{Record}
-use Rattle.format3_records.specs.declared.record.Record.TheVariants as Record
 use Rattle.format3_records.specs.declared.verdict.Verdict.{Verdict}
-use Rattle.format3_records.specs.declared.verdict.Verdict.TheVariants as Verdict
 use Rattle.format3_header.specs.Header.{header_of}
 use Rattle.format3_header.specs.Lengths.{caller_verdict}
 use Rattle.format3_header.specs.FileStart.{version, first_header, file_start_of, file_header_of}
 use Rattle.format3_header.specs.declared.file_start.FileStart.{FileStart}
-use Rattle.format3_header.specs.declared.file_start.FileStart.TheVariants as FileStart
 use Rattle.format3_header.proofs.Laws.FileStart.{begun}
 use Rattle.format3_picture.specs.Picture.{Picture, picture_within}
 use Rattle.format3_picture.proofs.InvariantLaws.{step-ends}

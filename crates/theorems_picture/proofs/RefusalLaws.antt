@@ -17,7 +17,6 @@ use Rattle.decode_coefficients.specs.declared.dc.DcPasts.{DcPasts}
 use Rattle.format3_records.specs.Field.{byte, two_bytes, signed_byte, signed_two_bytes}
 use Rattle.format3_records.specs.Record.{record_of}
 use Rattle.format3_records.specs.declared.record.Record.{Record}
-use Rattle.format3_records.specs.declared.record.Record.TheVariants as Record
 use Rattle.format3_records.specs.declared.verdict.Verdict.{Verdict}
 use Rattle.format3_records.specs.declared.verdict.Verdict.TheVariants.{Passed, Refused}
 use Rattle.format3_matrices.specs.Matrix.{matrix_verdict}

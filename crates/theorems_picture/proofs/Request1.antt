@@ -22,7 +22,6 @@ use Rattle.format3_records.specs.declared.record.Record.TheVariants as Record
 use Rattle.format3_records.specs.declared.verdict.Verdict.TheVariants.{Refused}
 use Rattle.format3_records.proofs.Laws.Record.{Inside, inside}
 use Rattle.format3_header.specs.declared.file_start.FileStart.{FileStart}
-use Rattle.format3_header.specs.declared.file_start.FileStart.TheVariants as FileStart
 use Rattle.format3_macroblock.proofs.Laws.Macroblock.{macroblock-legal}
 use Rattle.format3_picture.specs.MacroblockRecord.{context_of}
 use Rattle.format3_picture.specs.Picture.{Picture, picture_within}

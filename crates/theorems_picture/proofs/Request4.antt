@@ -15,7 +15,6 @@ use Rattle.symbols.specs.declared.header.Header.{Header}
 use Rattle.format3_header.specs.Lengths.{caller_verdict}
 use Rattle.format3_header.specs.FileStart.{first_header, file_start_of}
 use Rattle.format3_header.specs.declared.file_start.FileStart.{FileStart}
-use Rattle.format3_header.specs.declared.file_start.FileStart.TheVariants as FileStart
 use Rattle.format3_header.proofs.Laws.FileStart.{begun}
 use Rattle.format3_picture.specs.Picture.{Picture, picture_within, picture_refusing}
 use Rattle.theorems_picture.specs.Applies.{file_start}

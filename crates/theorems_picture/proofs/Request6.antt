@@ -9,7 +9,6 @@ use Rattle.symbols.specs.declared.header.Header.{Header}
 use Rattle.decode_macroblock.specs.Macroblock.{MadeMacroblock}
 use Rattle.decode_macroblock.specs.Rows.{rows_of}
 use Rattle.format3_header.specs.declared.file_start.FileStart.{FileStart}
-use Rattle.format3_header.specs.declared.file_start.FileStart.TheVariants as FileStart
 use Rattle.format3_picture.specs.Picture.{Picture, picture_within, picture_refusing}
 use Rattle.format3_picture.specs.declared.reader.Answer.{Answer}
 use Rattle.format3_picture.proofs.PictureLaws.{no_header}

@@ -21,7 +21,6 @@ use Rattle.mpeg1_slice.specs.Read.{Read, stop}
 use Rattle.mpeg1_slice.specs.Slice.{first_bit, raw_slice_of}
 use Rattle.mpeg1_reader.specs.Answer.{RawSliceOutcome, accepted_with, fitted, read_outcome, header_outcome, raw_slice_outcome}
 use Rattle.theorems_records.specs.Ended.{AcceptedSlice, Ended}
-use Rattle.theorems_records.specs.Ended as Ended
 
 module _ (fields : HeaderFields) (bytes buffer : List ℕ) where
   read-ended : (h : Header) → header_with fields ≡ Header.Legal h → (x : Read Slice) → raw_slice_of h bytes ≡ x → Ended fields bytes buffer (read_outcome x buffer)

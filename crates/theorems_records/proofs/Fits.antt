@@ -32,7 +32,6 @@ use Rattle.mpeg1_vlc.specs.Difference.{dc_difference_of}
 use Rattle.mpeg1_vlc.proofs.Laws.Range.{increment-read, increment-after-escape-read, motion-code-read}
 use Rattle.mpeg1_vlc.specs.Coefficient.{words_of, coefficient_code_of}
 use Rattle.mpeg1_vlc.specs.declared.coefficient.Coefficient.{Coefficient}
-use Rattle.mpeg1_vlc.specs.declared.coefficient.Coefficient.TheVariants as Coefficient
 use Rattle.mpeg1_vlc.proofs.Laws.CoefficientRange.{WellRead, less-within}
 use Rattle.mpeg1_slice.specs.Read.{Reader, word_at, field_at}
 use Rattle.mpeg1_slice.specs.Increment.{after_stuffing, amount_of, after_escape, increment_at}

@@ -30,7 +30,6 @@ use Rattle.format3_header.specs.Header.{fields_of, header_of}
 use Rattle.format3_header.specs.Lengths.{caller_verdict}
 use Rattle.format3_header.specs.FileStart.{first_header, file_start_of}
 use Rattle.format3_header.specs.declared.file_start.FileStart.{FileStart}
-use Rattle.format3_header.specs.declared.file_start.FileStart.TheVariants as FileStart
 use Rattle.format3_writer.specs.Bytes.{big_endian_bytes}
 use Rattle.format3_writer.specs.Records.{record_head, record_bytes, macroblock_record, slice_records}
 use Rattle.format3_writer.proofs.Laws.Lengths.{FewPairs}

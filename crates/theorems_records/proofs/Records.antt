@@ -18,7 +18,6 @@ use Rattle.symbols.specs.Macroblock.{Macroblock}
 use Rattle.symbols.proofs.Guard.{require-all}
 use Rattle.decode_coefficients.specs.declared.matrices.Matrices.{Matrices}
 use Rattle.decode_macroblock.specs.declared.fit.Fit.{Fit}
-use Rattle.decode_macroblock.specs.declared.fit.Fit.TheVariants as Fit
 use Rattle.decode_state.specs.declared.plan.Plan.{Plan}
 use Rattle.format3_records.specs.Record.{matrix_kind, slice_kind, macroblock_kind, legal_kind}
 use Rattle.format3_records.specs.declared.verdict.Verdict.{Verdict}

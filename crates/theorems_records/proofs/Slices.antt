@@ -29,7 +29,6 @@ use Rattle.format3_records.specs.declared.verdict.Verdict.TheVariants.{Passed, R
 use Rattle.format3_header.specs.Header.{header_of}
 use Rattle.format3_header.specs.FileStart.{file_start_of}
 use Rattle.format3_header.specs.declared.file_start.FileStart.{FileStart}
-use Rattle.format3_header.specs.declared.file_start.FileStart.TheVariants as FileStart
 use Rattle.format3_writer.specs.Records.{slice_record, macroblock_record, slice_records}
 use Rattle.format3_writer.specs.Records as Records
 use Rattle.format3_picture.specs.State.{start_state}

@@ -4,13 +4,11 @@ use Prim.Native.Nat.{◌^◌}
 use mathlib.Core.List.{List}
 use mathlib.Core.Path.{◌≡◌, refl, sym, ap, ◌∙◌, subst}
 use mathlib.Core.Bool.{true}
-use borrow.Author.Rules.{rules}
 use borrow.Author.Tests.{not-true, not-false}
 use lib.IntN.{ℤ}
 use mir.Syntax.{w16}
 use mir.Val.{to_z, of_z}
 use Rattle.math.specs.Bound.{at, AllWithin}
-use Rattle.math.proofs.Bound.{within-eq}
 use Rattle.math.proofs.Machine.{returned}
 use Rattle.math.specs.Tab.{tab}
 use Rattle.decode_coefficients.proofs.MarkLaws.{is_dc_alone, ac-marked}

@@ -2,7 +2,6 @@
 use mathlib.Core.Bool.{true}
 use mathlib.Core.Path.{◌≡◌, sym, ◌∙◌}
 use native.Mathlib.Omega.{arith}
-use borrow.Author.Rules.{rules}
 use Rattle.decode_idct.proofs.Passes.{in-range-within}
 use Rattle.decode_idct.specs.Answer.{transform_entry_in_range}
 use Rattle.decode_idct.proofs.transform.Goals as goal

@@ -1,15 +1,6 @@
 -- `decode_idct::transform_entry_in_range` meets its contract: before coefficient k, the first k are tested. Assumes nothing.
-use Prim.Native.Nat.{◌-◌, ◌≤◌}
-use mathlib.Core.Path.{◌≡◌, refl}
+use mathlib.Core.Path.{◌≡◌}
 use native.Mathlib.Omega.{arith}
-use borrow.Author.Rules.{rules}
-use lib.IntN.{pos, negsuc}
-use mir.Syntax.{w16}
-use mir.ValLaws.{to_z-of_z}
-use Rattle.math.specs.Bound.{at}
-use Rattle.math.specs.Limit.{in_range}
-use Rattle.math.proofs.Test.{test-more}
-use Rattle.math.specs.Test.{all_below}
 use Rattle.decode_idct.specs.Answer.{transform_entry_in_range}
 use Rattle.decode_idct.proofs.transform_entry_in_range.Goals as goal
 

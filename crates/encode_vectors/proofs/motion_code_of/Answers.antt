@@ -1,14 +1,12 @@
 -- `motion_code_of` meets its contract: the quotient plus 1 gets the sign of the difference. Assumes nothing.
 use mathlib.Core.Path.{◌≡◌, ap, ◌∙◌}
 use Prim.Native.Nat.{ℕ, ◌+◌, ◌-◌, ◌/◌, ◌<◌}
-use native.Mathlib.Nat.{lt_of_lt_of_le, div-le_self}
+use native.Mathlib.Nat.{div-le_self}
 use native.Mathlib.Omega.{arith}
-use borrow.Author.Rules.{rules}
-use lib.Dec.{lit≤}
 use lib.IntN.{pos, nat_abs, ◌-ℤ◌}
 use mir.Syntax.{w32}
 use mir.ValLaws.{to_z-of_z}
-use Rattle.math.proofs.Machine.{Held, parameter, literal, unsigned, fits, kept, tested, ◌⊟◌}
+use Rattle.math.proofs.Machine.{Held, parameter, literal, unsigned, kept, tested, ◌⊟◌}
 use Rattle.encode_vectors.proofs.PairLaws.{code_below, code-above, code-none}
 use Rattle.encode_vectors.proofs.motion_code_of.Goals as goal
 

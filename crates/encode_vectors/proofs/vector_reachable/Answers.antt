@@ -1,12 +1,10 @@
 -- `vector_reachable` meets its contract: it makes the same tests as the definition, in the same order. Assumes nothing.
 use mathlib.Core.Path.{◌≡◌, sym, ◌∙◌}
-use borrow.Author.Rules.{rules}
-use borrow.Author.Tests.{not-true, not-false}
+use borrow.Author.Tests.{not-false}
 use mir.Syntax.{w32}
 use mir.ValLaws.{to_z-of_z}
-use Rattle.decode_vectors.specs.Vector.{f_of, past_in_range, f_code_and_past_in_range}
+use Rattle.decode_vectors.specs.Vector.{f_code_and_past_in_range}
 use Rattle.decode_vectors.proofs.VectorLaws.{factor-most, PastInRange, f-code-and-past-known}
-use Rattle.encode_vectors.specs.Encoding.{vector_reachable}
 use Rattle.encode_vectors.proofs.vector_reachable.Goals as goal
 
 pub f_of_code-f-requires : goal.f_of_code-f-requires

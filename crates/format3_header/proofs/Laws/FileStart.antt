@@ -15,10 +15,8 @@ use Rattle.symbols.specs.Requires.{HeaderWithin}
 use Rattle.symbols.proofs.Guard.{require-all}
 use Rattle.format3_records.specs.Record.{record_of}
 use Rattle.format3_records.specs.declared.record.Record.{Record}
-use Rattle.format3_records.specs.declared.record.Record.TheVariants as Record
 use Rattle.format3_records.proofs.Laws.Record.{Inside, inside}
 use Rattle.format3_header.specs.declared.file_start.FileStart.{FileStart}
-use Rattle.format3_header.specs.declared.file_start.FileStart.TheVariants as FileStart
 use Rattle.format3_header.specs.Header.{header_of}
 use Rattle.format3_header.specs.FileStart.{version, first_header}
 use Rattle.format3_header.proofs.Laws.Header.{read-within}

@@ -1,15 +1,9 @@
 -- `all_positive` meets its contract: before weight k, the first k are above 0. Assumes nothing.
-use mathlib.Core.Path.{◌≡◌, sym}
-use mathlib.Core.Bool.{true}
-use Prim.Native.Nat.{ℕ, ◌-◌, ◌<◌, ◌≤◌}
+use mathlib.Core.Path.{sym}
 use native.Mathlib.Omega.{arith}
-use lib.Dec.{leb}
-use lib.ListN.{get_or}
-use borrow.Author.Rules.{rules}
-use borrow.Author.Count.{below_more}
 use Rattle.math.proofs.Test.{all_pass, one-fails}
 use Rattle.format3_matrices.specs.Matrix.{positive}
-use Rattle.format3_matrices.proofs.Laws.Matrix.{above_zero, is_zero}
+use Rattle.format3_matrices.proofs.Laws.Matrix.{is_zero}
 use Rattle.format3_matrices.proofs.all_positive.Goals as goal
 
 pub returns-then-weights-k-eq0 : goal.returns-then-weights-k-eq0

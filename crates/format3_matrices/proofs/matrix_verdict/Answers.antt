@@ -6,10 +6,8 @@ use Prim.Native.Nat.{ℕ}
 use lib.Dec.{leb, eqb}
 use lib.ListN.{length}
 use borrow.Author.Tests.{le-leb, lt-leb, eq-eqb, ne_eqb, not-true, not-false}
-use borrow.Author.Rules.{rules}
 use Rattle.symbols.specs.Guard.{require◌else◌then◌}
 use Rattle.format3_matrices.specs.Matrix.{which_of, weights_of, positive, loaded_already, matrix_verdict}
-use Rattle.format3_matrices.proofs.Laws.Matrix.{weights-long}
 use Rattle.format3_matrices.proofs.matrix_verdict.Goals as goal
 
 pub returns-then-body-ne-MATRIX_BODY_LENGTH : goal.returns-then-body-ne-MATRIX_BODY_LENGTH

@@ -1,7 +1,6 @@
 -- `last_bits` meets its contract: four bytes, padded with zeros, hold all that is left, at most 32 bits. Assumes nothing.
 use mathlib.Core.Path.{◌∙◌}
 use native.Mathlib.Nat.{add-zero}
-use borrow.Author.Rules.{rules}
 use Rattle.mpeg1_bits.proofs.Rest.{last-window}
 use Rattle.mpeg1_bits.proofs.last_bits.Goals as goal
 

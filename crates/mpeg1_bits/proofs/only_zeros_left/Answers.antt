@@ -1,6 +1,5 @@
 -- `only_zeros_left` meets its contract: if the next 32 bits are 0, only the bytes after the current one are left to check. Assumes nothing.
 use mathlib.Core.Path.{◌≡◌, ap, sym, ◌∙◌}
-use borrow.Author.Rules.{rules}
 use Rattle.mpeg1_bits.specs.declared.Window.{Window}
 use Rattle.mpeg1_bits.specs.Bits.{leading_number, bits_from}
 use Rattle.mpeg1_bits.proofs.Zeros.{not_zeros, zeros-past, rest-zeros}

@@ -1,7 +1,6 @@
 -- `peek` meets its contract: five bytes hold 40 bits, and the next 32 start within the first byte. Assumes nothing.
 use mathlib.Core.Path.{◌∙◌, refl}
 use native.Mathlib.Omega.{arith}
-use borrow.Author.Rules.{rules}
 use Rattle.mpeg1_bits.proofs.Rest.{full-window}
 use Rattle.mpeg1_bits.proofs.peek.Goals as goal
 

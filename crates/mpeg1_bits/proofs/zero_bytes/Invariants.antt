@@ -1,11 +1,8 @@
 -- `zero_bytes` meets its contract: all bytes so far are zero, so the rest decides. Assumes nothing.
-use mathlib.Core.Path.{◌≡◌, refl, sym, ◌∙◌}
+use mathlib.Core.Path.{◌≡◌}
 use Prim.Native.Nat.{◌-◌, ◌≤◌}
-use native.Mathlib.Omega.{arith}
 use lib.ListN.{length, drop}
-use borrow.Author.Rules.{rules}
 use Rattle.mpeg1_bits.specs.Bits.{bits, all_zeros}
-use Rattle.mpeg1_bits.proofs.Zeros.{zero_more, zero-none, zero-end}
 use Rattle.mpeg1_bits.proofs.zero_bytes.Given as goal
 
 abbrev pub invariant-loop-i : goal.invariant-loop-i

@@ -15,7 +15,6 @@ use Rattle.mpeg1_bits.specs.declared.BitPosition.{BitPosition}
 use Rattle.mpeg1_bits.proofs.Rest.{rest-binary}
 use Rattle.mpeg1_vlc.specs.Coefficient.{words_of, coefficient_code_of}
 use Rattle.mpeg1_vlc.specs.declared.coefficient.Coefficient.{Coefficient}
-use Rattle.mpeg1_vlc.specs.declared.coefficient.Coefficient.TheVariants as Coefficient
 use Rattle.mpeg1_vlc.proofs.Laws.CoefficientRange.{PairRead, EndRead, WellRead, first-coefficient-well-read, next-coefficient-well-read}
 use Rattle.mpeg1_slice.specs.Read.{Reader}
 use Rattle.mpeg1_slice.specs.Blocks.{PairOrEnd, next_pair, block_end, next_pair_of, next_pair_at, until_end}

@@ -20,7 +20,6 @@ use Rattle.mpeg1_slice.specs.Read.{Read, stop, read_code, word_at, field_at}
 use Rattle.mpeg1_slice.specs.Slice.{first_bit}
 use Rattle.mpeg1_slice.specs.Answers.{CodeFits, element_answer}
 use Rattle.mpeg1_slice.specs.declared.element.SyntaxElement.{SyntaxElement}
-use Rattle.mpeg1_slice.specs.declared.element.SyntaxElement.TheVariants as SyntaxElement
 
 -- ---- from what the code returns to what the definition reads
 pub step-read : {r : SyntaxElement} (x : Read ℕ) {v : ℕ} {p : BitPosition} → r ≡ element_answer x → r ≡ SyntaxElement.Value v p → x ≡ parsed v p

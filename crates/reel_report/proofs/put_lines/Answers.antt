@@ -1,13 +1,11 @@
 -- `put_lines` meets its contract: in each round, writing the remaining lines gives the whole report. Assumes nothing.
-use mathlib.Core.Path.{◌≡◌, refl, sym, ◌∙◌}
-use Prim.Native.Nat.{◌+◌, ◌-◌, ◌≤◌}
+use mathlib.Core.Path.{sym, ◌∙◌}
+use Prim.Native.Nat.{◌+◌, ◌≤◌}
 use native.Mathlib.Omega.{arith}
-use lib.ListN.{length, length-take}
-use borrow.Author.Rules.{rules}
-use Rattle.reel_player.proofs.ItemLaws.{Buffers, PictureNext, next-picture}
-use Rattle.reel_player.specs.Requires.{KeptWithin}
+use lib.ListN.{length}
+use Rattle.reel_player.proofs.ItemLaws.{PictureNext, next-picture}
 use Rattle.text_writer.proofs.PutLaws.{put}
-use Rattle.reel_report.proofs.ReportLaws.{Printed, printed-none, printed-all, line-fits, printed-cut, printed-more}
+use Rattle.reel_report.proofs.ReportLaws.{printed-all, line-fits, printed-cut, printed-more}
 use Rattle.reel_report.proofs.put_lines.Goals as goal
 
 pub returns-in_default-clause-value : goal.returns-in_default-clause-value

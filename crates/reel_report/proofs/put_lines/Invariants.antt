@@ -1,13 +1,10 @@
 -- `put_lines` meets its contract: in each round, writing the remaining lines gives the whole report. Assumes nothing.
-use mathlib.Core.Path.{◌≡◌, refl, sym, ◌∙◌}
-use Prim.Native.Nat.{◌+◌, ◌-◌, ◌≤◌}
-use native.Mathlib.Omega.{arith}
-use lib.ListN.{length, length-take}
-use borrow.Author.Rules.{rules}
-use Rattle.reel_player.proofs.ItemLaws.{Buffers, PictureNext, next-picture}
+use mathlib.Core.Path.{◌≡◌}
+use Prim.Native.Nat.{◌-◌}
+use lib.ListN.{length}
+use Rattle.reel_player.proofs.ItemLaws.{Buffers}
 use Rattle.reel_player.specs.Requires.{KeptWithin}
-use Rattle.text_writer.proofs.PutLaws.{put}
-use Rattle.reel_report.proofs.ReportLaws.{Printed, printed-none, printed-all, line-fits, printed-cut, printed-more}
+use Rattle.reel_report.proofs.ReportLaws.{Printed}
 use Rattle.reel_report.proofs.put_lines.Given as goal
 
 abbrev pub invariant-loop-position : goal.invariant-loop-position

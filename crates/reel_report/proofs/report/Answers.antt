@@ -1,9 +1,5 @@
 -- `report` meets its contract: it makes the test of `report_of`, and the buffer has room for every line of a reel it plays. Assumes nothing.
-use mathlib.Core.Path.{sym, ◌∙◌}
 use native.Mathlib.Omega.{arith}
-use lib.ListN.{length}
-use borrow.Author.Tests.{ltb-false}
-use borrow.Author.Rules.{rules}
 use Rattle.format3_writer.proofs.Laws.Written.{written-length}
 use Rattle.text_writer.proofs.PutLaws.{put, put_whole}
 use Rattle.reel_report.specs.Text.{long_text}

@@ -5,7 +5,6 @@ use native.Mathlib.Omega.{arith}
 use lib.IntN.{pos}
 use lib.ListN.{length, take}
 use Rattle.io.specs.Digits.{last_digits}
-use borrow.Author.Rules.{rules}
 use Rattle.text_writer.specs.Number.{decimal}
 use Rattle.text_writer.proofs.NumberLaws.{fewest, field-length}
 use Rattle.text_writer.proofs.PutLaws.{put, put_then}

@@ -1,14 +1,11 @@
 -- `put_signed_field` meets its contract: the sign is written first, then the absolute value as a field. Assumes nothing.
 use mathlib.Core.List.{[], ◌∷◌, ◌++◌}
 use mathlib.Core.Path.{◌≡◌, ap, sym, ◌∙◌}
-use native.Mathlib.Omega.{arith}
-use borrow.Author.Rules.{rules}
 use lib.IntN.{pos, nat_abs}
-use lib.ListN.{length}
 use Rattle.math.proofs.Bound.{within-mag}
 use Rattle.math.proofs.Machine.{Held, parameter, literal, tested}
 use Rattle.text_writer.specs.Number.{minus, field, signed_field}
-use Rattle.text_writer.proofs.NumberLaws.{field_below, field-above}
+use Rattle.text_writer.proofs.NumberLaws.{field_below}
 use Rattle.text_writer.proofs.PutLaws.{put, put_then}
 use Rattle.text_writer.proofs.put_signed_field.Goals as goal
 

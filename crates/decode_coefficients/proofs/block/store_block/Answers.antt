@@ -1,15 +1,13 @@
 -- `store_block` meets its contract: before coefficient k, the first k are stored. Assumes nothing.
-use mathlib.Core.Path.{◌≡◌, refl, sym, ap, ◌∙◌}
-use Prim.Native.Nat.{◌+◌, ◌-◌, ◌*◌, ◌≤◌}
+use mathlib.Core.Path.{refl, sym, ap, ◌∙◌}
+use Prim.Native.Nat.{◌+◌, ◌*◌}
 use native.Mathlib.Omega.{arith}
 use lib.IntN.{ℤ}
 use lib.ListN.{set}
 use mir.Syntax.{w16}
 use Rattle.math.specs.Bound.{at}
 use Rattle.math.proofs.Machine.{returned}
-use Rattle.math.specs.Scatter.{scatter}
 use Rattle.math.proofs.Scatter.{scatter-none, scatter-next}
-use Rattle.decode_coefficients.specs.BlockArray.{put_block}
 use Rattle.decode_coefficients.proofs.block.store_block.Goals as goal
 
 pub loop-k-init : goal.loop-k-init

@@ -1,16 +1,7 @@
 -- `store_level` meets its contract: it sets one coefficient. Assumes nothing.
-use mathlib.Core.Path.{ap, ◌∙◌}
-use borrow.Author.Rules.{rules}
 use Prim.Native.Nat.{◌<◌, suc-le-suc}
-use native.Mathlib.Omega.{arith}
-use lib.IntN.{ℤ}
-use lib.ListN.{get_or, set}
-use mir.Syntax.{w16}
-use mir.ValLaws.{to_z-of_z}
-use Rattle.math.proofs.Machine.{returned}
+use lib.ListN.{get_or}
 use Rattle.tables.proofs.Zigzag.{raster-below}
-use Rattle.decode_coefficients.specs.Block.{raster_index}
-use Rattle.decode_coefficients.specs.Marks.{with_coefficient}
 use Rattle.decode_coefficients.proofs.block.store_level.Goals as goal
 
 pub bounds-matrix-raster : goal.bounds-matrix-raster

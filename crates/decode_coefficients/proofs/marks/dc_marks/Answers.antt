@@ -1,6 +1,5 @@
 -- `marks::dc_marks` meets its contract: the DC is stored in a block of zeros. Assumes nothing.
 use mathlib.Core.Path.{refl}
-use borrow.Author.Rules.{rules}
 use native.Mathlib.Omega.{arith}
 use mir.Syntax.{w16}
 use mir.ValLaws.{to_z-of_z}

@@ -1,11 +1,9 @@
 -- `marks::marks_of` meets its contract: before coefficient k, the marks are those of the first k. Assumes nothing.
-use Prim.Native.Nat.{◌-◌, ◌≤◌}
 use mathlib.Core.Path.{◌≡◌}
 use native.Mathlib.Omega.{arith}
 use mir.Syntax.{w16}
 use mir.ValLaws.{to_z-of_z}
-use Rattle.decode_coefficients.specs.Marks.{Marked}
-use Rattle.decode_coefficients.proofs.MarkLaws.{none-marked, first_of, none_of, marked_all, marked_more}
+use Rattle.decode_coefficients.proofs.MarkLaws.{none-marked, none_of, marked_all, marked_more}
 use Rattle.decode_coefficients.proofs.marks.marks_of.Goals as goal
 
 pub loop-k-init : goal.loop-k-init

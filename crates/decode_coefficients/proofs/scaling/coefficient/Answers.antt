@@ -1,12 +1,9 @@
 -- `scaling::coefficient` meets its contract: if the test passes the level is scaled, otherwise the refusal is answered. Assumes nothing.
 use mathlib.Core.Bool.{Bool}
 use mathlib.Core.Path.{◌≡◌, sym, ◌∙◌}
-use borrow.Author.Rules.{rules}
-use mir.Syntax.{w16}
-use Rattle.math.proofs.Machine.{parameter, bound, returned}
+use Rattle.math.proofs.Machine.{parameter, bound}
 use Rattle.decode_coefficients.proofs.Ranges.{held, Ranges, known-ranges}
 use Rattle.decode_coefficients.specs.Answer.{coefficient_entry_in_range}
-use Rattle.decode_coefficients.specs.Scaling.{coefficient_of}
 use Rattle.decode_coefficients.proofs.scaling.coefficient.Goals as goal
 
 pub scale_level-value-requires : goal.scale_level-value-requires

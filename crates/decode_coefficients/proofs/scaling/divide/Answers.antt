@@ -1,5 +1,4 @@
 -- `scaling::divide` meets its contract: neither the products nor the quotient overflow. Assumes nothing.
-use lib.Dec.{lit<}
 use lib.IntN.{◌*ℤ◌}
 use mir.Syntax.{w32}
 use Rattle.math.proofs.Machine.{Held, fits, kept, parameter, ◌⊠◌, over}

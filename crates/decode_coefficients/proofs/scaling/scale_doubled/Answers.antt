@@ -1,6 +1,5 @@
 -- `scaling::scale_doubled` meets its contract: the three steps in order, after which the limited result fits. Assumes nothing.
 use mathlib.Core.Path.{ap, ◌∙◌}
-use borrow.Author.Rules.{rules}
 use mir.Syntax.{w16, w32}
 use Rattle.math.proofs.Machine.{Held, fits, kept, parameter, bound, result, returned}
 use Rattle.decode_coefficients.proofs.Ranges.{scaled-within, quotient-within}

@@ -1,12 +1,8 @@
 -- `pass::coefficient_row` meets its contract: before number u, the first u of the row are widened into the line. Assumes nothing.
 use Prim.Native.Nat.{◌+◌, ◌-◌, ◌*◌, ◌≤◌}
-use mathlib.Core.Path.{refl, ◌∙◌}
-use native.Mathlib.Omega.{arith}
 use lib.IntN.{pos}
-use mir.Syntax.{w16, w64}
-use Rattle.math.proofs.Machine.{returned}
 use Rattle.math.specs.Bound.{at}
-use Rattle.math.proofs.Tab.{Filled, filled_none, filled_more, filled-all}
+use Rattle.math.proofs.Tab.{Filled}
 use Rattle.decode_idct.proofs.pass.coefficient_row.Given as goal
 
 abbrev pub invariant-loop-u : goal.invariant-loop-u

@@ -1,5 +1,5 @@
 -- `pass::column_pass` meets its contract: before row v, the first v columns hold the residues of the transformed rows. Assumes nothing.
-use Prim.Native.Nat.{◌+◌, ◌-◌, ◌^◌, ◌≤◌, ◌<◌}
+use Prim.Native.Nat.{◌+◌, ◌^◌, ◌<◌}
 use mathlib.Core.Path.{sym, ap, subst}
 use native.Mathlib.Omega.{arith}
 use lib.IntN.{pos}

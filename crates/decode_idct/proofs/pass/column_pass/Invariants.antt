@@ -1,11 +1,7 @@
 -- `pass::column_pass` meets its contract: before row v, the first v columns hold the residues of the transformed rows. Assumes nothing.
-use Prim.Native.Nat.{◌+◌, ◌-◌, ◌^◌, ◌≤◌, ◌<◌}
-use mathlib.Core.Path.{sym, ap, subst}
-use native.Mathlib.Omega.{arith}
+use Prim.Native.Nat.{◌-◌, ◌≤◌}
 use lib.IntN.{pos}
-use Rattle.math.specs.Bound.{AllWithin}
-use Rattle.decode_idct.proofs.Columns.{Columns, columns-none, columns-more, columns-all}
-use Rattle.decode_idct.proofs.Passes.{line-within, row_within, line_at}
+use Rattle.decode_idct.proofs.Columns.{Columns}
 use Rattle.decode_idct.specs.Line.{pass_result, residue_of}
 use Rattle.decode_idct.proofs.pass.column_pass.Given as goal
 

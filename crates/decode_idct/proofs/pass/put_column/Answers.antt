@@ -1,5 +1,5 @@
 -- `pass::put_column` meets its contract: before number u, the first u of the line are stored in the column. Assumes nothing.
-use Prim.Native.Nat.{◌+◌, ◌-◌, ◌*◌, ◌≤◌}
+use Prim.Native.Nat.{◌+◌, ◌*◌}
 use mathlib.Core.Path.{◌≡◌, refl, sym, ◌∙◌}
 use native.Mathlib.Omega.{arith}
 use lib.ListN.{set}
@@ -8,7 +8,6 @@ use mir.Val.{to_z, of_z}
 use Rattle.math.proofs.Machine.{returned}
 use Rattle.math.specs.Bound.{at}
 use Rattle.math.proofs.Scatter.{scatter-none, scatter-more}
-use Rattle.math.specs.Scatter.{scatter}
 use Rattle.decode_idct.specs.Line.{column_index}
 use Rattle.decode_idct.proofs.pass.put_column.Goals as goal
 

@@ -1,14 +1,13 @@
 -- `pass::put_residues` meets its contract: before number u, the residues of the first u of the line are stored in the column. Assumes nothing.
-use Prim.Native.Nat.{◌+◌, ◌-◌, ◌*◌, ◌≤◌}
+use Prim.Native.Nat.{◌+◌, ◌*◌}
 use mathlib.Core.Path.{◌≡◌, sym, ap, ◌∙◌}
 use native.Mathlib.Omega.{arith}
 use lib.ListN.{set}
 use mir.Syntax.{w16, w64}
 use mir.Val.{to_z, of_z}
-use Rattle.math.proofs.Machine.{number, kept, bound, returned}
+use Rattle.math.proofs.Machine.{number, kept, returned}
 use Rattle.math.specs.Bound.{at}
 use Rattle.math.proofs.Scatter.{scatter-none, scatter-more}
-use Rattle.math.specs.Scatter.{scatter}
 use Rattle.decode_idct.specs.Line.{column_index, residue_of}
 use Rattle.decode_idct.proofs.pass.put_residues.Goals as goal
 

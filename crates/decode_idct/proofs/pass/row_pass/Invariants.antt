@@ -1,19 +1,12 @@
 -- `pass::row_pass` meets its contract: before each row, as many columns hold the transformed rows, and the others zeros. Assumes nothing.
 -- The line of a row that is not marked is zeros as well.
-use Prim.Native.Nat.{ℕ, ◌+◌, ◌-◌, ◌≤◌}
-use mathlib.Core.Path.{◌≡◌, refl, sym, ap, ◌∙◌}
+use Prim.Native.Nat.{◌-◌, ◌≤◌}
+use mathlib.Core.Path.{◌≡◌}
 use mathlib.Core.Bool.{not}
-use mathlib.Core.Logic.{⊎_elim}
-use native.Mathlib.Nat.{add-zero}
-use native.Mathlib.Omega.{arith}
-use borrow.Author.Tests.{not-false}
 use lib.IntN.{pos}
 use Rattle.math.specs.Test.{count_below}
-use Rattle.math.proofs.Test.{count_none, count-more, count_most}
-use Rattle.decode_coefficients.specs.Rows.{is_zero_row, rows_worked}
-use Rattle.decode_coefficients.proofs.MarkLaws.{row-marked}
-use Rattle.decode_idct.proofs.Columns.{Columns, columns-none, columns-more, columns-skip, columns-all}
-use Rattle.decode_idct.proofs.Passes.{zero_row}
+use Rattle.decode_coefficients.specs.Rows.{is_zero_row}
+use Rattle.decode_idct.proofs.Columns.{Columns}
 use Rattle.decode_idct.specs.Line.{pass_result}
 use Rattle.decode_idct.proofs.pass.row_pass.Given as goal
 

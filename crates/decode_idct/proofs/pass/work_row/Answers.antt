@@ -1,6 +1,5 @@
 -- `pass::work_row` meets its contract: the line of the row is stored in its column. Assumes nothing.
 use mathlib.Core.Path.{sym, subst, ◌∙◌}
-use borrow.Author.Rules.{rules}
 use lib.Dec.{lit≤}
 use Rattle.math.proofs.Bound.{all_more}
 use Rattle.math.proofs.Scatter.{scatter-ext}

@@ -1,13 +1,10 @@
 -- `block::put_luma_pels` meets its contract: before pel i of line j, the first 16 j + i pels are put. Assumes nothing.
-use mathlib.Core.Path.{◌≡◌, refl, ◌∙◌, sym}
+use mathlib.Core.Path.{◌≡◌}
 use mathlib.Core.List.{List}
 use Prim.Native.Nat.{ℕ, ◌+◌, ◌-◌, ◌*◌, ◌≤◌}
-use native.Mathlib.Omega.{arith}
-use lib.ListN.{length, get_or, length-set}
+use lib.ListN.{length, get_or}
 use Rattle.math.specs.Scatter.{scatter}
-use Rattle.math.proofs.Scatter.{scatter-none, scatter-to, scatter-next}
 use Rattle.decode_macroblock.specs.Pel.{pel_index}
-use Rattle.decode_macroblock.proofs.PelLaws.{CellFits, cell-fits}
 use Rattle.decode_macroblock.proofs.block.put_luma_pels.Given as goal
 
 -- the plane with the first n of the luma pels

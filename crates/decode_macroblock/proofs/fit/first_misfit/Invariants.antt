@@ -1,10 +1,7 @@
 -- `fit::first_misfit` meets its contract: before macroblock k, `fit` is the first misfit of the k before it. Assumes nothing.
-use mathlib.Core.Path.{◌≡◌, refl, ◌∙◌, sym, ap}
-use Prim.Native.Nat.{ℕ, ◌-◌, ◌≤◌}
-use native.Mathlib.Omega.{arith}
-use borrow.Author.Rules.{rules}
-use Rattle.decode_macroblock.specs.Fit.{or_else, first_misfit}
-use Rattle.decode_macroblock.proofs.RunLaws.{run-last}
+use mathlib.Core.Path.{◌≡◌}
+use Prim.Native.Nat.{◌-◌, ◌≤◌}
+use Rattle.decode_macroblock.specs.Fit.{first_misfit}
 use Rattle.decode_macroblock.proofs.fit.first_misfit.Given as goal
 
 abbrev pub invariant-loop-k : goal.invariant-loop-k

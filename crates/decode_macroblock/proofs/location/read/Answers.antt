@@ -1,9 +1,5 @@
 -- `location::read` meets its contract: the plane holds the block, whose coordinates in half pels are twice those in pels. Assumes nothing.
 use mathlib.Core.Path.{◌∙◌}
-use Prim.Native.Nat.{◌+◌}
-use native.Mathlib.Nat.{mul-le-mul_left}
-use native.Mathlib.Omega.{arith}
-use borrow.Author.Rules.{rules}
 use Rattle.decode_macroblock.proofs.PutLaws.{read_is}
 use Rattle.decode_macroblock.proofs.location.read.Goals as goal
 

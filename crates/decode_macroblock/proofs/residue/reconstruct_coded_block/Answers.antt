@@ -3,7 +3,6 @@ use mathlib.Core.Path.{ap, ◌∙◌}
 use mathlib.Core.List.{List, []}
 use Prim.Native.Nat.{ℕ}
 use lib.IntN.{ℤ}
-use borrow.Author.Rules.{rules}
 use Rattle.math.proofs.Tab.{tab-at}
 use Rattle.math.specs.Bound.{AllWithin}
 use Rattle.math.proofs.Bound.{within-literal, tab-within}

@@ -1,8 +1,5 @@
 -- `write::add_residue_at` meets its contract: it reads the pels at the block's location, adds the residue, and puts them back.
 -- Assumes nothing.
-use mathlib.Core.Path.{sym, ◌∙◌}
-use borrow.Author.Tests.{not-true, not-false}
-use borrow.Author.Rules.{rules}
 use Rattle.decode_macroblock.proofs.LocationLaws.{location-inside}
 use Rattle.decode_macroblock.proofs.write.add_residue_at.Goals as goal
 

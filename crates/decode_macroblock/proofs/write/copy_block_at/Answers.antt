@@ -1,6 +1,4 @@
 -- `write::copy_block_at` meets its contract: it copies the block and puts it at its location. Assumes nothing.
-use mathlib.Core.Path.{◌∙◌}
-use borrow.Author.Rules.{rules}
 use Rattle.decode_macroblock.proofs.LocationLaws.{location-inside}
 use Rattle.decode_macroblock.proofs.write.copy_block_at.Goals as goal
 

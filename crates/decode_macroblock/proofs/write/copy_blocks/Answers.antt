@@ -1,7 +1,5 @@
 -- `write::copy_blocks` meets its contract: with one direction, each block is what its vector points to. Assumes nothing.
 use mathlib.Core.Path.{◌∙◌}
-use native.Mathlib.Omega.{arith}
-use borrow.Author.Rules.{rules}
 use Rattle.decode_idct.specs.Transform.{inverse_transform}
 use Rattle.decode_macroblock.specs.Compensation.{references}
 use Rattle.decode_macroblock.proofs.BlocksLaws.{blocks-none}

@@ -1,6 +1,5 @@
 -- `write::copy_luma` meets its contract: putting the copied luma pels is putting their four blocks. Assumes nothing.
 use mathlib.Core.Path.{◌∙◌}
-use borrow.Author.Rules.{rules}
 use Rattle.decode_macroblock.proofs.LumaLaws.{luma-copy-readable, luma-copy-holds, luma-copy-blocks}
 use Rattle.decode_macroblock.proofs.write.copy_luma.Goals as goal
 

@@ -16,8 +16,7 @@ returns-then-not-is_whole_pel-clause-output_after c = blocks-none _ _ _
 
 pub copy_block_at-requires-2 : goal.copy_block_at-requires-2
 copy_block_at-requires-2 c =
-    let chroma-whole : is_whole_pel c.vector_for-chroma.result ≡ true = sym c.is_whole_pel-2.ensures ∙ not-false c.is_whole_pel-2.result c.if-not-is_whole_pel-2.false-raw in
-    (
+    let chroma-whole : is_whole_pel c.vector_for-chroma.result ≡ true = sym c.is_whole_pel-2.ensures ∙ not-false c.is_whole_pel-2.result c.if-not-is_whole_pel-2.false-raw in (
       c.requires.inside,
       rw c.vector_for-chroma.ensures (subst (λ (v : Vector). Readable (block_location c.args.position 5) v c.args.reference.now) (chroma-vector c.args.vector) (c.requires.readable 5 (omega arith))),
       chroma-whole,
@@ -29,9 +28,9 @@ pub returns-clause-output_after : goal.returns-clause-output_after
 returns-clause-output_after c = let blocks = pointed_block c.args.reference.now c.args.position c.args.vector in
     let five = c.vector_for-chroma.ensures ∙ sym (chroma-vector c.args.vector) in
     c.copy_block_at-2.ensures
-          ∙ (λ i. put_at (block_location c.args.position 5) (predicted_from c.args.reference.now (block_location c.args.position 5) (five i)) ((
-          c.copy_block_at.ensures
-          ∙ (λ j. put_at (block_location c.args.position 4) (predicted_from c.args.reference.now (block_location c.args.position 4) (c.vector_for-chroma.ensures j)) (c.copy_luma.ensures j))
-          ∙ blocks_more c.args.position blocks 4 c.args.output.now
-          ) i))
-          ∙ blocks_more c.args.position blocks 5 c.args.output.now
+    ∙ (λ i. put_at (block_location c.args.position 5) (predicted_from c.args.reference.now (block_location c.args.position 5) (five i)) ((
+    c.copy_block_at.ensures
+    ∙ (λ j. put_at (block_location c.args.position 4) (predicted_from c.args.reference.now (block_location c.args.position 4) (c.vector_for-chroma.ensures j)) (c.copy_luma.ensures j))
+    ∙ blocks_more c.args.position blocks 4 c.args.output.now
+    ) i))
+    ∙ blocks_more c.args.position blocks 5 c.args.output.now

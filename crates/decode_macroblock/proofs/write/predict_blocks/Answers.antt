@@ -1,15 +1,11 @@
 -- `write::predict_blocks` meets its contract: before block b, the first b blocks are written; the first ones were copied. Assumes nothing.
-use mathlib.Core.Path.{◌≡◌, refl, ap, ◌∙◌}
-use mathlib.Core.List.{List, []}
-use Prim.Native.Nat.{ℕ, ◌-◌, ◌≤◌}
+use mathlib.Core.Path.{ap, ◌∙◌}
+use mathlib.Core.List.{[]}
 use native.Mathlib.Omega.{arith}
-use lib.ListN.{length}
 use Rattle.decode_idct.specs.Transform.{inverse_transform}
 use Rattle.decode_macroblock.specs.Location.{block_location, put_at}
 use Rattle.decode_macroblock.specs.Compensation.{references}
 use Rattle.decode_macroblock.specs.Block.{pels_of}
-use Rattle.decode_macroblock.specs.Macroblock.{with_blocks}
-use Rattle.decode_macroblock.proofs.RunLaws.{blocks-again}
 use Rattle.decode_macroblock.proofs.BlocksLaws.{blocks_more}
 use Rattle.decode_macroblock.proofs.write.predict_blocks.Goals as goal
 

@@ -1,23 +1,13 @@
 -- `write::write_inter` meets its contract: before block b, the first b blocks have their residues, and their rows are counted. Assumes nothing.
 -- The other blocks are still only predictions.
 use mathlib.Core.Path.{◌≡◌, refl, sym, ◌∙◌}
-use mathlib.Core.List.{List, []}
-use Prim.Native.Nat.{ℕ, ◌-◌, ◌≤◌}
 use native.Mathlib.Omega.{arith}
-use lib.ListN.{length}
-use Rattle.math.specs.Tab.{tab}
-use Rattle.math.specs.Total.{total}
 use Rattle.math.proofs.Total.{total-tab-none}
-use Rattle.symbols.specs.Size.{picture_bytes}
 use Rattle.decode_coefficients.specs.BlockArray.{six_blocks}
 use Rattle.decode_idct.specs.Transform.{inverse_transform}
-use Rattle.decode_macroblock.specs.declared.compensation.Motion.{Motion}
 use Rattle.decode_macroblock.specs.Compensation.{references}
-use Rattle.decode_macroblock.specs.Block.{pels_of}
-use Rattle.decode_macroblock.specs.Macroblock.{with_blocks}
-use Rattle.decode_macroblock.specs.Rows.{block_rows}
 use Rattle.decode_macroblock.proofs.RowLaws.{rows_more, rows_few}
-use Rattle.decode_macroblock.proofs.ResidueLaws.{partly_added, added_none, added_more, added-all}
+use Rattle.decode_macroblock.proofs.ResidueLaws.{added_none, added_more, added-all}
 use Rattle.decode_macroblock.proofs.write.write_inter.Goals as goal
 
 pub loop-block-init : goal.loop-block-init
@@ -39,4 +29,4 @@ loop-block-preserved c =
 pub returns-clause-output_after : goal.returns-clause-output_after
 returns-clause-output_after c = let all : c.loop-block.block ≡ 6 = omega arith in
     c.loop-block.invariant.1 c.args.motion c.args.output.now c.requires.0.lent.output-whole c.predict_blocks.ensures
-          ∙ added-all inverse_transform (references c.args.forward.now c.args.backward.now) c.args.position c.args.motion c.args.pattern (six_blocks c.args.coefficients.now) c.loop-block.block c.args.output.now (omega arith)
+    ∙ added-all inverse_transform (references c.args.forward.now c.args.backward.now) c.args.position c.args.motion c.args.pattern (six_blocks c.args.coefficients.now) c.loop-block.block c.args.output.now (omega arith)

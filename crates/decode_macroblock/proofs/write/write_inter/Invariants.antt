@@ -1,13 +1,11 @@
 -- `write::write_inter` meets its contract: before block b, the first b blocks have their residues, and their rows are counted. Assumes nothing.
 -- The other blocks are still only predictions.
-use mathlib.Core.Path.{◌≡◌, refl, sym, ◌∙◌}
+use mathlib.Core.Path.{◌≡◌}
 use mathlib.Core.List.{List, []}
 use Prim.Native.Nat.{ℕ, ◌-◌, ◌≤◌}
-use native.Mathlib.Omega.{arith}
 use lib.ListN.{length}
 use Rattle.math.specs.Tab.{tab}
 use Rattle.math.specs.Total.{total}
-use Rattle.math.proofs.Total.{total-tab-none}
 use Rattle.symbols.specs.Size.{picture_bytes}
 use Rattle.decode_coefficients.specs.BlockArray.{six_blocks}
 use Rattle.decode_idct.specs.Transform.{inverse_transform}
@@ -16,8 +14,7 @@ use Rattle.decode_macroblock.specs.Compensation.{references}
 use Rattle.decode_macroblock.specs.Block.{pels_of}
 use Rattle.decode_macroblock.specs.Macroblock.{with_blocks}
 use Rattle.decode_macroblock.specs.Rows.{block_rows}
-use Rattle.decode_macroblock.proofs.RowLaws.{rows_more, rows_few}
-use Rattle.decode_macroblock.proofs.ResidueLaws.{partly_added, added_none, added_more, added-all}
+use Rattle.decode_macroblock.proofs.ResidueLaws.{partly_added}
 use Rattle.decode_macroblock.proofs.write.write_inter.Given as goal
 
 abbrev pub invariant-loop-block : goal.invariant-loop-block

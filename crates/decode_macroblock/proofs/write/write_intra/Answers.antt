@@ -1,18 +1,14 @@
 -- `write::write_intra` meets its contract: before block b, the first b blocks are written, and their rows counted. Assumes nothing.
-use mathlib.Core.Path.{◌≡◌, refl, sym, ap, ◌∙◌}
+use mathlib.Core.Path.{refl, sym, ap, ◌∙◌}
 use mathlib.Core.List.{List}
-use Prim.Native.Nat.{ℕ, ◌-◌, ◌≤◌}
+use Prim.Native.Nat.{ℕ}
 use native.Mathlib.Omega.{arith}
-use lib.ListN.{length, replicate}
-use Rattle.math.specs.Tab.{tab}
-use Rattle.math.specs.Total.{total}
+use lib.ListN.{replicate}
 use Rattle.math.proofs.Total.{total-tab-none}
 use Rattle.decode_coefficients.specs.BlockArray.{six_blocks}
 use Rattle.decode_idct.specs.Transform.{inverse_transform}
 use Rattle.decode_macroblock.specs.Location.{block_location, put_at}
 use Rattle.decode_macroblock.specs.Block.{with_residue}
-use Rattle.decode_macroblock.specs.Macroblock.{with_blocks}
-use Rattle.decode_macroblock.specs.Rows.{block_rows}
 use Rattle.decode_macroblock.proofs.RowLaws.{rows_more, rows_few}
 use Rattle.decode_macroblock.proofs.BlocksLaws.{blocks-none, blocks_more}
 use Rattle.decode_macroblock.proofs.write.write_intra.Goals as goal

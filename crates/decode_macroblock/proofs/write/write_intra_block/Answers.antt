@@ -1,6 +1,4 @@
 -- `write::write_intra_block` meets its contract: it puts the block's residue at its location. Assumes nothing.
-use mathlib.Core.Path.{◌∙◌}
-use borrow.Author.Rules.{rules}
 use Rattle.decode_macroblock.proofs.LocationLaws.{location-inside}
 use Rattle.decode_macroblock.proofs.write.write_intra_block.Goals as goal
 

@@ -1,6 +1,5 @@
 -- `write::write_predicted_block` meets its contract: it puts the block's prediction at its location. Assumes nothing.
 use mathlib.Core.Path.{◌∙◌}
-use borrow.Author.Rules.{rules}
 use Rattle.decode_idct.specs.Transform.{inverse_transform}
 use Rattle.decode_macroblock.proofs.LocationLaws.{location-inside}
 use Rattle.decode_macroblock.proofs.CompensationLaws.{predictable}

@@ -1,6 +1,4 @@
 -- `write::write_prediction` meets its contract: it writes the six predictions at the address. Assumes nothing.
-use mathlib.Core.Path.{◌∙◌}
-use borrow.Author.Rules.{rules}
 use Rattle.decode_macroblock.proofs.RunLaws.{blocks-drawable}
 use Rattle.decode_macroblock.proofs.write.write_prediction.Goals as goal
 

@@ -1,13 +1,10 @@
 -- `write::write_predictions` meets its contract: before macroblock k of the run, the first k are written. Assumes nothing.
-use mathlib.Core.Path.{◌≡◌, refl, ap, ◌∙◌}
-use Prim.Native.Nat.{◌+◌, ◌-◌, ◌≤◌}
-use native.Mathlib.Omega.{arith}
+use mathlib.Core.Path.{◌≡◌}
+use Prim.Native.Nat.{◌-◌, ◌≤◌}
 use lib.ListN.{length}
 use Rattle.decode_idct.specs.Transform.{inverse_transform}
 use Rattle.decode_macroblock.specs.Compensation.{references}
-use Rattle.decode_macroblock.specs.Macroblock.{predicted_only, predicted_only_from, with_macroblock, with_macroblocks}
-use Rattle.decode_macroblock.proofs.RunLaws.{run-drawable}
-use Rattle.decode_macroblock.proofs.BlocksLaws.{run_none, run_more}
+use Rattle.decode_macroblock.specs.Macroblock.{predicted_only_from, with_macroblocks}
 use Rattle.decode_macroblock.proofs.write.write_predictions.Given as goal
 
 abbrev pub invariant-loop-k : goal.invariant-loop-k

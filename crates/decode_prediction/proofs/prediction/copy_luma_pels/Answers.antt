@@ -1,10 +1,6 @@
 -- `prediction::copy_luma_pels` meets its contract: before pel i of line j, the first 16 j + i pels are copied. Assumes nothing.
-use mathlib.Core.Path.{refl}
-use mathlib.Core.List.{List}
-use Prim.Native.Nat.{ℕ, ◌+◌, ◌-◌, ◌*◌, ◌/◌, ◌%◌, ◌≤◌}
 use native.Mathlib.Omega.{arith}
-use Rattle.math.proofs.Tab.{Filled, filled_none, filled_more, filled-to, filled-all}
-use Rattle.decode_prediction.specs.Prediction.{pel_at}
+use Rattle.math.proofs.Tab.{filled-all}
 use Rattle.decode_prediction.proofs.prediction.copy_luma_pels.Goals as goal
 
 pub returns : goal.returns

@@ -1,8 +1,4 @@
 -- `prediction::copy_pel` meets its contract: at whole pels the prediction is the pel itself. Assumes nothing.
-use Prim.Native.Nat.{◌+◌, ◌*◌, ◌/◌, ◌%◌, ◌<◌}
-use native.Mathlib.Omega.{arith}
-use borrow.Author.Rules.{rules}
-use lib.Arith.{digits_lt}
 use Rattle.decode_prediction.proofs.MeanLaws.{predicted-whole}
 use Rattle.decode_prediction.proofs.prediction.copy_pel.Goals as goal
 

@@ -3,7 +3,6 @@ use mathlib.Core.Path.{◌≡◌}
 use Prim.Native.Nat.{ℕ, ◌+◌, ◌*◌, ◌/◌, ◌%◌, ◌<◌}
 use native.Mathlib.Nat.{add-zero}
 use native.Mathlib.Omega.{arith}
-use borrow.Author.Rules.{rules}
 use lib.Arith.{digits_lt}
 use Rattle.decode_prediction.proofs.MeanLaws.{predicted-whole, predicted-half, predicted-mean}
 use Rattle.decode_prediction.proofs.prediction.predict_pel.Goals as goal

@@ -1,5 +1,4 @@
 -- `slice::slice_after` meets its contract: each field is the macroblock's, or a call's result. Assumes nothing.
-use borrow.Author.Rules.{rules}
 use Rattle.decode_state.proofs.PlanLaws.{pasts-within}
 use Rattle.decode_state.proofs.slice.slice_after.Goals as goal
 

@@ -1,12 +1,10 @@
 -- `vectors::decode` meets its contract: each component is decoded from its own code. Assumes nothing.
 use Prim.Native.Nat.{◌≤◌}
-use mathlib.Core.Path.{◌∙◌}
 use native.Mathlib.Nat.{lt_of_lt_of_le}
-use borrow.Author.Rules.{rules}
 use mir.Syntax.{w16, w32}
-use Rattle.math.proofs.Machine.{Held, number, fits, kept, bound, returned}
+use Rattle.math.proofs.Machine.{Held, number, kept, bound}
 use Rattle.decode_vectors.proofs.VectorLaws.{factor-most}
-use Rattle.decode_vectors.specs.Vector.{f_of, vector_of}
+use Rattle.decode_vectors.specs.Vector.{f_of}
 use Rattle.decode_state.proofs.vectors.decode.Goals as goal
 
 pub next_vector-right-requires : goal.next_vector-right-requires

@@ -1,8 +1,5 @@
 -- `vectors::next_vector_pasts` meets its contract: the pasts before the macroblock are in range, so its codes can be added. Assumes nothing.
-use mathlib.Core.Path.{◌∙◌}
-use borrow.Author.Rules.{rules}
 use Rattle.decode_state.proofs.PlanLaws.{before-within}
-use Rattle.decode_state.specs.Vectors.{next_vector_pasts}
 use Rattle.decode_state.proofs.vectors.next_vector_pasts.Goals as goal
 
 pub vector_pasts_after-requires : goal.vector_pasts_after-requires

@@ -1,13 +1,11 @@
 -- `vector::decode_vector` meets its contract: the test decides both fields, and bounds the numbers for `next_vector`. Assumes nothing.
-use mathlib.Core.Path.{◌≡◌, refl, sym, ◌∙◌}
-use mathlib.Core.Bool.{false}
+use mathlib.Core.Path.{◌≡◌, sym, ◌∙◌}
 use native.Mathlib.Nat.{lt_of_lt_of_le}
-use borrow.Author.Tests.{not-true, not-false}
-use borrow.Author.Rules.{rules}
+use borrow.Author.Tests.{not-false}
 use mir.Syntax.{w32}
 use mir.ValLaws.{to_z-of_z}
-use Rattle.math.proofs.Machine.{parameter, returned, bound}
-use Rattle.decode_vectors.specs.Vector.{vector_of, vector_entry_in_range}
+use Rattle.math.proofs.Machine.{parameter, bound}
+use Rattle.decode_vectors.specs.Vector.{vector_entry_in_range}
 use Rattle.decode_vectors.proofs.VectorLaws.{factor-most, InRange, all_known}
 use Rattle.decode_vectors.proofs.WrapLaws.{inside-within}
 use Rattle.decode_vectors.proofs.vector.decode_vector.Goals as goal

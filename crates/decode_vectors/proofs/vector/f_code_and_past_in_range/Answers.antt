@@ -1,10 +1,4 @@
 -- `vector::f_code_and_past_in_range` meets its contract: it makes the same tests as the definition, in the same order. Assumes nothing.
-use mathlib.Core.Path.{◌≡◌, sym, ◌∙◌}
-use borrow.Author.Tests.{le-leb, lt-leb}
-use borrow.Author.Rules.{rules}
-use mir.Syntax.{w32}
-use mir.ValLaws.{to_z-of_z}
-use Rattle.decode_vectors.specs.Vector.{f_of, past_in_range, f_code_and_past_in_range}
 use Rattle.decode_vectors.proofs.VectorLaws.{factor-most}
 use Rattle.decode_vectors.proofs.vector.f_code_and_past_in_range.Goals as goal
 

@@ -1,7 +1,6 @@
 -- `vector::next_vector` meets its contract: it wraps past plus difference, and no step overflows. Assumes nothing.
 use mathlib.Core.Path.{◌≡◌, ◌∙◌}
 use native.Mathlib.Nat.{le_of_lt}
-use borrow.Author.Rules.{rules}
 use lib.IntN.{pos, ◌+ℤ◌}
 use mir.Syntax.{w32}
 use Rattle.math.proofs.Machine.{Held, parameter, unsigned-most, result, returned, fits, kept, bound, ◌⊞◌}

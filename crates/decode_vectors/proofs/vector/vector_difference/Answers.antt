@@ -1,9 +1,8 @@
 -- `vector::vector_difference` meets its contract: `difference_size` gets the absolute value of the code, and the result its sign. Assumes nothing.
 use mathlib.Core.Path.{◌∙◌}
-use borrow.Author.Rules.{rules}
 use lib.IntN.{ℤ, pos, ◌+ℤ◌, ◌-ℤ◌, ◌*ℤ◌}
 use mir.Syntax.{w32}
-use Rattle.math.proofs.Machine.{Held, parameter, literal, result, fits, kept, bound, tested, ◌⊞◌, ◌⊟◌, ◌⊠◌}
+use Rattle.math.proofs.Machine.{Held, parameter, literal, result, kept, tested, ◌⊞◌, ◌⊟◌, ◌⊠◌}
 use Rattle.decode_vectors.proofs.VectorLaws.{difference_below, difference-above, difference-none}
 use Rattle.decode_vectors.proofs.vector.vector_difference.Goals as goal
 

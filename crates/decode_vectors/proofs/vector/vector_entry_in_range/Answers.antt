@@ -1,10 +1,9 @@
 -- `vector::vector_entry_in_range` meets its contract: it makes the same tests as the definition, in the same order. Assumes nothing.
-use mathlib.Core.Path.{◌≡◌, ap, sym, ◌∙◌}
-use borrow.Author.Tests.{not-true, not-false}
-use borrow.Author.Rules.{rules}
+use mathlib.Core.Path.{◌≡◌, sym, ◌∙◌}
+use borrow.Author.Tests.{not-false}
 use mir.Syntax.{w32}
 use mir.ValLaws.{to_z-of_z}
-use Rattle.decode_vectors.specs.Vector.{f_of, code_in_range, residual_in_range, f_code_and_past_in_range, vector_entry_in_range}
+use Rattle.decode_vectors.specs.Vector.{f_code_and_past_in_range}
 use Rattle.decode_vectors.proofs.VectorLaws.{f-code-and-past-known}
 use Rattle.decode_vectors.proofs.vector.vector_entry_in_range.Goals as goal
 

@@ -1,7 +1,7 @@
 -- `vector::wrap` meets its contract: it makes the same tests as the definition, and no step overflows. Assumes nothing.
 use lib.IntN.{ℤ, pos, ◌+ℤ◌, ◌-ℤ◌, ◌*ℤ◌}
 use mir.Syntax.{w32}
-use Rattle.math.proofs.Machine.{Held, parameter, literal, fits, kept, tested, ◌⊞◌, ◌⊟◌, ◌⊠◌}
+use Rattle.math.proofs.Machine.{Held, parameter, literal, kept, tested, ◌⊞◌, ◌⊟◌, ◌⊠◌}
 use Rattle.decode_vectors.specs.Vector.{wrapped, lowest, highest}
 use Rattle.decode_vectors.proofs.vector.wrap.Goals as goal
 

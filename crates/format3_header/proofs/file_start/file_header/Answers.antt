@@ -1,10 +1,9 @@
 -- `file_header` meets its contract: a legal header's numbers fit, and each path follows the answer that leads to it. Assumes nothing.
 use mathlib.Core.Path.{◌≡◌}
 use native.Mathlib.Omega.{arith}
-use borrow.Author.Rules.{rules}
 use Rattle.symbols.proofs.Laws.Size.{width_few, height-few}
 use Rattle.format3_header.specs.declared.file_start.FileStart.TheVariants.{HeaderRead}
-use Rattle.format3_header.specs.FileStart.{first_header, file_header_of}
+use Rattle.format3_header.specs.FileStart.{first_header}
 use Rattle.format3_header.proofs.Laws.FileStart.{begun}
 use Rattle.format3_header.proofs.file_start.file_header.Goals as goal
 

@@ -1,9 +1,8 @@
 -- `read_file_start` meets its contract: each path follows the answers that lead to it. Assumes nothing.
 use mathlib.Core.Path.{◌≡◌}
-use borrow.Author.Rules.{rules}
 use Rattle.format3_header.proofs.Laws.FileStart.{begun}
 use Rattle.format3_header.specs.declared.file_start.FileStart.TheVariants.{HeaderRead}
-use Rattle.format3_header.specs.FileStart.{first_header, file_start_of}
+use Rattle.format3_header.specs.FileStart.{first_header}
 use Rattle.format3_header.proofs.file_start.read_file_start.Goals as goal
 
 pub caller_verdict-verdict-requires : goal.caller_verdict-verdict-requires

@@ -1,6 +1,5 @@
 -- `read_header` meets its contract: the seven bytes are the fields in order. Assumes nothing.
 use borrow.Author.Tests.{eq-eqb, ne_eqb}
-use borrow.Author.Rules.{rules}
 use Rattle.symbols.specs.Guard.{require◌else◌then◌}
 use Rattle.format3_header.specs.Header.{header_of}
 use Rattle.format3_header.proofs.header.read_header.Goals as goal

@@ -1,9 +1,7 @@
 -- `caller_verdict` meets its contract: the size is within the limit or beyond it, and then the lengths decide. Assumes nothing.
 use mathlib.Core.Path.{sym, ◌∙◌}
-use lib.Dec.{lit≤}
-use borrow.Author.Rules.{rules}
 use Rattle.symbols.specs.Guard.{require◌else◌then◌}
-use Rattle.symbols.proofs.Laws.Size.{kept-within, not_within, within_more}
+use Rattle.symbols.proofs.Laws.Size.{kept-within, not_within}
 use Rattle.format3_header.specs.Lengths.{caller_verdict}
 use Rattle.format3_header.proofs.lengths.caller_verdict.Goals as goal
 

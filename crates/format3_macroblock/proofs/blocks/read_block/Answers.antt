@@ -1,10 +1,8 @@
 -- `read_block` meets its contract: a coded block is read, and stored with its marks once it is whole. Assumes nothing.
 use mathlib.Core.Bool.{true}
 use mathlib.Core.Path.{◌≡◌, refl, sym, ◌∙◌}
-use native.Mathlib.Omega.{arith}
-use borrow.Author.Rules.{rules}
-use borrow.Author.Tests.{not-true, not-false}
-use lib.ListN.{drop, length-drop}
+use borrow.Author.Tests.{not-false}
+use lib.ListN.{drop}
 use mir.Syntax.{w16}
 use mir.Val.{to_z, of_z}
 use Rattle.math.proofs.Machine.{returned}
@@ -16,7 +14,7 @@ use Rattle.decode_coefficients.proofs.MarkLaws.{block-stored}
 use Rattle.format3_macroblock.specs.Landing.{pairs_result}
 use Rattle.format3_macroblock.specs.Decoding.{one_block_coding, read_dc_of, dc_result, levels_into}
 use Rattle.format3_macroblock.proofs.Laws.Blocks.{past-legal}
-use Rattle.format3_macroblock.proofs.Laws.BlockArray.{begun, not-coded, dc-stops, levels-stop, block-found}
+use Rattle.format3_macroblock.proofs.Laws.BlockArray.{dc-stops, levels-stop, block-found}
 use Rattle.format3_macroblock.proofs.blocks.read_block.Goals as goal
 
 pub read_dc-start-requires : goal.read_dc-start-requires
@@ -53,7 +51,7 @@ returns-clause-parses_as c =
     let landing : ParsesAs (levels_into (one_block_coding c.args.coding) c.args.matrix.now (dc_block c.in-Legal.dc)) (drop c.in-Legal.after_dc.at c.args.rest.now) (pairs_result c.read_levels-read.result.answer c.read_levels-read.result.block) = rw (c.dc_block.ensures, same-dc, c.after-left.ensures) at c.read_levels-read.ensures.parses_as in
     let second : ParsesAs (levels_into (one_block_coding c.args.coding) c.args.matrix.now (dc_block c.in-Legal.dc)) (drop c.in-Legal.after_dc.at c.args.rest.now) (value c.read_levels-read.result.block c.in-Legal-answer.end.at) = rw c.in-Legal-answer.is at landing in
     rw (c.dc_pasts_with.ensures, same-dc, c.store_block.ensures)
-          (block-found _ _ _ _ _ is-coded first second)
+    (block-found _ _ _ _ _ is-coded first second)
 
 pub returns-clause-blocks_marked : goal.returns-clause-blocks_marked
 returns-clause-blocks_marked c =

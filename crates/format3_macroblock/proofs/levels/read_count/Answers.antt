@@ -1,5 +1,4 @@
 -- `read_count` meets its contract: it makes the same test as `count_of`. Assumes nothing.
-use borrow.Author.Rules.{rules}
 use borrow.Author.Tests.{not-true, not-false}
 use Rattle.symbols.specs.Guard.{require◌else◌then◌}
 use Rattle.symbols.specs.Parsed.{value, ParsesAs}

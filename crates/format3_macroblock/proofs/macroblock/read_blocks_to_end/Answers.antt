@@ -1,5 +1,4 @@
 -- `macroblock::read_blocks_to_end` meets its contract: it reads six blocks with the macroblock's matrix, and no byte is left. Assumes nothing.
-use borrow.Author.Rules.{rules}
 use Rattle.symbols.specs.Parsed.{value, ParsesAs}
 use Rattle.decode_coefficients.specs.declared.matrices.Matrices.{Matrices}
 use Rattle.decode_coefficients.specs.BlockArray.{six_blocks}

@@ -2,8 +2,7 @@
 -- The loop's invariant adds that these pairs plus those still to be read are all pairs.
 use mathlib.Core.Path.{◌≡◌, refl}
 use native.Mathlib.Omega.{arith}
-use borrow.Author.Rules.{rules}
-use lib.ListN.{drop, length-drop}
+use lib.ListN.{drop}
 use mir.Syntax.{w16}
 use mir.Val.{to_z, of_z}
 use Rattle.math.proofs.Bound.{within-eq}
@@ -13,7 +12,7 @@ use Rattle.symbols.proofs.Parsed.{all-at}
 use Rattle.format3_records.proofs.Laws.Field.{rest_from}
 use Rattle.format3_macroblock.specs.Pairs.{pair_of, pair_result}
 use Rattle.format3_macroblock.proofs.Laws.Pairs.{Legal, pair-legal}
-use Rattle.format3_macroblock.proofs.Laws.Landing.{BetweenPairs, at-start, stops, ends, one_more}
+use Rattle.format3_macroblock.proofs.Laws.Landing.{at-start, stops, ends, one_more}
 use Rattle.format3_macroblock.proofs.pairs.read_pairs.Goals as goal
 
 pub loop-left-init : goal.loop-left-init

@@ -1,5 +1,4 @@
 -- `read_slice_record` meets its contract: it makes the same tests as `slice_of`, in the same order. Assumes nothing.
-use borrow.Author.Rules.{rules}
 use borrow.Author.Tests.{eq-eqb, ne_eqb}
 use Rattle.symbols.specs.Guard.{require◌else◌then◌}
 use Rattle.symbols.specs.Parsed.{value, ParsesAs}

@@ -3,14 +3,13 @@ use mathlib.Core.Bool.{Bool, true}
 use mathlib.Core.Path.{◌≡◌, sym, ap, ◌∙◌}
 use Prim.Native.Nat.{◌+◌, ◌≤◌}
 use native.Mathlib.Omega.{arith}
-use borrow.Author.Rules.{rules}
 use borrow.Author.Tests.{not-true, not-false}
 use lib.IntN.{ℤ}
 use lib.ListN.{length, drop, length-drop}
 use lib.Seq.{drop-drop}
 use mir.Syntax.{w16, w32}
 use Rattle.math.proofs.Bound.{within-mag}
-use Rattle.math.proofs.Machine.{Held, parameter, fits, kept}
+use Rattle.math.proofs.Machine.{Held, parameter, kept}
 use Rattle.symbols.specs.Guard.{require◌else◌then◌}
 use Rattle.symbols.specs.Parsed.{value, ParsesAs}
 use Rattle.decode_vectors.specs.Vector.{code_in_range, residual_in_range}

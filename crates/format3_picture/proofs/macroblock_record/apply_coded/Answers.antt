@@ -3,7 +3,6 @@ use mathlib.Core.Bool.{Bool}
 use mathlib.Core.Path.{◌≡◌, refl, sym, ap, ◌∙◌, subst}
 use borrow.Author.Tests.{leb-true}
 use lib.Dec.{leb}
-use borrow.Author.Rules.{rules}
 use Rattle.symbols.specs.Parsed.{ParsesAs}
 use Rattle.symbols.proofs.Guard.{both}
 use Rattle.decode_coefficients.specs.Matrices.{matrices_of}
@@ -45,8 +44,7 @@ write_coded-requires c =
     let found-by : BlocksAnswer → Type 0 = λ answer. ParsesAs (decoded_to_end_of c.args.symbols (scale_after c.args.picture.slice.scale c.args.symbols) (matrices_of c.args.intra.now c.args.non_intra.now) (starting_dc_pasts c.args.picture.slice.dc c.args.symbols.increment)) c.args.rest.now (decoded_blocks_result answer c.read_blocks_to_end-blocks.new.coefficients) in
     let found : found-by c.read_blocks_to_end-blocks.result = rw (c.scale_after-scale.ensures, c.starting_dc_pasts-pasts.ensures) at c.read_blocks_to_end-blocks.ensures.parses_as in
     let read : BlocksRead (matrices_of c.args.intra.now c.args.non_intra.now) c.args.picture c.args.symbols c.args.rest.now (record { pasts = c.in-Legal.running; coefficients = six_blocks c.read_blocks_to_end-blocks.new.coefficients }) = blocks-read (matrices_of c.args.intra.now c.args.non_intra.now) c.args.picture c.args.symbols c.args.rest.now (subst (λ (x : BlocksAnswer). found-by x) c.in-Legal.is found) in
-    let plan-is : c.with_dc-plan.result ≡ plan_of c.args.picture.header c.args.picture.next c.args.picture.slice (symbols_with_dc_left c.args.symbols c.in-Legal.running) = c.with_dc-plan.ensures ∙ (λ i. with_dc (c.requires.2 i) ((c.dc_pasts_left.ensures ∙ ap (λ (intra : Bool). dc_pasts_left intra c.in-Legal.running) c.has_part-is_intra.ensures) i)) ∙ later-pasts c.args.picture c.args.symbols c.in-Legal.running in
-    (
+    let plan-is : c.with_dc-plan.result ≡ plan_of c.args.picture.header c.args.picture.next c.args.picture.slice (symbols_with_dc_left c.args.symbols c.in-Legal.running) = c.with_dc-plan.ensures ∙ (λ i. with_dc (c.requires.2 i) ((c.dc_pasts_left.ensures ∙ ap (λ (intra : Bool). dc_pasts_left intra c.in-Legal.running) c.has_part-is_intra.ensures) i)) ∙ later-pasts c.args.picture c.args.symbols c.in-Legal.running in (
       subst (λ (x : Plan). PlanWritable c.args.picture x c.args.forward.now c.args.backward.now c.args.output.now) (sym plan-is)
           (makeable c.args.picture _ c.requires.0.state (given-legal c.requires.1) c.requires.0.lent),
       c.requires.3 ∙ ap fit_verdict (sym (ap (record_fit c.args.picture.header.size) c.with_dc-plan.ensures ∙ same-fit c.args.picture.header.size c.args.start c.dc_pasts_left.result)),

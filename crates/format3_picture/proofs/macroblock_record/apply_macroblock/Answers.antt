@@ -5,7 +5,6 @@ use mathlib.Core.Path.{◌≡◌, sym, ap, ◌∙◌, subst}
 use Prim.Native.Nat.{ℕ, ◌-◌}
 use native.Mathlib.Omega.{arith}
 use lib.ListN.{length, drop, length-drop}
-use borrow.Author.Rules.{rules}
 use Rattle.symbols.specs.Parsed.{ParsesAs}
 use Rattle.decode_coefficients.specs.Matrices.{matrices_of}
 use Rattle.decode_coefficients.specs.declared.dc.DcPasts.{DcPasts}
@@ -118,8 +117,7 @@ write_predicted-requires c =
     let given : SymbolsRead c.args.picture c.in-Legal.symbols = record { body = c.args.body.now; rest = _; read = legal.0 } in
     let plan-is : c.make_plan-plan.result ≡ starting_plan c.args.picture c.in-Legal.symbols = c.make_plan-plan.ensures ∙ ap (λ (dc : DcPasts). plan_of c.args.picture.header c.args.picture.next c.args.picture.slice (record { symbols = c.in-Legal.symbols; dc = dc })) c.reset_dc_pasts-dc.ensures in
     let same-pattern : c.make_plan-plan.result.pattern ≡ c.in-Legal.symbols.pattern = ap (λ (p : Plan). p.pattern) plan-is in
-    let verdict-is : c.fit_verdict-verdict.result ≡ fit_verdict (record_fit c.args.picture.header.size c.make_plan-plan.result) = c.fit_verdict-verdict.ensures ∙ ap fit_verdict c.record_fit.ensures in
-    (
+    let verdict-is : c.fit_verdict-verdict.result ≡ fit_verdict (record_fit c.args.picture.header.size c.make_plan-plan.result) = c.fit_verdict-verdict.ensures ∙ ap fit_verdict c.record_fit.ensures in (
       subst (λ (x : Plan). PlanWritable c.args.picture x c.args.forward.now c.args.backward.now c.args.output.now) (sym plan-is)
           (makeable c.args.picture _ c.requires.state (given-legal given) c.requires.lent),
       verdict-is,

@@ -1,6 +1,5 @@
 -- `macroblock_record::write_coded` meets its contract: if all fit, it writes the skipped macroblocks, then its own. Assumes nothing.
 use mathlib.Core.Path.{sym, ◌∙◌}
-use borrow.Author.Rules.{rules}
 use Rattle.decode_coefficients.specs.BlockArray.{six_blocks}
 use Rattle.decode_idct.specs.Transform.{inverse_transform}
 use Rattle.decode_macroblock.specs.Compensation.{references}

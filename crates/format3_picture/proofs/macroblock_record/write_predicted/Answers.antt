@@ -1,8 +1,6 @@
 -- `macroblock_record::write_predicted` meets its contract: if all fit, it writes the skipped macroblocks, then its own. Assumes nothing.
 use mathlib.Core.Path.{sym, ◌∙◌}
 use mathlib.Core.List.{[]}
-use native.Mathlib.Omega.{arith}
-use borrow.Author.Rules.{rules}
 use Rattle.decode_idct.specs.Transform.{inverse_transform}
 use Rattle.decode_macroblock.specs.Compensation.{references}
 use Rattle.decode_macroblock.proofs.BlocksLaws.{macroblocks-none}

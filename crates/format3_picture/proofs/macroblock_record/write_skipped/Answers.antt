@@ -1,6 +1,5 @@
 -- `macroblock_record::write_skipped` meets its contract: one call, for macroblocks that fit. Assumes nothing.
 use native.Mathlib.Omega.{arith}
-use borrow.Author.Rules.{rules}
 use Rattle.format3_picture.proofs.WriteLaws.{each_fits}
 use Rattle.format3_picture.proofs.macroblock_record.write_skipped.Goals as goal
 

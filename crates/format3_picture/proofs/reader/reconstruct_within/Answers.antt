@@ -1,9 +1,7 @@
 -- `reader::reconstruct_within` meets its contract: once the header is read, the records follow; a refusal leaves the output as it was.
 -- Assumes nothing.
 use mathlib.Core.Path.{sym, ◌∙◌}
-use borrow.Author.Rules.{rules}
 use Rattle.format3_picture.proofs.StartLaws.{Started, header_read}
-use Rattle.format3_picture.specs.Picture.{picture_refusing}
 use Rattle.format3_picture.proofs.reader.reconstruct_within.Goals as goal
 
 pub read_records-requires : goal.read_records-requires

@@ -1,11 +1,9 @@
 -- `records::apply_matrix` meets its contract: it marks the matrix as loaded, or passes on the refusal. Assumes nothing.
 use mathlib.Core.Path.{◌≡◌, sym, ◌∙◌}
 use native.Mathlib.Omega.{arith}
-use borrow.Author.Rules.{rules}
 use Rattle.format3_records.specs.declared.verdict.Verdict.{Verdict}
 use Rattle.format3_matrices.specs.Matrix.{matrix_verdict}
 use Rattle.format3_matrices.proofs.Laws.Matrix.{passed-long}
-use Rattle.format3_picture.specs.Step.{matrix_applied}
 use Rattle.format3_picture.proofs.records.apply_matrix.Goals as goal
 
 pub mark_loaded-loaded-requires : goal.mark_loaded-loaded-requires

@@ -1,7 +1,6 @@
 -- `records::apply_record` meets its contract: each path follows the tests that lead to it. Assumes nothing.
 use mathlib.Core.Path.{sym, ◌∙◌}
 use borrow.Author.Tests.{eq-eqb, ne_eqb, not-true, not-false}
-use borrow.Author.Rules.{rules}
 use Rattle.symbols.specs.Guard.{require◌else◌then◌}
 use Rattle.decode_macroblock.proofs.BlocksLaws.{macroblocks-none}
 use Rattle.format3_picture.specs.Step.{record_applied_refusing}

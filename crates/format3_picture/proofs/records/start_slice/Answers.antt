@@ -1,6 +1,5 @@
 -- `records::start_slice` meets its contract: it resets the slice's state if the slice starts at the next address. Assumes nothing.
 use borrow.Author.Tests.{eq-eqb, ne_eqb}
-use borrow.Author.Rules.{rules}
 use Rattle.symbols.specs.Guard.{require◌else◌then◌}
 use Rattle.format3_picture.specs.Step.{slice_started}
 use Rattle.format3_picture.proofs.records.start_slice.Goals as goal

@@ -1,6 +1,4 @@
 -- `read_u16` meets its contract: it tests the length as `two_bytes` does, and two bytes fit a `u16`. Assumes nothing.
-use native.Mathlib.Omega.{arith}
-use borrow.Author.Rules.{rules}
 use Rattle.format3_records.proofs.Laws.Field.{word-short, word_read}
 use Rattle.format3_records.proofs.field.read_u16.Goals as goal
 

@@ -1,5 +1,4 @@
 -- `read_u8` meets its contract: it tests the length as `byte` does. Assumes nothing.
-use borrow.Author.Rules.{rules}
 use Rattle.format3_records.proofs.Laws.Field.{byte-short, byte-read}
 use Rattle.format3_records.proofs.field.read_u8.Goals as goal
 

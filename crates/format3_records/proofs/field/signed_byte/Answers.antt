@@ -4,8 +4,7 @@ use Prim.Native.Nat.{◌+◌, ◌%◌, ◌<◌}
 use native.Mathlib.Omega.{arith}
 use lib.IntN.{pos, ◌-ℤ◌}
 use mir.Syntax.{w16}
-use borrow.Author.Rules.{rules}
-use Rattle.math.proofs.Machine.{Held, literal, unsigned, kept, fits, ◌⊟◌}
+use Rattle.math.proofs.Machine.{Held, literal, unsigned, kept, ◌⊟◌}
 use Rattle.format3_records.proofs.Laws.Field.{complement-of}
 use Rattle.format3_records.proofs.field.signed_byte.Goals as goal
 

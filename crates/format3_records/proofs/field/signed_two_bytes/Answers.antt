@@ -1,13 +1,12 @@
 -- `signed_two_bytes` meets its contract: n + 32768, modulo 65536, less 32768 is the signed number that n encodes. Assumes nothing.
-use mathlib.Core.Path.{◌≡◌, sym, ap, subst, ◌∙◌}
+use mathlib.Core.Path.{◌≡◌, ap, ◌∙◌}
 use Prim.Native.Nat.{◌+◌, ◌%◌, ◌<◌}
 use native.Mathlib.Omega.{arith}
 use lib.IntN.{ℤ, pos, ◌-ℤ◌}
 use mir.Syntax.{w16, w32}
 use mir.Val.{SFits, to_z, of_z}
 use mir.ValLaws.{to_z-of_z}
-use borrow.Author.Rules.{rules}
-use Rattle.math.proofs.Machine.{Held, literal, unsigned, kept, fits, ◌⊟◌}
+use Rattle.math.proofs.Machine.{Held, literal, unsigned, kept, ◌⊟◌}
 use Rattle.format3_records.specs.Field.{twos_complement}
 use Rattle.format3_records.proofs.Laws.Field.{complement-of, complement-fits}
 use Rattle.format3_records.proofs.field.signed_two_bytes.Goals as goal

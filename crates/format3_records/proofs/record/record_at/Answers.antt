@@ -3,11 +3,9 @@ use mathlib.Core.Bool.{true}
 use mathlib.Core.List.{List}
 use mathlib.Core.Path.{◌≡◌}
 use Prim.Native.Nat.{ℕ, ◌+◌}
-use native.Mathlib.Omega.{arith}
 use lib.Dec.{leb}
 use lib.ListN.{length}
 use borrow.Author.Tests.{le-leb, lt-leb}
-use borrow.Author.Rules.{rules}
 use Rattle.symbols.specs.Guard.{require◌else◌then◌}
 use Rattle.format3_records.specs.Record.{record_of, record_length_at, kind_at}
 use Rattle.format3_records.proofs.Laws.Record.{none_left, few-left, head-left, past_end, before-end}

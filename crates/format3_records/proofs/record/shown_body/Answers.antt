@@ -1,10 +1,7 @@
 -- `shown_body` meets its contract: it slices the body that `record_at` found, which lies within the file. Assumes nothing.
-use mathlib.Core.Path.{refl}
 use Prim.Native.Nat.{◌+◌, ◌≤◌}
 use native.Mathlib.Omega.{arith}
-use native.Mathlib.Nat.{add-sub_cancel_left}
 use lib.ListN.{length}
-use borrow.Author.Rules.{rules}
 use Rattle.format3_records.proofs.Laws.Record.{inside}
 use Rattle.format3_records.proofs.record.shown_body.Goals as goal
 

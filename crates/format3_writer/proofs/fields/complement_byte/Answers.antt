@@ -1,10 +1,9 @@
 -- `fields::complement_byte` meets its contract: the 16-bit two's complement has the 8-bit one as its low byte. Assumes nothing.
 use mathlib.Core.Path.{ap, ◌∙◌}
 use Prim.Native.Nat.{ℕ, ◌%◌}
-use borrow.Author.Rules.{rules}
 use mir.Syntax.{w16}
 use Rattle.math.proofs.Bound.{within-mag}
-use Rattle.math.proofs.Machine.{Held, fits, kept, parameter}
+use Rattle.math.proofs.Machine.{Held, kept, parameter}
 use Rattle.format3_writer.specs.Bytes.{complement}
 use Rattle.format3_writer.proofs.Laws.Bytes.{low_byte}
 use Rattle.format3_writer.proofs.fields.complement_byte.Goals as goal

@@ -1,13 +1,11 @@
 -- `fields::complement_two_bytes` meets its contract: after 2^16 is added the value is not negative; the remainder is its two's complement.
 -- Assumes nothing.
 use Prim.Native.Nat.{◌*◌}
-use native.Mathlib.Omega.{arith}
-use borrow.Author.Rules.{rules}
 use lib.IntN.{pos, ◌+ℤ◌}
 use mir.Syntax.{w32}
 use Rattle.math.proofs.Bound.{within-mag}
-use Rattle.math.proofs.Machine.{Held, fits, kept, literal, parameter, ◌⊞◌}
-use Rattle.format3_writer.proofs.Laws.Bytes.{raw-not-negative, raw-below, raw-wraps}
+use Rattle.math.proofs.Machine.{Held, kept, literal, parameter, ◌⊞◌}
+use Rattle.format3_writer.proofs.Laws.Bytes.{raw-wraps}
 use Rattle.format3_writer.proofs.fields.complement_two_bytes.Goals as goal
 
 pub returns : goal.returns

@@ -1,8 +1,6 @@
 -- `fields::saturating_add` meets its contract: it adds only when the sum stays within `MAX_OFFSET`. Assumes nothing.
 use mathlib.Core.Path.{sym, ◌∙◌}
 use Prim.Native.Nat.{◌+◌, ◌≤◌}
-use native.Mathlib.Omega.{arith}
-use borrow.Author.Rules.{rules}
 use borrow.Author.Tests.{leb-true, leb-false}
 use Rattle.format3_writer.specs.Written.{max_offset}
 use Rattle.format3_writer.proofs.Laws.Written.{near-offset, far-offset}

@@ -1,10 +1,8 @@
 -- `fields::write_bytes` meets its contract: in each round, writing the remaining bytes gives the final buffer. Assumes nothing.
-use mathlib.Core.Path.{◌≡◌, refl, sym, ◌∙◌}
-use Prim.Native.Nat.{◌+◌, ◌-◌, ◌≤◌}
+use mathlib.Core.Path.{sym, ◌∙◌}
 use native.Mathlib.Omega.{arith}
-use lib.ListN.{length, drop, length-set}
-use Rattle.format3_writer.specs.Written.{written}
-use Rattle.format3_writer.proofs.Laws.Written.{written-past, written-none-left, written-one-more, written_start}
+use lib.ListN.{length-set}
+use Rattle.format3_writer.proofs.Laws.Written.{written-past, written-none-left, written-one-more}
 use Rattle.format3_writer.proofs.fields.write_bytes.Goals as goal
 
 pub returns-then-buffer-at : goal.returns-then-buffer-at

@@ -1,10 +1,8 @@
 -- `fields::write_bytes` meets its contract: in each round, writing the remaining bytes gives the final buffer. Assumes nothing.
-use mathlib.Core.Path.{◌≡◌, refl, sym, ◌∙◌}
+use mathlib.Core.Path.{◌≡◌}
 use Prim.Native.Nat.{◌+◌, ◌-◌, ◌≤◌}
-use native.Mathlib.Omega.{arith}
-use lib.ListN.{length, drop, length-set}
+use lib.ListN.{length, drop}
 use Rattle.format3_writer.specs.Written.{written}
-use Rattle.format3_writer.proofs.Laws.Written.{written-past, written-none-left, written-one-more, written_start}
 use Rattle.format3_writer.proofs.fields.write_bytes.Given as goal
 
 abbrev pub invariant-loop-k : goal.invariant-loop-k

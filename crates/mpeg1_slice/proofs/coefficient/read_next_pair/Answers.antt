@@ -1,7 +1,6 @@
 -- `read_next_pair` meets its contract: each arm is a clause of `next_pair_of`, and the code ends within the bytes. Assumes nothing.
 use mathlib.Core.Path.{◌≡◌, sym, ◌∙◌}
 use native.Mathlib.Omega.{arith}
-use borrow.Author.Rules.{rules}
 use borrow.Author.Tests.{le-leb, lt-leb}
 use mir.Syntax.{w16}
 use mir.Val.{to_z, of_z}

@@ -1,16 +1,12 @@
 -- `read_difference` meets its contract: it reads a size, then that many bits. Assumes nothing.
-use mathlib.Core.Path.{◌≡◌, refl}
+use mathlib.Core.Path.{◌≡◌}
 use Prim.Native.Nat.{◌≤◌}
-use borrow.Author.Rules.{rules}
-use borrow.Author.Tests.{eq-eqb, ne_eqb}
-use mir.Syntax.{w16}
-use Rattle.math.proofs.Machine.{returned}
 use Rattle.symbols.specs.Parsed.{parsed}
 use Rattle.symbols.proofs.Parsed.{all-at}
 use Rattle.mpeg1_bits.specs.Requires.{InBytes}
 use Rattle.mpeg1_slice.specs.Read.{word_at, field_at}
-use Rattle.mpeg1_slice.specs.Blocks.{size_words, difference_at}
-use Rattle.mpeg1_slice.proofs.Laws.Read.{step-read, step-refused, standing, word-onward, word-between, field_below}
+use Rattle.mpeg1_slice.specs.Blocks.{size_words}
+use Rattle.mpeg1_slice.proofs.Laws.Read.{step-read, standing, word-onward, word-between, field_below}
 use Rattle.mpeg1_slice.proofs.Laws.Words.{size-read}
 use Rattle.mpeg1_slice.proofs.difference.read_difference.Goals as goal
 

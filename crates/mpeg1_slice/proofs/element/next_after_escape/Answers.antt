@@ -1,6 +1,5 @@
 -- `next_after_escape` meets its contract: the code ends within the bytes. Assumes nothing.
 use native.Mathlib.Omega.{arith}
-use borrow.Author.Rules.{rules}
 use Rattle.mpeg1_vlc.proofs.Laws.Range.{increment-after-escape-read}
 use Rattle.mpeg1_slice.proofs.Laws.Read.{word_fits}
 use Rattle.mpeg1_slice.proofs.element.next_after_escape.Goals as goal

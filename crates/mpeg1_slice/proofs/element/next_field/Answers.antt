@@ -1,6 +1,5 @@
 -- `next_field` meets its contract: an n-bit number ends within the bytes. Assumes nothing.
 use native.Mathlib.Omega.{arith}
-use borrow.Author.Rules.{rules}
 use Rattle.mpeg1_slice.proofs.Laws.Read.{field_fits}
 use Rattle.mpeg1_slice.proofs.element.next_field.Goals as goal
 

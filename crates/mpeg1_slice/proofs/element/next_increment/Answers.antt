@@ -1,6 +1,5 @@
 -- `next_increment` meets its contract: the code ends within the bytes. Assumes nothing.
 use native.Mathlib.Omega.{arith}
-use borrow.Author.Rules.{rules}
 use Rattle.mpeg1_vlc.proofs.Laws.Range.{increment-read}
 use Rattle.mpeg1_slice.proofs.Laws.Read.{word_fits}
 use Rattle.mpeg1_slice.proofs.element.next_increment.Goals as goal

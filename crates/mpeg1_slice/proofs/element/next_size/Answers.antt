@@ -1,9 +1,6 @@
 -- `next_size` meets its contract: it makes the test of `size_words`, and the code ends within the bytes. Assumes nothing.
 use native.Mathlib.Omega.{arith}
-use borrow.Author.Rules.{rules}
-use borrow.Author.Tests.{lt-ltb, le-ltb}
 use Rattle.mpeg1_vlc.proofs.Laws.Range.{luminance-size-read, chrominance-size-read}
-use Rattle.mpeg1_slice.specs.Blocks.{size_words}
 use Rattle.mpeg1_slice.proofs.Laws.Read.{word_fits}
 use Rattle.mpeg1_slice.proofs.element.next_size.Goals as goal
 

@@ -1,15 +1,10 @@
 -- `skip_extra` meets its contract: after each byte, reading on gives the same result, with fewer bits left. Assumes nothing.
 use mathlib.Core.Path.{◌≡◌}
-use Prim.Native.Nat.{◌+◌, ◌*◌, ◌-◌}
 use native.Mathlib.Omega.{arith}
-use borrow.Author.Rules.{rules}
-use lib.ListN.{length}
 use Rattle.symbols.specs.Parsed.{parsed}
-use Rattle.mpeg1_bits.specs.Bits.{bits_from, bit_offset}
 use Rattle.mpeg1_slice.specs.Read.{field_at}
-use Rattle.mpeg1_slice.specs.Slice.{after_extra}
 use Rattle.mpeg1_slice.proofs.Laws.Read.{step-read, step-refused}
-use Rattle.mpeg1_slice.proofs.Laws.Extra.{Extra, extra-start, extra-refused, extra-read, extra-cut, extra-again, bit-ahead, byte-ahead}
+use Rattle.mpeg1_slice.proofs.Laws.Extra.{extra-refused, extra-read, extra-cut, extra-again, bit-ahead, byte-ahead}
 use Rattle.mpeg1_slice.proofs.extra.skip_extra.Goals as goal
 
 pub returns-in-Refused : goal.returns-in-Refused

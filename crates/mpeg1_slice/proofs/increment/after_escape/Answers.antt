@@ -2,14 +2,13 @@
 use mathlib.Core.Path.{◌≡◌}
 use Prim.Native.Nat.{ℕ, ◌+◌, ◌-◌, ◌<◌, ◌≤◌}
 use native.Mathlib.Omega.{arith}
-use borrow.Author.Rules.{rules}
 use Rattle.symbols.specs.Size.{max_macroblocks}
 use Rattle.symbols.specs.Parsed.{parsed}
 use Rattle.mpeg1_tables.specs.AnnexB.{increments_after_escape}
 use Rattle.mpeg1_slice.specs.Read.{word_at}
-use Rattle.mpeg1_slice.specs.Increment.{amount_of, after_escape}
+use Rattle.mpeg1_slice.specs.Increment.{amount_of}
 use Rattle.mpeg1_slice.proofs.Laws.Read.{step-read, step-refused}
-use Rattle.mpeg1_slice.proofs.Laws.Increment.{Escaped, escaped-start, escaped-refused, escaped-past, escaped-read, escaped-again, escape-amount}
+use Rattle.mpeg1_slice.proofs.Laws.Increment.{escaped-refused, escaped-past, escaped-read, escaped-again, escape-amount}
 use Rattle.mpeg1_slice.proofs.increment.after_escape.Goals as goal
 
 pub returns-in-Refused : goal.returns-in-Refused

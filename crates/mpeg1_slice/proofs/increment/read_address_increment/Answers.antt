@@ -1,14 +1,12 @@
 -- `read_address_increment` meets its contract: the first code after stuffing is an increment or an escape. Assumes nothing.
 use mathlib.Core.Path.{◌≡◌}
 use Prim.Native.Nat.{◌+◌}
-use borrow.Author.Rules.{rules}
-use borrow.Author.Tests.{eq-eqb, ne_eqb}
 use lib.ListN.{length}
 use Rattle.symbols.specs.Parsed.{parsed}
 use Rattle.symbols.proofs.Parsed.{all-at}
 use Rattle.mpeg1_bits.specs.Bits.{bits_from}
-use Rattle.mpeg1_slice.specs.Increment.{after_stuffing, increment_at}
-use Rattle.mpeg1_slice.proofs.Laws.Read.{step-read, step-refused, standing}
+use Rattle.mpeg1_slice.specs.Increment.{after_stuffing}
+use Rattle.mpeg1_slice.proofs.Laws.Read.{step-read, standing}
 use Rattle.mpeg1_slice.proofs.Laws.Onward.{first-code-ahead}
 use Rattle.mpeg1_slice.proofs.increment.read_address_increment.Goals as goal
 

@@ -1,17 +1,14 @@
 -- `read_component` meets its contract: it reads a code, then its residual. Assumes nothing.
-use mathlib.Core.Path.{◌≡◌, refl}
+use mathlib.Core.Path.{◌≡◌}
 use native.Mathlib.Omega.{arith}
-use borrow.Author.Rules.{rules}
-use mir.Syntax.{w8}
-use Rattle.math.proofs.Machine.{returned}
 use Rattle.symbols.specs.Parsed.{parsed}
 use Rattle.symbols.proofs.Parsed.{all-at}
 use Rattle.mpeg1_bits.specs.Requires.{InBytes}
 use Rattle.mpeg1_tables.specs.AnnexB.{motion_codes}
 use Rattle.mpeg1_vlc.proofs.Laws.Range.{motion-code-read}
 use Rattle.mpeg1_slice.specs.Read.{word_at}
-use Rattle.mpeg1_slice.specs.Vectors.{residual_at, component_at}
-use Rattle.mpeg1_slice.proofs.Laws.Read.{step-read, step-refused, standing, word-onward, word-between}
+use Rattle.mpeg1_slice.specs.Vectors.{residual_at}
+use Rattle.mpeg1_slice.proofs.Laws.Read.{step-read, standing, word-onward, word-between}
 use Rattle.mpeg1_slice.proofs.Laws.Residual.{residual-small}
 use Rattle.mpeg1_slice.proofs.vectors.read_component.Goals as goal
 

@@ -2,7 +2,6 @@
 use mathlib.Core.Path.{◌≡◌, sym, ◌∙◌}
 use mathlib.Core.Bool.{true}
 use native.Mathlib.Omega.{arith}
-use borrow.Author.Rules.{rules}
 use Rattle.mpeg1_vlc.specs.Coefficient.{is_one_alone}
 use Rattle.mpeg1_vlc.proofs.Laws.Coefficient.{one-there, one-alone, words-shared}
 use Rattle.mpeg1_vlc.proofs.coefficient.coefficient_in.Goals as goal

@@ -3,7 +3,6 @@ use mathlib.Core.Path.{refl, sym, ◌∙◌}
 use native.Mathlib.Omega.{arith}
 use mir.Syntax.{w16}
 use borrow.Author.Tests.{eq-eqb, ne_eqb}
-use borrow.Author.Rules.{rules}
 use Rattle.math.proofs.Machine.{returned}
 use Rattle.mpeg1_tables.specs.AnnexB.{large_positive, large_negative}
 use Rattle.mpeg1_vlc.proofs.Laws.Coefficient.{escape-short, escape-level}

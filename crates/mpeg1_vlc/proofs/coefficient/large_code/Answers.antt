@@ -1,16 +1,15 @@
 -- `large_code` meets its contract: the bits, padded with zeros and with ones, are the ends of the numbers that begin with them. Assumes nothing.
 use mathlib.Core.Path.{◌≡◌, ◌∙◌, sym}
 use mathlib.Core.Bool.{cond}
-use Prim.Native.Nat.{◌+◌, ◌*◌, ◌-◌, ◌/◌, ◌^◌, ◌≤◌}
+use Prim.Native.Nat.{◌+◌, ◌*◌, ◌-◌, ◌/◌, ◌^◌}
 use native.Mathlib.Omega.{arith}
 use lib.Dec.{ltb, leb}
 use borrow.Author.Tests.{le-leb, lt-leb, lt-ltb, le-ltb}
-use borrow.Author.Rules.{rules}
 use Rattle.mpeg1_bits.specs.Bits.{bits_in}
 use Rattle.mpeg1_tables.specs.declared.code.Code.TheVariants.{Value, NoCode, Truncated}
 use Rattle.mpeg1_tables.specs.Code.{code_of}
 use Rattle.mpeg1_tables.specs.AnnexB.{byte_words}
-use Rattle.mpeg1_vlc.proofs.Laws.Large.{range_of, large-range, low_small, padded-small}
+use Rattle.mpeg1_vlc.proofs.Laws.Large.{range_of, large-range}
 use Rattle.mpeg1_vlc.proofs.coefficient.large_code.Goals as goal
 
 pub returns-then-first-padding : goal.returns-then-first-padding

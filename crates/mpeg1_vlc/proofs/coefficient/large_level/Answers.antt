@@ -3,7 +3,6 @@ use mathlib.Core.Path.{◌≡◌, refl, ap, sym, ◌∙◌}
 use native.Mathlib.Omega.{arith}
 use lib.ListN.{drop}
 use mir.Syntax.{w16}
-use borrow.Author.Rules.{rules}
 use Rattle.math.proofs.Machine.{returned}
 use Rattle.mpeg1_bits.specs.Bits.{bits_in}
 use Rattle.mpeg1_tables.specs.Code.{code_of}

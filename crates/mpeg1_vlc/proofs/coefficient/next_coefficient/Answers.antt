@@ -1,11 +1,9 @@
 -- `next_coefficient` meets its contract: it reads the word, then what follows it. Assumes nothing.
 use mathlib.Core.Path.{◌≡◌, sym, ◌∙◌}
-use borrow.Author.Rules.{rules}
 use Rattle.mpeg1_bits.specs.Bits.{bits_in}
 use Rattle.mpeg1_tables.specs.declared.code.Code.TheVariants.{Value}
 use Rattle.mpeg1_tables.specs.Code.{code_of}
 use Rattle.mpeg1_tables.specs.AnnexB.{next_coefficients}
-use Rattle.mpeg1_vlc.specs.Coefficient.{coefficient_code_of}
 use Rattle.mpeg1_vlc.proofs.Laws.Coefficient.{word-found}
 use Rattle.mpeg1_vlc.proofs.coefficient.next_coefficient.Goals as goal
 

@@ -1,7 +1,5 @@
 -- `read_coefficient` meets its contract: the next 32 bits decide the coefficient. Assumes nothing.
 use mathlib.Core.Path.{◌∙◌}
-use borrow.Author.Rules.{rules}
-use Rattle.mpeg1_vlc.proofs.Laws.Rest.{next-count}
 use Rattle.mpeg1_vlc.proofs.Laws.CoefficientRest.{rest-words}
 use Rattle.mpeg1_vlc.proofs.coefficient.read_coefficient.Goals as goal
 

@@ -3,7 +3,6 @@ use mathlib.Core.Path.{refl}
 use Prim.Native.Nat.{◌-◌}
 use native.Mathlib.Omega.{arith}
 use mir.Syntax.{w16}
-use borrow.Author.Rules.{rules}
 use Rattle.math.proofs.Machine.{returned}
 use Rattle.mpeg1_vlc.specs.Coefficient.{signed_of}
 use Rattle.mpeg1_vlc.proofs.Laws.Field.{field-short, field-value}

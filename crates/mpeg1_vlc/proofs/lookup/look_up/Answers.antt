@@ -1,6 +1,5 @@
 -- `look_up` meets its contract: the bits after the row's zeros are the index of the entry for just these bits. Assumes nothing.
 use mathlib.Core.Path.{◌∙◌}
-use borrow.Author.Rules.{rules}
 use Rattle.mpeg1_vlc.proofs.Laws.LookUp.{looked-up}
 use Rattle.mpeg1_vlc.proofs.lookup.look_up.Goals as goal
 

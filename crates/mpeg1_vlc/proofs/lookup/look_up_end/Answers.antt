@@ -2,9 +2,7 @@
 use mathlib.Core.Path.{◌∙◌}
 use Prim.Native.Nat.{◌+◌, ◌*◌, ◌-◌, ◌/◌, ◌^◌, ◌<◌}
 use native.Mathlib.Omega.{arith}
-use lib.Pow.{pow_pos}
-use borrow.Author.Rules.{rules}
-use Rattle.mpeg1_vlc.proofs.Laws.LookUp.{zeros-there, padded-below, looked-up-at-end}
+use Rattle.mpeg1_vlc.proofs.Laws.LookUp.{padded-below, looked-up-at-end}
 use Rattle.mpeg1_vlc.proofs.lookup.look_up_end.Goals as goal
 
 pub offset_bounds-codes-row : goal.offset_bounds-codes-row

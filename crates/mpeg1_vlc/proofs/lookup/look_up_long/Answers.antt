@@ -1,9 +1,8 @@
 -- `look_up_long` meets its contract: eight bits decide the code unless five zeros lead to the next row, where 13 bits do. Assumes nothing.
 use mathlib.Core.Path.{◌∙◌}
-use Prim.Native.Nat.{◌+◌}
 use native.Mathlib.Omega.{arith}
 use Rattle.mpeg1_vlc.specs.Requires.{LookUpFits}
-use Rattle.mpeg1_vlc.proofs.Laws.Level.{LongRow, long-row, fits-first, fits_after, row-whole, row-settles, long-code}
+use Rattle.mpeg1_vlc.proofs.Laws.Level.{LongRow, long-row, fits-first, row-whole, row-settles, long-code}
 use Rattle.mpeg1_vlc.proofs.lookup.look_up_long.Goals as goal
 
 pub returns-then-next-lt8 : goal.returns-then-next-lt8

@@ -1,7 +1,6 @@
 -- `look_up_short` meets its contract: no word of the row has more than eight bits. Assumes nothing.
 use mathlib.Core.Path.{◌∙◌}
-use native.Mathlib.Omega.{arith}
-use Rattle.mpeg1_vlc.proofs.Laws.Level.{ShortRow, short_row, fits-first, short-code}
+use Rattle.mpeg1_vlc.proofs.Laws.Level.{ShortRow, short_row, short-code}
 use Rattle.mpeg1_vlc.proofs.lookup.look_up_short.Goals as goal
 
 pub returns : goal.returns

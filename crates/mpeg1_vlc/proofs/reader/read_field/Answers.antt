@@ -1,7 +1,6 @@
 -- `read_field` meets its contract: the window's first n bits are the number. Assumes nothing.
 use mathlib.Core.Path.{sym}
 use native.Mathlib.Omega.{arith}
-use borrow.Author.Rules.{rules}
 use Rattle.mpeg1_vlc.proofs.Laws.Rest.{next-count}
 use Rattle.mpeg1_vlc.proofs.Laws.Field.{rest-short, rest-value, value-fits}
 use Rattle.mpeg1_vlc.proofs.reader.read_field.Goals as goal

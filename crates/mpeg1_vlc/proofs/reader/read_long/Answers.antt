@@ -1,9 +1,8 @@
 -- `read_long` meets its contract: the next 32 bits decide the code. Assumes nothing.
 use mathlib.Core.Path.{◌∙◌}
 use native.Mathlib.Omega.{arith}
-use borrow.Author.Rules.{rules}
 use Rattle.mpeg1_vlc.proofs.Laws.Level.{long-row}
-use Rattle.mpeg1_vlc.proofs.Laws.Rest.{next-count, rest-code}
+use Rattle.mpeg1_vlc.proofs.Laws.Rest.{rest-code}
 use Rattle.mpeg1_vlc.proofs.reader.read_long.Goals as goal
 
 pub returns : goal.returns

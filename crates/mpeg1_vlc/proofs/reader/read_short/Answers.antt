@@ -1,8 +1,7 @@
 -- `read_short` meets its contract: the next 32 bits decide the code. Assumes nothing.
 use mathlib.Core.Path.{◌∙◌}
-use borrow.Author.Rules.{rules}
 use Rattle.mpeg1_vlc.proofs.Laws.Level.{short_row}
-use Rattle.mpeg1_vlc.proofs.Laws.Rest.{next-count, rest-code}
+use Rattle.mpeg1_vlc.proofs.Laws.Rest.{rest-code}
 use Rattle.mpeg1_vlc.proofs.reader.read_short.Goals as goal
 
 pub returns : goal.returns

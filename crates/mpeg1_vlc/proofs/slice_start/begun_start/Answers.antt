@@ -1,7 +1,6 @@
 -- `begun_start` meets its contract: the prefix starts with 23 zeros, so fewer bits can only become it if all are zeros. Assumes nothing.
 use mathlib.Core.Path.{sym}
 use native.Mathlib.Omega.{arith}
-use borrow.Author.Rules.{rules}
 use Rattle.mpeg1_vlc.proofs.Laws.SliceStart.{begun-short, begun-none}
 use Rattle.mpeg1_vlc.proofs.slice_start.begun_start.Goals as goal
 

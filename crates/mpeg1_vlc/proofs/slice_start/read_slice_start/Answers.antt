@@ -1,7 +1,5 @@
 -- `read_slice_start` meets its contract: the next 32 bits decide the start code. Assumes nothing.
 use mathlib.Core.Path.{◌∙◌}
-use borrow.Author.Rules.{rules}
-use Rattle.mpeg1_vlc.proofs.Laws.Rest.{next-count}
 use Rattle.mpeg1_vlc.proofs.Laws.SliceStart.{rest-start}
 use Rattle.mpeg1_vlc.proofs.slice_start.read_slice_start.Goals as goal
 

@@ -2,7 +2,6 @@
 use mathlib.Core.Path.{sym, ◌∙◌}
 use native.Mathlib.Omega.{arith}
 use borrow.Author.Tests.{lt-ltb, le-ltb}
-use borrow.Author.Rules.{rules}
 use Rattle.mpeg1_vlc.proofs.Laws.SliceStart.{start_none, start-short, start-row}
 use Rattle.mpeg1_vlc.proofs.slice_start.slice_start.Goals as goal
 

@@ -6,7 +6,6 @@ use native.Mathlib.Omega.{arith}
 use borrow.Author.Tests.{le-leb, lt-leb}
 use lib.Dec.{leb}
 use lib.ListN.{length}
-use borrow.Author.Rules.{rules}
 use Rattle.symbols.specs.Guard.{require◌else◌then◌}
 use Rattle.reel_parts.specs.Part.{part_at}
 use Rattle.reel_parts.proofs.part.part_at.Goals as goal

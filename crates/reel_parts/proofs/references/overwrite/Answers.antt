@@ -1,9 +1,7 @@
 -- `overwrite` meets its contract: it copies as many bytes as fit. Assumes nothing.
 use mathlib.Core.Path.{sym, ◌∙◌}
 use native.Mathlib.Omega.{arith}
-use lib.ListN.{length, length-take}
-use lib.Seq.{take_all}
-use borrow.Author.Rules.{rules}
+use lib.ListN.{length-take}
 use Rattle.format3_writer.proofs.Laws.Written.{written-clipped, written-whole}
 use Rattle.reel_parts.proofs.references.overwrite.Goals as goal
 

@@ -1,7 +1,6 @@
 -- `carry` meets its contract: it makes the test of `carried_from`. Assumes nothing.
-use borrow.Author.Tests.{eq-eqb, ne_eqb}
-use borrow.Author.Rules.{rules}
-use Rattle.reel_player.proofs.PlayLaws.{newer-length, nothing-kept}
+use borrow.Author.Tests.{eq-eqb}
+use Rattle.reel_player.proofs.PlayLaws.{nothing-kept}
 use Rattle.reel_player.proofs.play.carry.Goals as goal
 
 pub returns-in_default-clause-older_after : goal.returns-in_default-clause-older_after

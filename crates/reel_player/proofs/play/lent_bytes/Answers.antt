@@ -1,6 +1,4 @@
 -- `lent_bytes` meets its contract: it has the cases and the test of `lent_bytes`. Assumes nothing.
-use borrow.Author.Tests.{le-leb, lt-leb}
-use borrow.Author.Rules.{rules}
 use Rattle.reel_player.proofs.play.lent_bytes.Goals as goal
 
 pub macroblocks-requires : goal.macroblocks-requires

@@ -1,13 +1,6 @@
 -- `play_file` meets its contract: the lent part fits the buffer, and its old bytes don't matter. Assumes nothing.
-use mathlib.Core.List.{List, ◌++◌}
-use mathlib.Core.Path.{sym, ap}
-use Prim.Native.Nat.{ℕ, ◌≤◌}
-use native.Mathlib.Omega.{arith}
-use lib.ListN.{length, drop}
-use lib.Seq.{length-take-le}
-use borrow.Author.Rules.{rules}
 use Rattle.reel_player.specs.Next.{output_after}
-use Rattle.reel_player.proofs.PlayLaws.{start-within, lent-within, file-played}
+use Rattle.reel_player.proofs.PlayLaws.{start-within, file-played}
 use Rattle.reel_player.proofs.play.play_file.Goals as goal
 
 pub lent_bytes-lent-requires : goal.lent_bytes-lent-requires

@@ -1,14 +1,11 @@
 -- `play_next` meets its contract: the file it finds lies within the reel. Assumes nothing.
-use mathlib.Core.Path.{◌≡◌, refl}
+use mathlib.Core.Path.{◌≡◌}
 use Prim.Native.Nat.{◌+◌, ◌≤◌}
-use native.Mathlib.Nat.{add-sub_cancel_left}
 use native.Mathlib.Omega.{arith}
 use lib.ListN.{length}
-use borrow.Author.Rules.{rules}
 use Rattle.reel_parts.specs.Part.{part_at}
 use Rattle.reel_parts.specs.declared.part.Part.TheVariants.{File}
 use Rattle.reel_parts.proofs.PartLaws.{inside}
-use Rattle.reel_player.specs.Next.{next_of}
 use Rattle.reel_player.proofs.play.play_next.Goals as goal
 
 pub overflow_add-number : goal.overflow_add-number

@@ -2,7 +2,6 @@
 use Prim.Native.Nat.{◌≤◌}
 use native.Mathlib.Omega.{arith}
 use lib.ListN.{length}
-use borrow.Author.Rules.{rules}
 use Rattle.text_writer.specs.Number.{space, field, field_bytes}
 use Rattle.text_writer.proofs.NumberLaws.{field-most}
 use Rattle.text_writer.proofs.PutLaws.{put, put_then}
