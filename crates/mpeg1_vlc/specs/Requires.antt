@@ -7,7 +7,7 @@ use Rattle.mpeg1_tables.specs.AnnexB.{coefficient_escape}
 -- how many bits a window must have: eight for a row after zeros; where there are fewer, the list's first row is looked up
 abbrev pub fewest_bits : ℕ → ℕ
 fewest_bits zero = 0
-fewest_bits (suc zeros) = 8
+fewest_bits (suc further) = 8
 
 -- the window starts with the row's zeros, so the bits after them can be looked up in the row
 pub record LookUpFits (r zeros : ℕ) (next : Window) : Type 0 where

@@ -132,7 +132,7 @@ fits-first r next h e b m = record { there = h; begins = e; few = omega arith; e
 
 fewest-there : (zeros n : ℕ) → 8 ≤ n → fewest_bits zeros ≤ n
 fewest-there zero n h = omega arith
-fewest-there (suc zeros) n h = h
+fewest-there (suc further) n h = h
 
 pub fits_after : (r zeros : ℕ) (next : Window) → r < 16 → (table_row_at r).zeros ≡ zeros → zeros ≤ 8 → next.bits / 2 ^ (24 - zeros) < 256 → 8 ≤ next.count → next.count ≤ 32 → LookUpFits r zeros next
 fits_after r zeros next h e z b g m = record { there = h; begins = e; few = z; enough = fewest-there zeros next.count g; most = m; low = b }

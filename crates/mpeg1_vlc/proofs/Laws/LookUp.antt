@@ -19,7 +19,7 @@ use Rattle.mpeg1_vlc.proofs.Laws.Padding.{code-unpadded}
 -- the row's zeros are in the window
 pub zeros-there : (k zeros : ℕ) (next : Window) → LookUpFits k zeros next → zeros ≤ next.count
 zeros-there k zero next f = omega arith
-zeros-there k (suc zeros) next f = omega (arith, f.few, f.enough)
+zeros-there k (suc further) next f = omega (arith, f.few, f.enough)
 
 -- the window has all eight bits after the row's zeros, or fewer
 module _ (k zeros : ℕ) (next : Window) (f : LookUpFits k zeros next) where
