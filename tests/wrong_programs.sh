@@ -1,18 +1,19 @@
 #!/usr/bin/env bash
 # tests/wrong_programs.sh [CRATES LOGS]: checks the wrong programs under CRATES/*/must-fail (default: crates) mistake by mistake, from the logs
-# that `rt ci` or `rt must-fail` leaves under LOGS (default: target/must-fail).
+# that tests/wrong_logs.sh leaves under LOGS (default: target/must-fail).
 #
 # An edit has one or more mistakes, each a line `# NAME, refused at PATH` with its replacements below. PATH is the folder under proofs/ of
-# the function that is wrong or, if a law refutes the mistake, the law's file under proofs/, with its ending.
+# the function that is wrong (whether it has files there or not) or, if a law refutes the mistake, the law's file under proofs/, with its ending.
 # `rt` only says that the edit as a whole is refused. This script checks that each mistake is refused at its path, because a fact fails:
-# - There is an error at that path, other than that something it uses was not admitted; or, if the checker makes the function's proof
-#   itself, it found none.
-# - No error there says that the proof's text doesn't fit the code: that a need or field it names is missing, that a loop has other
-#   locals, or, when the needs are put together, that they are different. Such an edit proves nothing.
+# - There is an error at that path, other than that something it uses was not admitted; or, if the checker looks for the function's proof
+#   itself, it found none for one of its goals.
+# - No error there says that the proof's text doesn't fit the code: that a goal, a loop or a fact that it names is not there. Such an edit
+#   shows nothing.
 # - Wrong code (an edit of src/) has no error at any other path. So several mistakes may share an edit, each in its own function.
-# - Other proofs are checked against a definition (specs/) or a clause of a contract too. If a wrong one is alone in its edit, the log's
-#   first error is at the path it names, and other paths may have errors. If it shares an edit, the rule for wrong code applies, and
-#   the functions and proofs of the other mistakes must not name it.
+# - Other proofs are checked against a definition (specs/) or a clause of a contract too. If a wrong one is alone in its edit, other paths
+#   may have errors, but the first error is at the path it names: of the errors in files, or of the functions whose proof was not found,
+#   whichever that path has. If it shares an edit, the rule for wrong code applies, and the functions and proofs of the other mistakes must
+#   not name it.
 set -euo pipefail
 cd "$(dirname "$0")/.."
 crates=${1:-crates}
@@ -26,7 +27,7 @@ mistakes_of() { # EDIT
         function wrong(what) { print FILENAME ":" FNR ": " what > "/dev/stderr"; failed = 1 }
         # The name of the function or definition that a line declares.
         function declared(line) {
-            if (sub(/^ *(pub )?(extern "C" )?fn /, "", line)) sub(/[<(].*/, "", line)
+            if (sub(/^ *(pub(\([a-z]+\))? )?(extern "C" )?fn /, "", line)) sub(/[<(].*/, "", line)
             else if (line ~ /^ *((abbrev|unfoldable|pub) )*((record|data) [^ ]+|[^ ]+ :) /) {
                 gsub(/^ *|(abbrev|unfoldable|pub|record|data) /, "", line)
                 sub(/ .*/, "", line)
@@ -54,9 +55,14 @@ mistakes_of() { # EDIT
         }
         # Whether a name occurs in a text.
         function has(text, name) { return name != "" && text ~ ("(^|[^A-Za-z0-9_-])" name "([^A-Za-z0-9_-]|$)") }
-        function proof_of(path,    line, text) {
-            while ((getline line < (crate "/proofs/" path "/Proof.antt")) > 0) text = text line "\n"
-            close(crate "/proofs/" path "/Proof.antt")
+        # What the files of the proof of a function say.
+        function proof_of(path,    names, count, k, file, line, text) {
+            count = split("Answers Invariants Proof", names, " ")
+            for (k = 1; k <= count; k++) {
+                file = crate "/proofs/" path "/" names[k] ".antt"
+                while ((getline line < file) > 0) text = text line "\n"
+                close(file)
+            }
             return text
         }
         /^# [a-z0-9_]+, refused at [A-Za-z0-9_\/]+(\.antt)?$/ {
@@ -70,6 +76,7 @@ mistakes_of() { # EDIT
         /^file: / { file = crate "/" substr($0, 7); next }
         /^old: / {
             here = place_of(substr($0, 6))
+            if (here == file) wrong("the old text is not in its file")
             if (places[mistakes] != "" && here != places[mistakes]) wrong("a mistake in two places: each has a name of its own")
             places[mistakes] = here
             texts[mistakes] = around
@@ -92,42 +99,41 @@ mistakes_of() { # EDIT
         }' "$1"
 }
 
-# The errors of a log in order, one per line: `fact`, or `text` if the proof does not fit the code; and the path.
+# The errors of a log in order, one per line: `fact`, or `text` if the proof does not fit the code; the path; and `file` if the error is one of
+# a file, or `none` if no proof was found.
 errors_of() { # LOG
-    awk -v folder="${1%/.log}" '
+    awk '
         function told() {
-            if (place != "") print kind, place
+            if (place != "") print kind, place, how
             place = ""
         }
         function at(path) {
-            sub(/^[^ ]*\/must-fail\/[^\/ ]+\/[^\/ ]+\//, "", path)
+            sub(/^\.\//, "", path)
             if (!sub(/^proofs\//, "", path)) return path
-            sub(/\/Proof\.antt$/, "", path)
+            sub(/\/(Answers|Invariants|Proof)\.antt.*$/, "", path)
             return path
         }
-        # Whether the proof answers the needs, rather than walks through the code.
-        function answers_needs(    line, found) {
-            while ((getline line < (folder "/proofs/" place "/Proof.antt")) > 0) if (line ~ /tie\.close/) found = 1
-            close(folder "/proofs/" place "/Proof.antt")
-            return found
-        }
         function look(line) {
-            if (line ~ /has no `[^`]*` that can be named from here/ || line ~ /has no field `/) kind = "text"
+            if (line ~ /has no `[^`]*` that can be named from here|has no field `|is not in scope/) kind = "text"
         }
         /^  / { look($0); next }
         { told() }
-        / was not admitted / { next }
-        match($0, /:[0-9]+:[0-9]+: error: /) {
-            place = at(substr($0, 1, RSTART - 1))
-            kind = "fact"
-            if (substr($0, RSTART) ~ /: error: `([^`]*-spec|(Inv|μ)-[^`]*)`: / && answers_needs()) kind = "text"
+        # What stands under a goal that the code does not have.
+        /^note: [^ ]+\.antt: `[^`]*` is no name that rattle asks for / {
+            place = at(substr($2, 1, length($2) - 1))
+            kind = "text"; how = "file"
+            next
+        }
+        / was not admitted / || / was not admitted, / { next }
+        match($0, /^[^ ]+:[0-9]+:[0-9]+: error(\[[^]]*\])?: /) {
+            place = $0; sub(/:[0-9]+:[0-9]+: error.*/, "", place); place = at(place)
+            kind = "fact"; how = "file"
             look($0)
             next
         }
-        /^fn [^ ]+: no proof: expected .* `search` does not close / {
-            sub(/^.* in /, ""); sub(/;.*/, "")
-            place = at($0)
-            kind = "fact"
+        /^fn [^ ]+: no proof: expected [^ ]+ in [^ ]+; `search` did not prove `/ {
+            place = $0; sub(/^[^;]* in /, "", place); sub(/;.*/, "", place); place = at(place)
+            kind = "fact"; how = "none"
         }
         END { told() }' "$1"
 }
@@ -140,24 +146,26 @@ complain() {
 
 # Checks the mistakes of an edit, as `mistakes_of` prints them, against the errors of its log.
 look_at() { # EDIT MISTAKES ERRORS
-    local edit=$1 named=$2 errors=$3 name path
+    local edit=$1 named=$2 errors=$3 name path how
     while read -r _ name path; do
         mistakes=$((mistakes + 1))
-        if grep -qxF "text $path" <<<"$errors"; then
+        if grep -qF "text $path " <<<"$errors"; then
             complain "$edit: $name shows nothing: the proof at $path doesn't fit its code"
-        elif ! grep -qxF "fact $path" <<<"$errors"; then
+        elif ! grep -qF "fact $path " <<<"$errors"; then
             complain "$edit: $name was not refused at $path"
         fi
     done <<<"$named"
     if [[ $named != *$'\n'* && $named != code* ]]; then
-        path=${errors%%$'\n'*}
-        [[ $path == *" ${named##* }" ]] || complain "$edit: its first error is at ${path#* }"
+        path=${named##* }
+        how=$(awk -v path="$path" '$2 == path { print $3; exit }' <<<"$errors")
+        path=$(awk -v how="$how" '$3 == how { print $2; exit }' <<<"$errors")
+        [[ $path == "${named##* }" || -z $path ]] || complain "$edit: its first error is at $path"
         return
     fi
     [[ $errors ]] || return 0
-    while read -r _ path; do
+    while read -r _ path _; do
         grep -q " $path\$" <<<"$named" || complain "$edit: an error at $path, where it has no mistake"
-    done < <(sort -u <<<"$errors")
+    done < <(sort -u -k 2,2 <<<"$errors")
 }
 
 for edit in "$crates"/*/must-fail/*.edit; do
@@ -167,11 +175,13 @@ for edit in "$crates"/*/must-fail/*.edit; do
         continue
     fi
     crate=${edit#"$crates"/}
-    log=$logs/${crate%%/*}/$(basename "$edit" .edit)/.log
-    if [[ -f $log && ! $edit -nt $log ]]; then
-        look_at "$edit" "$named" "$(errors_of "$log")"
+    log=$logs/${crate%%/*}/$(basename "$edit" .edit).log
+    if [[ ! -f $log || $edit -nt $log ]]; then
+        complain "$edit has no log, or an old one: run tests/wrong_logs.sh"
+    elif ! grep -qE '^logic=(not-)?proved' "$log"; then
+        complain "$edit: its check came to no verdict"
     else
-        complain "$edit has no log, or an old one: run rt must-fail"
+        look_at "$edit" "$named" "$(errors_of "$log")"
     fi
 done
 [[ $mistakes -gt 0 ]] || complain "no edit has a mistake"
