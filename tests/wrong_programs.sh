@@ -37,6 +37,7 @@ mistakes_of() { # EDIT
         # The file and paragraph that a text is in. It sets the paragraph (`around`), the name that it declares (`given`), and whether the text
         # is in a clause of a contract.
         function place_of(old,    line, parts, lines, n, k, i, count, found) {
+            around = given = ""
             n = 1
             while ((getline line < file) > 0) if (line == "") n++; else parts[n] = parts[n] line "\n"
             close(file)
