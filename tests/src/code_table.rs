@@ -1,11 +1,12 @@
 //! The entries of the code table in crates/mpeg1_tables, made from the other decoder's word lists.
 
-use std::fmt::Write;
-
 use crate::decoder::annex_b::{self, Coefficient, Increment, Words};
 
 /// How many bits an index has.
 const INDEX_BITS: usize = 8;
+
+/// The longest line that `rt fmt` makes of an array.
+const LINE_LENGTH: usize = 99;
 
 /// The entry of bits that end within a word.
 const TRUNCATED: usize = 31;
@@ -93,13 +94,20 @@ fn all_rows() -> Vec<Row> {
     .collect()
 }
 
-/// The text of crates/mpeg1_tables/src/entries.rt.
+/// The text of crates/mpeg1_tables/src/entries.rt, in the layout of `rt fmt`: as many entries on a line as fit.
 pub fn entries_file() -> String {
     let mut text = String::from(HEAD);
+    let mut line = String::from("   ");
     for row in all_rows() {
         for index in 0..1 << INDEX_BITS {
-            writeln!(text, "    {},", row.entry(index)).expect("a string takes any text");
+            let entry = format!(" {},", row.entry(index));
+            if line.len() + entry.len() > LINE_LENGTH {
+                text += &line;
+                text += "\n";
+                line = "   ".into();
+            }
+            line += &entry;
         }
     }
-    text + "];\n"
+    text + &line + "\n];\n"
 }

@@ -1,7 +1,7 @@
 //! `fixtures [--panel PROGRAM]`: checks the exported library, and the program `panel` if given, against the fixtures.
 //!
-//! `fixtures --requests FOLDER [--programs FOLDER]`: checks the library, and the programs of the second folder (target/bin if it
-//! is not given), against the cases for requests in the first.
+//! `fixtures --requests FOLDER [--programs FOLDER]`: checks the library, and the programs of the second folder (crates if it is
+//! not given, where `rt` builds NAME/out/NAME), against the cases for requests in the first.
 
 use std::path::Path;
 use std::process::ExitCode;
@@ -37,7 +37,7 @@ fn report_requests(arguments: &[String]) -> ExitCode {
 
 fn run_requests(arguments: &[String]) -> Result<Report, String> {
     let arguments: Vec<&str> = arguments.iter().map(String::as_str).collect();
-    let built = Path::new(env!("CARGO_MANIFEST_DIR")).join("../target/bin");
+    let built = Path::new(env!("CARGO_MANIFEST_DIR")).join("../crates");
     let (folder, programs) = match arguments[..] {
         ["--requests", folder] => (folder, built.as_path()),
         ["--requests", folder, "--programs", programs]

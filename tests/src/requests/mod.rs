@@ -2,7 +2,7 @@
 
 use std::fmt;
 use std::fs;
-use std::path::Path;
+use std::path::{Path, PathBuf};
 
 use crate::decoder::Entries;
 use notation::Unread;
@@ -90,6 +90,18 @@ pub struct RequestFile {
 pub struct Tested<'a> {
     pub entries: &'a Entries,
     pub programs: &'a Path,
+}
+
+impl Tested<'_> {
+    /// A program of the folder: the file with its name, or the one that `rt` builds in the crate's folder with that name.
+    pub fn program(&self, name: &str) -> PathBuf {
+        let path = self.programs.join(name);
+        if path.is_dir() {
+            path.join("out").join(name)
+        } else {
+            path
+        }
+    }
 }
 
 /// The difference between what a case expects and what it is given, if there is one; or why its line can't be run.

@@ -52,7 +52,7 @@ fn case_lines<'a>(
     found: &'a Found,
     tested: Tested,
 ) -> Result<Vec<&'a str>, String> {
-    let missing = |program: &&&str| !tested.programs.join(program).is_file();
+    let missing = |program: &&&str| !tested.program(program).is_file();
     if let Some(program) = file.programs.iter().find(missing) {
         let folder = tested.programs.display();
         return Err(format!("no program {program} in {folder}"));
