@@ -53,6 +53,7 @@ function most(f, deepest, callees, n, k, below) {
     sub(/^[0-9a-f]+ </, "", name); sub(/>:$/, "", name)
     frame[name] = fixed = extra = untouched = untouched_by_prologue = 0
     prologue = 1
+    looped = stepped = 0
     last = before_last = ""
     next
 }
@@ -69,8 +70,12 @@ function most(f, deepest, callees, n, k, below) {
 instruction == "movq" && operand == "$0x0,(%rsp)" { untouched = 0 }
 untouched >= 4096 { fail("a page is not touched") }
 
-# Pages that a loop takes: %r11 is where it ends. The loop itself takes the first of them below.
-instruction == "sub" && operand ~ /^\$0x[0-9a-f]+,%r11$/ && last == "mov %rsp,%r11" { extra += immediate(operand) - 4096 }
+# What a loop takes, step by step: %r11 is where it ends. Each step must be touched at once. Here are all steps but the first, which is taken
+# below as any other.
+stepped && !(instruction == "movq" && operand == "$0x0,(%rsp)") { fail("a page is not touched") }
+{ stepped = 0 }
+instruction == "sub" && operand ~ /^\$0x[0-9a-f]+,%r11$/ && last == "mov %rsp,%r11" { looped = immediate(operand) }
+looped && instruction == "sub" && operand ~ /^\$0x[0-9a-f]+,%rsp$/ { extra += looped - immediate(operand); looped = 0; stepped = 1 }
 
 instruction == "push" { take(8); untouched = 0 }
 instruction == "pop" { take(-8) }

@@ -31,11 +31,13 @@ to_c_structs() {
 }
 
 # The exports as C declarations, one per line: a slice is a pointer and a length. A pointer to what is written is `restrict`,
-# unless it is the only pointer of its call.
+# unless it is the only pointer of its call. In a contract `result` is what a function returns, so no parameter of the source has that
+# name: it is `res` there.
 source_functions() {
     awk '/^pub extern "C" fn/ { on = 1 } on { printf "%s ", $0 } / -> / { on = 0 }' $exports | sed -E '
         s/pub extern "C" fn (\w+)\(\s*([^)]*)\) -> (\w+) /\3 \1(\2);\n/g
         s/\(\)/(void)/g
+        s/\bres: /result: /g
         s/(\w+): &mut \[u8\]/u8 *restrict \1, usize \1_length/g
         s/(\w+): &\[u8\]/const u8 *\1, usize \1_length/g
         s/(\w+): &mut \[(\w+); (\w+)\]/\2 \1[static restrict \3]/g
@@ -94,7 +96,7 @@ source_answers() {
 source_limits() {
     constants usize crates/symbols/src/size.rt
     sed -nE 's/^ *([0-9]+) \* macroblocks$/MACROBLOCK_BYTES \1/p' crates/symbols/src/size.rt
-    sed -nE 's/^(\w+) = ([0-9]+)$/\1 \2/p' crates/mpeg1_reader/specs/RecordLengths.antt | sed -E 's/([a-z])([A-Z])/\1_\2/g; s/^(\w+)/\U\1/'
+    sed -nE 's/^(\w+) = ([0-9]+)$/\1 \2/p' crates/mpeg1_reader/specs/RecordLengths.antt | sed -E 's/^(\w+)/\U\1/'
 }
 
 source_coding_types() {
