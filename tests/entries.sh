@@ -38,7 +38,8 @@ look_at_entries() { # CRATES
         }'
 }
 
-# The crates and modules that a crate names in its paths, other than those allowed, one line each.
+# The crates and modules that a crate names in its paths, other than those allowed, one line each. A type, with a capital letter, is passed
+# over: the path that imports it starts with its crate.
 look_at_calls() { # CRATES CRATE ALLOWED..
     source_of "$1" "$2" | awk -v crate="$2" -v allowed=" ${*:3} " '
         {
@@ -46,7 +47,7 @@ look_at_calls() { # CRATES CRATE ALLOWED..
                 name = substr(line, RSTART, RLENGTH - 2)
                 sub(/^[^A-Za-z_]/, "", name)
                 if (name == "entries") found = 1
-                if (!index(allowed, " " name " ")) { print "entries: " crate " names " name; failed = 1 }
+                if (name !~ /^[A-Z]/ && !index(allowed, " " name " ")) { print "entries: " crate " names " name; failed = 1 }
             }
         }
         END {
@@ -59,8 +60,8 @@ look_at() { # CRATES
     local failed=0
     look_at_entries "$1" || failed=1
     look_at_calls "$1" format3_c entries || failed=1
-    look_at_calls "$1" panel entries reel_input io os libc || failed=1
-    look_at_calls "$1" vectors entries io os libc || failed=1
+    look_at_calls "$1" panel entries reel_input std io || failed=1
+    look_at_calls "$1" vectors entries std io || failed=1
     return $failed
 }
 
@@ -104,8 +105,8 @@ require_passed() { # FILE EDIT
 }
 
 entries=entries/src/lib.rt exports=format3_c/src/lib.rt panel=panel/src/main.rt vectors=vectors/src/main.rt
-require_refused $entries '/^pub fn vector\(/a\    requires { ⌜ code ≡ past ⌝ }' 'vector has a requires'
-require_refused $entries 's/^pub fn read_slice.*/&\n    requires small { ⌜ parameters .width ≡ 1 ⌝ }/' 'read_slice has a requires'
+require_refused $entries '/^pub fn vector\(/a\    requires { code ≡ past }' 'vector has a requires'
+require_refused $entries 's/^pub fn read_slice.*/&\n    requires small { parameters.now.width ≡ 1 }/' 'read_slice has a requires'
 require_refused $entries '/^pub fn transform\(/,/^\{/{/ensures/d}' 'transform has no ensures'
 require_refused $entries '/^pub fn read_slice\(/,/^\{/{/ensures/d}' 'read_slice has no ensures'
 require_refused $entries '$a pub fn twice(a: u8) -> u8 {\n    a\n}' 'twice has no ensures'
@@ -115,6 +116,8 @@ require_refused $entries '/fn /d' 'no function'
 require_refused $exports 's/entries::transform\(/decode_idct::transform(/' 'format3_c names decode_idct'
 require_refused $exports '1i use format3_picture::reader;' 'format3_c names format3_picture'
 require_refused $exports '$a use reel_input::read_all;' 'format3_c names reel_input'
+require_refused $exports '1i use std::io;' 'format3_c names std'
+require_refused $exports '1i use decode_idct::TransformAnswer;' 'format3_c names decode_idct'
 require_refused $panel 's/entries::report\(/reel_report::report(/' 'panel names reel_report'
 require_refused $panel 's/entries::MAX_REEL_BYTES/reel_parts::part::MAX_REEL_BYTES/' 'panel names reel_parts'
 require_refused $panel '/entries::/d' 'panel calls no entry'
