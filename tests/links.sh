@@ -40,7 +40,7 @@ look_at_names() { # FOLDER
         esac
     done < <(sed -nE 's/^\[([^]]+)\]: ([^ ]+)$/\1\t\2/p' "$promises")
     comm -13 <(sed -nE 's/^\[([^]]+)\]: .*/\1/p' "$promises" | sort -u) \
-        <(sed -E '/^\[[^]]*\]: /d; s/\[[^]]*\]\([^)]*\)//g; s/&\[u8\]//g' "$promises" | grep -oE '\[[^]]+\]\[[^]]+\]|\[`?[A-Za-z_][A-Za-z0-9_-]*`?\]' | sed -E 's/.*\[//; s/\]$//' | sort -u) |
+        <(sed -E '/^\[[^]]*\]: /d; s/\[[^]]*\]\([^)]*\)//g; s/&\[u8\]//g' "$promises" | grep -oE '\[[^]]+\]\[[^]]+\]|\[`?[A-Za-z_◌][A-Za-z0-9_◌-]*`?\]' | sed -E 's/.*\[//; s/\]$//' | sort -u) |
         sed 's/^/PROMISES: no link for /'
     comm -13 <(sed -nE 's/^\[`?([^] `]+).*\]: .*\.edit$/\1/p' "$promises" | sort -u) \
         <(sed -nE 's/^# ([a-z0-9_]+), refused at .*/\1/p' crates/*/must-fail/*.edit | sort -u) |
