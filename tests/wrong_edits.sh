@@ -143,6 +143,7 @@ require_refused logs/sums/code.log 's/^note: src.*/note: .\/proofs\/add\/Answers
     'product shows nothing'
 require_refused logs/sums/code.log 's/^note: src.*/note: .\/proofs\/twice\/Invariants.antt: `invariant-loop` is no name that rattle asks for in `sums::twice`/' \
     'first_alone shows nothing'
+require_refused logs/sums/code.log 's/add\/Answers(.antt:3:5: error: `)returns/add\/Invariants\1invariant-loop/' 'product shows nothing'
 require_refused logs/sums/code.log '/^logic=/d' 'its check came to no verdict'
 require_refused logs/sums/proofless.log 's/(sums::add.*: ).*/\1it calls `sums::less`, which is not proved/' 'product was not refused at add'
 require_refused logs/sums/proofless.log '/^fn/d; s/not-proved/proved functions=2/' 'product was not refused at add'

@@ -7,8 +7,8 @@
 # `rt` only says that the edit as a whole is refused. This script checks that each mistake is refused at its path, because a fact fails:
 # - There is an error at that path, other than that something it uses was not admitted; or, if the checker looks for the function's proof
 #   itself, it found none for one of its goals.
-# - No error there says that the proof's text doesn't fit the code: that a goal, a loop or a fact that it names is not there. Such an edit
-#   shows nothing.
+# - No error there says that the proof's text doesn't fit the code: that a goal, a loop or a fact that it names is not there, or, in
+#   Invariants.antt, that a loop has other locals. Such an edit shows nothing.
 # - Wrong code (an edit of src/) has no error at any other path. So several mistakes may share an edit, each in its own function.
 # - Other proofs are checked against a definition (specs/) or a clause of a contract too. If a wrong one is alone in its edit, other paths
 #   may have errors, but the first error is at the path it names: of the errors in files, or of the functions whose proof was not found,
@@ -114,6 +114,7 @@ errors_of() { # LOG
             sub(/\/(Answers|Invariants|Proof)\.antt.*$/, "", path)
             return path
         }
+        # What is said of the text of a proof: a name that is not there, or an invariant that fits no loop of the code.
         function look(line) {
             if (line ~ /has no `[^`]*` that can be named from here|has no field `|is not in scope/) kind = "text"
         }
@@ -127,8 +128,9 @@ errors_of() { # LOG
         }
         / was not admitted / || / was not admitted, / { next }
         match($0, /^[^ ]+:[0-9]+:[0-9]+: error(\[[^]]*\])?: /) {
-            place = $0; sub(/:[0-9]+:[0-9]+: error.*/, "", place); place = at(place)
-            kind = "fact"; how = "file"
+            place = $0; sub(/:[0-9]+:[0-9]+: error.*/, "", place)
+            kind = place ~ /\/Invariants\.antt$/ ? "text" : "fact"; how = "file"
+            place = at(place)
             look($0)
             next
         }
