@@ -134,6 +134,7 @@ require_refused $edits/clause.edit '$a # first_alone, refused at twice\nold: add
 require_refused logs/sums/code.log '/proofs\/twice/d' 'first_alone was not refused at twice'
 require_refused logs/sums/code.log 's/(twice.*error: ).*/\1`twice`: `add` was not admitted (it was rejected)/' 'first_alone was not refused at twice'
 require_refused logs/sums/code.log 's/(twice.*error: ).*/\12 declarations that depend on `add`, which was not admitted, were not checked: a, b/' 'first_alone was not refused at twice'
+require_refused logs/sums/code.log 's/(twice.*error: ).*/\11 declaration that depends on `add`, which was rejected, was not checked: a, b/' 'first_alone was not refused at twice'
 require_refused logs/sums/code.log 's/(thrice.*error: ).*/\1`returns`: the two types differ/' 'an error at thrice, where it has no mistake'
 require_refused logs/sums/code.log 's/.*thrice.*/src\/lib.rt:3:5: error[E0425]: cannot find value `c`/' 'an error at src/lib.rt, where it has no mistake'
 require_refused logs/sums/code.log 's/(`returns`: )the two types differ/\1`goal.returns`: module `Goals` has no `returns` that can be named from here/' 'product shows nothing'

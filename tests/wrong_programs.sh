@@ -126,7 +126,7 @@ errors_of() { # LOG
             kind = "text"; how = "file"
             next
         }
-        / was not admitted / || / was not admitted, / { next }
+        /: error: [0-9]+ declarations? that depends? on .* not checked/ || / was not admitted / { next }
         match($0, /^[^ ]+:[0-9]+:[0-9]+: error(\[[^]]*\])?: /) {
             place = $0; sub(/:[0-9]+:[0-9]+: error.*/, "", place)
             kind = place ~ /\/Invariants\.antt$/ ? "text" : "fact"; how = "file"
