@@ -11,9 +11,13 @@
 set -euo pipefail
 cd "$(dirname "$0")/.."
 logs=$PWD/target/must-fail
-kept=${XDG_CACHE_HOME:-$HOME/.cache}/format3/must-fail
+kept=${XDG_CACHE_HOME:-${HOME:-/nonexistent}/.cache}/format3/must-fail
 copies=${TMPDIR:-/tmp}/format3-must-fail-$(id -u)-$(sha256sum <<<"$PWD" | cut -c 1-12)
-mkdir -p "$logs" "$kept" "$copies"
+mkdir -p "$logs" "$copies"
+if ! { mkdir -p "$kept" && [[ -w $kept ]]; } 2>/dev/null; then
+    kept=$logs/kept
+    mkdir -p "$kept"
+fi
 exec 9>"$copies/lock"
 flock 9
 trap 'rm -rf "$copies"' EXIT
