@@ -123,7 +123,7 @@ for crate in "${crates[@]}"; do
         new=$((new + 1))
         if [[ $new == 1 ]] && ! (cd "crates/$crate" && rt check) >"$copies/check" 2>&1; then
             echo "wrong logs: crates/$crate is not proved:"
-            tail -n 5 "$copies/check"
+            grep -E '^fn .*: (no proof|not proved)|: error(\[|: )|^rt: ' "$copies/check" | head -n 5
             failed=1
             break
         fi
