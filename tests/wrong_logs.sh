@@ -13,23 +13,28 @@ cd "$(dirname "$0")/.."
 logs=$PWD/target/must-fail
 kept=${XDG_CACHE_HOME:-${HOME:-/nonexistent}/.cache}/format3/must-fail
 copies=${TMPDIR:-/tmp}/format3-must-fail-$(id -u)-$(sha256sum <<<"$PWD" | cut -c 1-12)
-mkdir -p "$logs" "$copies"
+mkdir -p "$logs"
 if ! { mkdir -p "$kept" && [[ -w $kept ]]; } 2>/dev/null; then
     kept=$logs/kept
     mkdir -p "$kept"
 fi
-exec 9>"$copies/lock"
+exec 9>"$logs/lock"
 flock 9
 trap 'rm -rf "$copies"' EXIT
+mkdir -p "$copies/files"
 
-# Each crate with all crates below it, and its sum. A line of crates.txt is 'NAME: DEP ..', with words after NAME for what is no plain library.
+# The sum of a crate's files, in the checkout or in a copy.
+sum_of_files() { # FOLDER CRATE
+    (
+        cd "$1/crates/$2"
+        find src specs proofs -type f -print0 2>/dev/null | LC_ALL=C sort -z | xargs -0 sha256sum | sha256sum
+    )
+}
+
+# Each crate with all crates below it, and the sum of what its check reads. A line of crates.txt is 'NAME: DEP ..', with words after NAME for
+# what is no plain library.
 crates=()
 declare -A below sums
-sum_of_files() { # FOLDER
-    local part parts=()
-    for part in src specs proofs; do [[ ! -d $1/$part ]] || parts+=("$1/$part"); done
-    find "${parts[@]}" -type f -print0 | LC_ALL=C sort -z | xargs -0 sha256sum
-}
 toolchain=$(rt version; sha256sum <"$0")
 while read -r line; do
     crate=${line%%[: ]*}
@@ -41,10 +46,11 @@ while read -r line; do
             [[ " ${below[$crate]} " == *" $name "* ]] || below[$crate]+=" $name"
         done
     done
+    sum_of_files . "$crate" >"$copies/files/$crate" || true
     sums[$crate]=$({
         echo "$toolchain $line"
         for name in ${below[$crate]}; do echo "${sums[$name]}"; done
-        sum_of_files "crates/$crate"
+        cat "$copies/files/$crate"
     } | sha256sum | cut -c 1-64)
 done < <(sed 's/#.*//; /^ *$/d' crates.txt)
 
@@ -84,6 +90,10 @@ check_edit() { # KEPT-LOG EDIT CRATE BELOW..
         for part in src specs proofs; do
             [[ ! -d crates/$name/$part ]] || cp -R "crates/$name/$part" "$folder/crates/$name/"
         done
+        if [[ $(sum_of_files "$folder" "$name" || true) != "$(<"$copies/files/$name")" ]]; then
+            echo "wrong logs: crates/$name changed meanwhile"
+            return 1
+        fi
         # A library that is built is replaced as a whole, and never written into.
         [[ $name == "$crate" ]] || cp -al "crates/$name/out/rlib" "$folder/crates/$name/out/"
     done
@@ -132,7 +142,7 @@ for crate in "${crates[@]}"; do
 done
 
 if [[ ${#todo[@]} -gt 0 ]]; then
-    export -f apply check_edit
+    export -f sum_of_files apply check_edit
     export copies
     # shellcheck disable=SC2016
     printf '%s\n' "${todo[@]}" | xargs -P "${JOBS:-$(nproc)}" --process-slot-var=SLOT -L 1 bash -c 'set -euo pipefail; check_edit "$@"' _ || failed=1
