@@ -106,7 +106,7 @@ require_passed() { # FILE EDIT
 
 entries=entries/src/lib.rt exports=format3_c/src/lib.rt panel=panel/src/main.rt vectors=vectors/src/main.rt
 require_refused $entries '/^pub fn vector\(/a\    requires { code ≡ past }' 'vector has a requires'
-require_refused $entries 's/^pub fn read_slice.*/&\n    requires small { parameters.now.width ≡ 1 }/' 'read_slice has a requires'
+require_refused $entries 's/^pub fn read_slice.*/&\n    requires small { parameters.width ≡ 1 }/' 'read_slice has a requires'
 require_refused $entries '/^pub fn transform\(/,/^\{/{/ensures/d}' 'transform has no ensures'
 require_refused $entries '/^pub fn read_slice\(/,/^\{/{/ensures/d}' 'read_slice has no ensures'
 require_refused $entries '$a pub fn twice(a: u8) -> u8 {\n    a\n}' 'twice has no ensures'
