@@ -1,6 +1,6 @@
 /* MPEG-1 pictures: from the slices of a video stream to macroblock symbols (Format 3), and from these to pels.
  *
- * For C99 or C++11 and later. Link with -lformat3: libformat3.a or libformat3.so, both for x86-64-v2 Linux. Every function that
+ * For C99 or C++11 and later. Link with -lformat3: libformat3.a or libformat3.so, both for x86-64 Linux. Every function that
  * is declared below is proved: for all bytes, numbers and lengths it returns, does nothing undefined, and gives the results
  * stated here. `crates/format3_c` states them as equations with definitions; that the definitions follow the standard and
  * document 01 is a matter of reading and testing. (format3_answer_text is plain C, not proved.)
