@@ -119,7 +119,7 @@ edits=(
 )
 
 # A check, and a command that makes a library that it must refuse.
-shared=$(basename "$(realpath "$folder/lib/libformat3.so")")
+shared=$(cd "$folder/lib" && echo libformat3.so.*)
 link="gcc -shared -o $shared -Wl,--whole-archive libformat3.a -Wl,--no-whole-archive -Wl,-soname"
 more='echo "int format3_more;" | gcc -fPIC -x c - -c -o more.o'
 libraries=(
