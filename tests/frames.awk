@@ -3,7 +3,7 @@
 # that cannot be told: an indirect call, recursion, or a call of another library than memcpy and memset, which count with their
 # return address alone. A jump to another function counts as a call. An indirect jump is taken for a jump table, whose places
 # are all in the function; it must follow the two instructions that load such a place. Between them and the jump, other registers
-# may be loaded from the stack, and registers stored there.
+# may be loaded from the stack or from a register, and registers stored on the stack.
 # It also fails if a function takes more than a page without touching the stack in between.
 
 # Notes what is wrong with the current function: the first thing found. It matters only if an exported function calls it.
@@ -122,9 +122,10 @@ instruction ~ /^(call|j.*)$/ && operand !~ /^\*/ {
     if (instruction == "call" || callee != name) calls[name] = calls[name] callee "\n"
 }
 
-# Whether a register other than that of the last instruction is loaded from the stack.
-function reloads_another(register) {
-    if (instruction != "mov" || operand !~ /^(0x[0-9a-f]+)?\(%rsp\),%r([abcd]x|[ds]i|bp|[89]|1[0-5])$/) return 0
+# Whether a register other than that of the last instruction is loaded from the stack or from a register.
+function loads_another(register) {
+    if (instruction != "mov") return 0
+    if (operand !~ /^((0x[0-9a-f]+)?\(%rsp\)|%r([abcd]x|[ds]i|bp|[89]|1[0-5])),%r([abcd]x|[ds]i|bp|[89]|1[0-5])$/) return 0
     register = operand; sub(/.*,/, "", register)
     return last !~ (register "$")
 }
@@ -132,7 +133,7 @@ function reloads_another(register) {
 function stores_a_register() {
     return instruction == "mov" && operand ~ /^%r([abcd]x|[ds]i|bp|[89]|1[0-5]),(0x[0-9a-f]+)?\(%rsp\)$/
 }
-!reloads_another() && !stores_a_register() { before_last = last; last = instruction " " operand }
+!loads_another() && !stores_a_register() { before_last = last; last = instruction " " operand }
 
 END {
     for (f in frame) if (f ~ /^format3_[a-z_]+$/) print f, most(f)

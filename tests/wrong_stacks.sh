@@ -91,6 +91,7 @@ format3_read_header:
     add %r13,%rdx
     mov 0x8(%rsp),%r13
     mov %rdi,0x10(%rsp)
+    mov %rdi,%r9
     jmp *%rdx
 3:  ret
 format3_show_record:
@@ -175,6 +176,9 @@ edits=(
     '^frames: format3_read_header: an indirect jump' library.s 's/mov 0x8\(%rsp\),%r13/mov %r13,%rdx/'
     '^frames: format3_read_header: an indirect jump' library.s 's/mov %rdi,0x10\(%rsp\)/mov %rdi,%rdx/'
     '^frames: format3_read_header: an indirect jump' library.s 's/mov %rdi,0x10\(%rsp\)/mov %rdi,0x10(%rdx)/'
+    '^frames: format3_read_header: an indirect jump' library.s 's/mov %rdi,%r9/mov %rdi,%rdx/'
+    '^frames: format3_read_header: an indirect jump' library.s 's/mov %rdi,%r9/mov %edi,%edx/'
+    '^frames: format3_read_header: an indirect jump' library.s 's/mov %rdi,%r9/add %rdi,%rdx/'
     '^frames: format3_vector: an indirect jump' library.s 's/je shallow/notrack jmp *%rcx/'
     'format3_vector .*on any path  TOO MUCH$' library.s 's/je shallow/je deep/'
     'format3_vector .*on any path  TOO MUCH$' library.s 's/je shallow/jmp deep/'

@@ -18,17 +18,19 @@ pub struct BlockCoding {
     pub scale: u8,
 }
 
-// A level scaled with the weight at its raster index.
-fn scaled_level(level: i16, coding: BlockCoding, weight: u8) -> i16
-    requires { Within 255 level × BlockCodingWithin coding }
-    ensures { result ≡ coefficient_of coding.intra level (pos coding.scale) (pos weight) }
-{
-    scaling::scale_level(
-        coding.intra,
-        level as i32,
-        coding.scale as i32,
-        weight as i32,
-    )
+impl BlockCoding {
+    // A level scaled with the weight at its raster index.
+    fn scaled_level(self, level: i16, weight: u8) -> i16
+        requires { Within 255 level × BlockCodingWithin self }
+        ensures { result ≡ coefficient_of self.intra level (pos self.scale) (pos weight) }
+    {
+        scaling::scale_level(
+            self.intra,
+            i32::from(level),
+            i32::from(self.scale),
+            i32::from(weight),
+        )
+    }
 }
 
 // Stores a level in its block: scaled, at its raster index. `order` is the zigzag order. Answers the marks after it.
@@ -46,7 +48,7 @@ pub fn store_level(
     ensures value { result ≡ with_coefficient marks (raster_index position) (scaled_level coding matrix.now (record { position = position; level = level })) }
 {
     let raster = order[position] as usize;
-    let scaled = scaled_level(level, coding, matrix[raster]);
+    let scaled = coding.scaled_level(level, matrix[raster]);
     block[raster] = scaled;
     marks::with_coefficient(marks, raster, scaled)
 }
@@ -57,9 +59,8 @@ pub fn store_block(coefficients: &mut [i16; 384], block: usize, values: [i16; 64
     requires { block < 6 }
     ensures { coefficients.new ≡ put_block block values coefficients.old }
 {
-    for k in 0..64 {
-        coefficients[64 * block + k] = values[k];
-    }
+    let start = 64 * block;
+    coefficients[start..start + 64].copy_from_slice(&values);
 }
 
 // A block before its pairs: the DC first, and zeros.
@@ -67,7 +68,7 @@ pub fn store_block(coefficients: &mut [i16; 384], block: usize, values: [i16; 64
 pub fn dc_block(dc: i16) -> [i16; 64]
     ensures { result ≡ dc_block dc }
 {
-    let mut block = [0i16; 64];
+    let mut block = [0; 64];
     block[0] = dc;
     block
 }

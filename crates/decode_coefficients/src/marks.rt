@@ -44,9 +44,9 @@ pub fn dc_marks(dc: i16) -> u64
 pub fn marks_of(block: &[i16; 64]) -> u64
     ensures { Marked block.now result }
 {
-    let mut marks: u64 = 0;
-    for k in 0..64 {
-        marks = with_coefficient(marks, k, block[k]);
+    let mut marks = 0;
+    for (raster, coefficient) in block.iter().enumerate() {
+        marks = with_coefficient(marks, raster, *coefficient);
     }
     marks
 }

@@ -1,24 +1,11 @@
 // Coefficients from levels: quotient, move to odd, limit.
-ghost use Rattle.std.specs.Prelude.{◌≡◌, ◌*◌, ◌/◌};
+ghost use Rattle.std.specs.Prelude.{◌≡◌, ◌*◌, ◌/◌, pos};
 ghost use Rattle.math.specs.Bound.{Within};
-ghost use Rattle.math.specs.Limit.{in_range, sign_of};
-ghost use Rattle.decode_coefficients.specs.Scaling.{quotient_over, moved_to_odd, limited_coefficient, scaled, doubled_level, coefficient_of, intra_dc};
+ghost use Rattle.refusals.specs.Refusal.{number_in, value_in};
+ghost use Rattle.decode_coefficients.specs.Scaling.{quotient_over, moved_to_odd, scaled, doubled_level, coefficient_of, intra_dc};
 ghost use Rattle.decode_coefficients.specs.Answer.{coefficient_entry_in_range, coefficient_number, coefficient_value};
 
 use refusals::Refusal;
-
-// The sign of a number: -1, 0 or 1.
-fn sign(z: i32) -> i32
-    ensures { result ≡ sign_of z }
-{
-    if z < 0 {
-        -1
-    } else if 0 < z {
-        1
-    } else {
-        0
-    }
-}
 
 // A doubled level times scale and weight, over 16 towards zero.
 fn divide(doubled: i32, scale: i32, weight: i32) -> i32
@@ -33,19 +20,7 @@ fn move_to_odd(z: i32) -> i32
     requires { Within (511 * 31 * 255 / 16) z }
     ensures { result ≡ moved_to_odd z }
 {
-    if z % 2 == 0 { z - sign(z) } else { z }
-}
-
-fn limit(z: i32) -> i32
-    ensures { result ≡ limited_coefficient z }
-{
-    if z < -2048 {
-        -2048
-    } else if 2047 < z {
-        2047
-    } else {
-        z
-    }
+    if z % 2 == 0 { z - z.signum() } else { z }
 }
 
 // Quotient, move to odd, limit.
@@ -56,8 +31,7 @@ fn scale_doubled(doubled: i32, scale: i32, weight: i32) -> i16
 {
     let divided = divide(doubled, scale, weight);
     let odd = move_to_odd(divided);
-    let limited = limit(odd);
-    limited as i16
+    odd.clamp(-2048, 2047) as i16
 }
 
 // Twice the level, plus its sign if the macroblock is not intra.
@@ -68,7 +42,7 @@ fn double_level(intra: bool, level: i32) -> i32
     if intra {
         return 2 * level;
     }
-    2 * level + sign(level)
+    2 * level + level.signum()
 }
 
 // The coefficient of a level; the caller has checked the ranges. A weight of 0 is allowed.
@@ -89,57 +63,20 @@ pub fn intra_dc(past: i16, difference: i16) -> i16
     past + 8 * difference
 }
 
-// The coefficient entry's answer: 0 or a refusal's number, and the coefficient, 0 when refused.
-#[derive(Clone, Copy)]
-pub struct CoefficientAnswer {
-    pub number: u32,
-    pub value: i16,
-}
-
-// Whether z is in low..high.
-fn in_range(low: i32, high: i32, z: i32) -> bool
-    ensures { result ≡ in_range low high z }
-{
-    if z < low {
-        return false;
-    }
-    if high < z {
-        return false;
-    }
-    true
-}
-
 #[tactic(auto, unfolding(crate::specs::Answer::coefficient_entry_in_range))]
 fn coefficient_entry_in_range(level: i32, scale: i32, weight: i32) -> bool
     ensures { result ≡ coefficient_entry_in_range level scale weight }
 {
-    let level_in_range = in_range(-255, 255, level);
-    if level_in_range {
-        let scale_in_range = in_range(1, 31, scale);
-        if scale_in_range {
-            return in_range(1, 255, weight);
-        }
-        return false;
-    }
-    false
+    (-255..=255).contains(&level) && (1..=31).contains(&scale) && (1..=255).contains(&weight)
 }
 
 // The coefficient entry, intra AC or non-intra: takes any three numbers.
-pub fn coefficient(intra: bool, level: i32, scale: i32, weight: i32) -> CoefficientAnswer
-    ensures number { result.number ≡ coefficient_number level scale weight }
-    ensures value { result.value ≡ coefficient_value intra level scale weight }
+pub fn coefficient(intra: bool, level: i32, scale: i32, weight: i32) -> Result<i16, Refusal>
+    ensures number { number_in result ≡ coefficient_number level scale weight }
+    ensures value { value_in (pos 0) result ≡ coefficient_value intra level scale weight }
 {
-    let accepted = coefficient_entry_in_range(level, scale, weight);
-    if accepted {
-        let value = scale_level(intra, level, scale, weight);
-        return CoefficientAnswer {
-            number: refusals::ACCEPTED,
-            value: value,
-        };
+    if !coefficient_entry_in_range(level, scale, weight) {
+        return Err(Refusal::NumberOutOfRange);
     }
-    let number = refusals::number(Refusal::NumberOutOfRange);
-    CoefficientAnswer {
-        number: number,
-        value: 0,
-    }
+    Ok(scale_level(intra, level, scale, weight))
 }

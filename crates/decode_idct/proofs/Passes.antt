@@ -14,7 +14,7 @@ use Rattle.math.proofs.Limit.{range-between, limited-between, between-within, al
 use Rattle.math.proofs.Sum.{sum-ext, sum-zero, within-sum, separable}
 use Rattle.math.specs.Bound.{Within, at, AllWithin, Between, AllBetween}
 use Rattle.math.specs.Sum.{sum_to}
-use Rattle.math.proofs.Tab.{tab-at, tab-ext}
+use Rattle.math.proofs.Tab.{tab-at, tab-ext, tab-self}
 use Rattle.math.proofs.Test.{at-below₂, all-passed}
 use Rattle.math.specs.Tab.{tab}
 use Rattle.math.specs.Test.{all_below}
@@ -51,6 +51,9 @@ pub residue-within : (z : ℤ) → Within 256 (limited_residue z)
 residue-within z = between-within (limited-between (negsuc 255) (pos 255) z (record { le = tt })) (within-literal tt) (within-literal tt)
 
 -- ---- a row copied out of a block, and where its numbers go
+pub row-is : (c : List ℤ) (v : ℕ) {x : List ℤ} → length x ≡ 8 → ((u : ℕ) → u < 8 → at x u ≡ at c (8 * v + u)) → x ≡ row_of c v
+row-is c v {x} long each = sym (tab-self 8 x (pos 0) long) ∙ tab-ext 8 (at x) (λ u. at c (8 * v + u)) each
+
 row-sum : (c : List ℤ) (v p : ℕ) → line_sum (row_of c v) 0 p ≡ line_sum c (8 * v) p
 row-sum c v p = sum-ext _ _ 8 (λ u h. ap (λ (z : ℤ). factor p u *ℤ z) (tab-at 8 _ (0 + u) (pos 0) (omega arith) ∙ ap (at c) (index u)))
   where

@@ -6,6 +6,7 @@ use Rattle.math.specs.Limit.{in_range}
 use Rattle.refusals.specs.Refusal.{accepted, number_of}
 use Rattle.refusals.specs.declared.Refusal.TheVariants.{NumberOutOfRange}
 use Rattle.decode_coefficients.specs.Rows.{rows_worked}
+use Rattle.decode_idct.specs.declared.Residues.{Residues}
 use Rattle.decode_idct.specs.Transform.{inverse_transform, residues_by}
 
 -- whether every coefficient is in -2048..2047
@@ -14,6 +15,10 @@ transform_entry_in_range c = all_below 64 (λ k. in_range (negsuc 2047) (pos 204
 
 abbrev pub transform_number : List ℤ → ℕ
 transform_number c = cond (transform_entry_in_range c) accepted (number_of NumberOutOfRange)
+
+-- the residues that stand for a refused block: zeros, and no row worked
+abbrev pub no_residues : Residues
+no_residues = record { values = replicate 64 (pos 0); rows = 0 }
 
 -- the residues, or all zeros when refused
 abbrev pub transform_residues : List ℤ → List ℤ

@@ -15,17 +15,14 @@ fn dc_residue(dc: i16) -> i16
     requires { Within (2 ^ 11) dc }
     ensures { result ≡ residue_of (dc_sum dc) }
 {
-    pass::residue(DC_FACTOR * pass::widened(dc))
+    pass::residue(DC_FACTOR * i64::from(dc))
 }
 
 // The row of the DC is worked, unless the DC is 0 too.
 fn dc_rows(dc: i16) -> usize
     ensures { result ≡ cond (eq_z dc (pos 0)) 0 1 }
 {
-    if dc == 0 {
-        return 0;
-    }
-    1
+    usize::from(dc != 0)
 }
 
 // The residues of a block with this DC alone, and the rows worked.

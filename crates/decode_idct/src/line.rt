@@ -6,22 +6,20 @@ ghost use Rattle.decode_idct.specs.Line.{line_sum, half_sum};
 
 use tables::COSINES;
 
-// The factors of the even and the odd frequencies at output indices 0 to 3.
-const EVEN0: [i64; 4] = [COSINES[3], COSINES[1], COSINES[3], COSINES[5]];
+// The factors of the even and of the odd frequencies at output indices 0 to 3.
+const EVEN: [[i64; 4]; 4] = [
+    [COSINES[3], COSINES[1], COSINES[3], COSINES[5]],
+    [COSINES[3], COSINES[5], -COSINES[3], -COSINES[1]],
+    [COSINES[3], -COSINES[5], -COSINES[3], COSINES[1]],
+    [COSINES[3], -COSINES[1], COSINES[3], -COSINES[5]],
+];
 
-const EVEN1: [i64; 4] = [COSINES[3], COSINES[5], -COSINES[3], -COSINES[1]];
-
-const EVEN2: [i64; 4] = [COSINES[3], -COSINES[5], -COSINES[3], COSINES[1]];
-
-const EVEN3: [i64; 4] = [COSINES[3], -COSINES[1], COSINES[3], -COSINES[5]];
-
-const ODD0: [i64; 4] = [COSINES[0], COSINES[2], COSINES[4], COSINES[6]];
-
-const ODD1: [i64; 4] = [COSINES[2], -COSINES[6], -COSINES[0], -COSINES[4]];
-
-const ODD2: [i64; 4] = [COSINES[4], -COSINES[0], COSINES[6], COSINES[2]];
-
-const ODD3: [i64; 4] = [COSINES[6], -COSINES[4], COSINES[2], -COSINES[0]];
+const ODD: [[i64; 4]; 4] = [
+    [COSINES[0], COSINES[2], COSINES[4], COSINES[6]],
+    [COSINES[2], -COSINES[6], -COSINES[0], -COSINES[4]],
+    [COSINES[4], -COSINES[0], COSINES[6], COSINES[2]],
+    [COSINES[6], -COSINES[4], COSINES[2], -COSINES[0]],
+];
 
 // The sum of four products that one half gives: the even frequencies (first 0) or the odd ones (first 1).
 fn half_line(factors: [i64; 4], x: [i64; 8], first: usize) -> i64
@@ -35,19 +33,19 @@ fn half_line(factors: [i64; 4], x: [i64; 8], first: usize) -> i64
     sum
 }
 
-// At output indices p and 7 - p the even half is the same, and the odd half changes its sign.
+// At output indices p and 7 - p the even half is the same, and the odd half changes its sign. Written out: a loop over p takes more time.
 pub(crate) fn transform_line(x: [i64; 8]) -> [i64; 8]
     requires { AllWithin (2 ^ 34) x }
     ensures { result ≡ tab 8 (line_sum x 0) }
 {
-    let e0 = half_line(EVEN0, x, 0);
-    let e1 = half_line(EVEN1, x, 0);
-    let e2 = half_line(EVEN2, x, 0);
-    let e3 = half_line(EVEN3, x, 0);
-    let o0 = half_line(ODD0, x, 1);
-    let o1 = half_line(ODD1, x, 1);
-    let o2 = half_line(ODD2, x, 1);
-    let o3 = half_line(ODD3, x, 1);
+    let e0 = half_line(EVEN[0], x, 0);
+    let e1 = half_line(EVEN[1], x, 0);
+    let e2 = half_line(EVEN[2], x, 0);
+    let e3 = half_line(EVEN[3], x, 0);
+    let o0 = half_line(ODD[0], x, 1);
+    let o1 = half_line(ODD[1], x, 1);
+    let o2 = half_line(ODD[2], x, 1);
+    let o3 = half_line(ODD[3], x, 1);
     [
         e0 + o0,
         e1 + o1,

@@ -1,9 +1,9 @@
 // The two passes: each reads the rows of a block and writes them as columns, so after both the block is in raster order.
-ghost use Rattle.std.specs.Prelude.{◌≡◌, ◌<◌, ◌^◌};
+ghost use Rattle.std.specs.Prelude.{◌≡◌, ℕ, ◌+◌, ◌*◌, ◌<◌, ◌^◌, get_or};
 ghost use Rattle.math.specs.Tab.{tab};
 ghost use Rattle.math.specs.Scatter.{scatter};
 ghost use Rattle.math.specs.Bound.{Within, AllWithin, at};
-ghost use Rattle.decode_idct.specs.Transform.{limited_residue};
+ghost use Rattle.decode_idct.specs.Transform.{divided};
 ghost use Rattle.decode_idct.specs.Line.{row_of, column_index, pass_result, residue_of};
 ghost use Rattle.decode_coefficients.specs.Rows.{rows_worked};
 ghost use Rattle.decode_coefficients.specs.Marks.{Marked};
@@ -11,62 +11,32 @@ ghost use Rattle.decode_coefficients.specs.Marks.{Marked};
 use crate::line;
 use decode_coefficients::marks;
 
-fn limit_residue(z: i64) -> i64
-    ensures { result ≡ limited_residue z }
+// An exact sum, divided by 2^42 and rounded to the nearest.
+fn rounded(sum: i64) -> i64
+    requires { Within (2 ^ 57) sum }
+    ensures { result ≡ divided sum }
 {
-    if z < -256 {
-        -256
-    } else if 255 < z {
-        255
-    } else {
-        z
-    }
+    (sum + 0x200_0000_0000) >> 42
 }
 
-// An exact sum, divided by 2^42, rounded to the nearest and limited.
-fn round_residue(z: i64) -> i64
-    requires { Within (2 ^ 57) z }
-    ensures { result ≡ residue_of z }
+// The residue of an exact sum: rounded, and limited.
+pub(crate) fn residue(sum: i64) -> i16
+    requires { Within (2 ^ 57) sum }
+    ensures { result ≡ residue_of sum }
 {
-    limit_residue((z + 0x200_0000_0000) >> 42)
+    rounded(sum).clamp(-256, 255) as i16
 }
 
-pub(crate) fn residue(z: i64) -> i16
-    requires { Within (2 ^ 57) z }
-    ensures { result ≡ residue_of z }
-{
-    let rounded = round_residue(z);
-    rounded as i16
-}
-
-pub(crate) fn widened(z: i16) -> i64
-    ensures { result ≡ z }
-{
-    z as i64
-}
-
-// Row v of the coefficients, widened.
-fn coefficient_row(c: &[i16; 64], v: usize) -> [i64; 8]
+// Row v of a block: of its coefficients, or of the numbers between the passes.
+fn row<T: Copy + Into<i64>>(block: &[T; 64], v: usize) -> [i64; 8]
     requires { v < 8 }
-    ensures { result ≡ row_of c.now v }
+    ensures { (d : T) → (u : ℕ) → u < 8 → T.converts (get_or block.now (8 * v + u) d) (at result u) }
 {
-    let mut x = [0i64; 8];
+    let mut line = [0; 8];
     for u in 0..8 {
-        x[u] = widened(c[8 * v + u]);
+        line[u] = block[8 * v + u].into();
     }
-    x
-}
-
-// Row v of the numbers between the passes.
-fn middle_row(t: &[i64; 64], v: usize) -> [i64; 8]
-    requires { v < 8 }
-    ensures { result ≡ row_of t.now v }
-{
-    let mut x = [0i64; 8];
-    for u in 0..8 {
-        x[u] = t[8 * v + u];
-    }
-    x
+    line
 }
 
 // Stores a line in column v.
@@ -79,7 +49,7 @@ fn put_column(t: &mut [i64; 64], v: usize, y: [i64; 8])
     }
 }
 
-// Stores the residues of a line in column v.
+// Stores the residues of a line in column v. Not by `put_column`: to make an array of residues first takes more time.
 fn put_residues(t: &mut [i16; 64], v: usize, y: [i64; 8])
     requires { (v < 8) × AllWithin (2 ^ 57) y }
     ensures { t.new ≡ scatter (column_index v) (λ u. residue_of (at y u)) 8 t.old }
@@ -94,7 +64,7 @@ fn work_row(c: &[i16; 64], v: usize, numbers: &mut [i64; 64])
     requires { (v < 8) × AllWithin (2 ^ 11) c.now }
     ensures { numbers.new ≡ scatter (column_index v) (λ u. pass_result c.now (column_index v u)) 8 numbers.old }
 {
-    let x = coefficient_row(c, v);
+    let x = row(c, v);
     let y = line::transform_line(x);
     put_column(numbers, v, y);
 }
@@ -113,12 +83,12 @@ pub(crate) fn row_pass(c: [i16; 64], marks: u64) -> RowPass
     ensures numbers_value { result.numbers ≡ tab 64 (pass_result c) }
     ensures rows_value { result.rows ≡ rows_worked c }
 {
-    let mut numbers = [0i64; 64];
-    let mut rows: usize = 0;
+    let mut numbers = [0; 64];
+    let mut rows = 0;
     for row in 0..8 {
         if marks::has_row(marks, row) {
             work_row(&c, row, &mut numbers);
-            rows = rows + 1;
+            rows += 1;
         }
     }
     RowPass { numbers, rows }
@@ -128,9 +98,9 @@ pub(crate) fn column_pass(t: [i64; 64]) -> [i16; 64]
     requires { AllWithin (2 ^ 34) t }
     ensures { result ≡ tab 64 (λ k. residue_of (pass_result t k)) }
 {
-    let mut residues = [0i16; 64];
+    let mut residues = [0; 64];
     for v in 0..8 {
-        let x = middle_row(&t, v);
+        let x = row(&t, v);
         let y = line::transform_line(x);
         put_residues(&mut residues, v, y);
     }

@@ -16,9 +16,9 @@ use Rattle.decode_macroblock.proofs.QuarterLaws.{with_quarters, quarters-length,
 use Rattle.decode_macroblock.specs.declared.location.MacroblockPosition.{MacroblockPosition}
 use Rattle.decode_macroblock.specs.declared.location.BlockLocation.{BlockLocation}
 use Rattle.decode_macroblock.specs.declared.compensation.Vector.{Vector}
-use Rattle.decode_macroblock.specs.Location.{luma_location, block_location, put_at, put_luma_at}
-use Rattle.decode_macroblock.specs.Requires.{Inside, BlockInside, Readable, Copyable}
-use Rattle.decode_macroblock.specs.Compensation.{plane_of, is_whole_pel, half_pels, predicted_from, copied_luma_from, pointed_block}
+use Rattle.decode_macroblock.specs.Location.{luma_location, block_location, put_at, put_pels_at}
+use Rattle.decode_macroblock.specs.Requires.{Inside, PelsInside, BlockInside, PelsReadable, Readable, Copyable}
+use Rattle.decode_macroblock.specs.Compensation.{plane_of, is_whole_pel, half_pels, predicted_from, copied_from, pointed_block}
 use Rattle.decode_macroblock.specs.Macroblock.{with_blocks}
 use Rattle.decode_macroblock.proofs.LocationLaws.{lines-inside, location-inside}
 use Rattle.decode_macroblock.proofs.CompensationLaws.{location-moved, whole-location}
@@ -64,7 +64,7 @@ module _ (p : MacroblockPosition) (blocks : ℕ → List ℕ) (l : List ℕ) (wh
   plane-length = simp (length-take, length-drop) (omega (arith, whole))
 
   luma-blocks : (n : ℕ) → n ≤ 4 → with_blocks p blocks n l ≡ part (start_of_y p.size) (start_of_cb p.size - start_of_y p.size) (quarters n) l
-  unfolding with_blocks with_quarters put_at
+  unfolding with_blocks with_quarters put_pels_at
   luma-blocks zero few = sym (part_none (start_of_y p.size) (start_of_cb p.size - start_of_y p.size) l)
   luma-blocks (suc n) few =
       (λ i. put_at (luma-is p n (omega arith) i) (blocks n) (luma-blocks n (omega arith) i))
@@ -73,8 +73,8 @@ module _ (p : MacroblockPosition) (blocks : ℕ → List ℕ) (l : List ℕ) (wh
       (with_block (16 * p.size.width) (16 * p.column + 8 * (n % 2)) (16 * p.row + 8 * (n / 2)) (blocks n))
 
   module _ (inside : Inside p) (square : List ℕ) (same : (q k : ℕ) → q < 4 → k < 64 → get_or (blocks q) k 0 ≡ get_or square (pel_of_quarter q k) 0) where
-    corner-luma : put_luma_at (corner p) square l ≡ with_blocks p blocks 4 l
-    unfolding put_luma_at
+    corner-luma : put_pels_at 16 (corner p) square l ≡ with_blocks p blocks 4 l
+    unfolding put_pels_at
     corner-luma =
         part_same (start_of_y p.size) (start_of_cb p.size - start_of_y p.size) l (with_pels 16 (16 * p.size.width) (16 * p.column) (16 * p.row) square) (quarters 4)
         (luma-quarters (16 * p.size.width) (16 * p.column) (16 * p.row) (omega (arith, inside.across)) blocks (plane_of (corner p) l) (rw plane-length (below inside)) square same)
@@ -95,29 +95,35 @@ module _ {p : MacroblockPosition} {v : Vector} {reference output : List ℕ} (r 
   below_of block h = omega (arith, location-moved (16 * p.row) (8 * (block / 2)) v.down corner-readable.pointing.top (block-readable block h).pointing.top)
 
   module _ {location : BlockLocation} (e : location ≡ block_location p 0) where
-    pub luma-copy-readable : Readable location v reference × ((half_pels location v).px + 32 ≤ 2 * location.stride) × ((half_pels location v).py + 32 ≤ 2 * location.lines)
-    luma-copy-readable = rw (e ∙ corner-is p) (
-      corner-readable,
-      omega (arith, right_of 1 (omega arith), (block-readable 1 (omega arith)).across),
-      omega (arith, below_of 2 (omega arith), (block-readable 2 (omega arith)).below),
-    )
+    pub luma-copy-readable : PelsReadable 16 location v reference
+    luma-copy-readable = rw (e ∙ corner-is p) (record {
+      order = corner-readable.order;
+      within = corner-readable.within;
+      whole = corner-readable.whole;
+      pointing = corner-readable.pointing;
+      across = omega (arith, right_of 1 (omega arith), (block-readable 1 (omega arith)).across);
+      below = omega (arith, below_of 2 (omega arith), (block-readable 2 (omega arith)).below);
+    })
 
-    pub luma-copy-holds : BlockInside location (length output) × (location.x + 16 ≤ location.stride) × ((location.y + 16) * location.stride ≤ location.to - location.from)
-    luma-copy-holds = rw (e ∙ corner-is p, r.output-whole) (
-      subst (λ (q : BlockLocation). BlockInside q (picture_bytes p.size)) (corner-is p) (location-inside p 0 r.inside (omega arith)),
-      omega (arith, r.inside.across),
-      below r.inside,
-    )
+    pub luma-copy-holds : PelsInside 16 location (length output)
+    luma-copy-holds =
+        let corner-inside = subst (λ (q : BlockLocation). BlockInside q (picture_bytes p.size)) (corner-is p) (location-inside p 0 r.inside (omega arith)) in
+        rw (e ∙ corner-is p, r.output-whole) (record {
+          order = corner-inside.order;
+          within = corner-inside.within;
+          across = omega (arith, r.inside.across);
+          below = below r.inside;
+        })
 
   -- each block that the vector points to is a quarter of the luma pels that it points to
-  quarter-is : is_whole_pel v ≡ true → (q k : ℕ) → q < 4 → k < 64 → get_or (pointed_block reference p v q) k 0 ≡ get_or (copied_luma_from reference (corner p) v) (pel_of_quarter q k) 0
-  unfolding predicted_from copied_luma_from
+  quarter-is : is_whole_pel v ≡ true → (q k : ℕ) → q < 4 → k < 64 → get_or (pointed_block reference p v q) k 0 ≡ get_or (copied_from 16 reference (corner p) v) (pel_of_quarter q k) 0
+  unfolding predicted_from copied_from
   quarter-is even q k h b =
       (λ i. get_or (predicted_from reference (luma-is p q h i) (luma-vector q v h i)) k 0)
       ∙ (λ i. get_or (prediction (plane_of (corner p) reference) (16 * p.size.width) (right_of q h i) (below_of q h i)) k 0)
       ∙ quarter-predicted (plane_of (corner p) reference) (16 * p.size.width) (half_pels (corner p) v).px (half_pels (corner p) v).py q k (whole-location corner-readable.pointing even) h b
 
-  pub luma-copy-blocks : is_whole_pel v ≡ true → put_luma_at (block_location p 0) (copied_luma_from reference (block_location p 0) v) output ≡ with_blocks p (pointed_block reference p v) 4 output
+  pub luma-copy-blocks : is_whole_pel v ≡ true → put_pels_at 16 (block_location p 0) (copied_from 16 reference (block_location p 0) v) output ≡ with_blocks p (pointed_block reference p v) 4 output
   luma-copy-blocks even =
-      ap (λ (q : BlockLocation). put_luma_at q (copied_luma_from reference q v) output) (corner-is p)
-      ∙ corner-luma p (pointed_block reference p v) output r.output-whole r.inside (copied_luma_from reference (corner p) v) (quarter-is even)
+      ap (λ (q : BlockLocation). put_pels_at 16 q (copied_from 16 reference q v) output) (corner-is p)
+      ∙ corner-luma p (pointed_block reference p v) output r.output-whole r.inside (copied_from 16 reference (corner p) v) (quarter-is even)

@@ -1,6 +1,6 @@
 -- Laws of a limited pel, and of `side` by `side` pels put into a plane. Assumes nothing.
-use mathlib.Core.Path.{◌≡◌, refl, ap, ◌∙◌, sym, subst}
-use mathlib.Core.Bool.{Bool, true, false, ◌&&◌, cond}
+use mathlib.Core.Path.{◌≡◌, ap, ◌∙◌, sym}
+use mathlib.Core.Bool.{Bool, ◌&&◌, cond}
 use mathlib.Core.List.{List}
 use Prim.Native.Nat.{ℕ, ◌+◌, ◌-◌, ◌*◌, ◌/◌, ◌%◌, ◌<◌, ◌≤◌}
 use native.Mathlib.Nat.{mul-le-mul_left, mul_comm, mod-lt, div-lt_iff_lt-mul, div-add-mod'}
@@ -8,26 +8,13 @@ use native.Mathlib.Omega.{arith}
 use native.Mathlib.Decide.{dec_lt, dec_le}
 use borrow.Author.Tests.{lt-ltb, le-ltb, le-leb, lt-leb}
 use lib.Arith.{digits_lt, digits_div, digits_mod}
-use lib.Dec.{T, ltb, leb}
-use lib.IntN.{ℤ, pos, nat_abs}
+use lib.Dec.{ltb, leb}
 use lib.ListN.{length, get_or}
 use lib.Seq.{ext_get_or}
-use lib.Signed.{lt_z, non_neg}
-use Rattle.math.specs.Limit.{limited}
-use Rattle.math.proofs.Compare.{kept_in}
 use Rattle.math.specs.Tab.{tab}
 use Rattle.math.proofs.Tab.{tab-length, tab-at}
 use Rattle.math.proofs.Scatter.{scatter-length, scatter-at, scatter-other}
 use Rattle.decode_macroblock.specs.Pel.{pel_index, with_pels}
-
--- a number limited to 0..255 is not negative and fits a byte
-pub pel-in : (z r : ℤ) → r ≡ limited (pos 0) (pos 255) z → (T (non_neg r)) × (nat_abs r ≤ 255)
-pel-in z r e = subst (λ (m : ℤ). (T (non_neg m)) × (nat_abs m ≤ 255)) (sym e) (go (lt_z z (pos 0)) (lt_z (pos 255) z) refl refl)
-  where
-    go : (a b : Bool) → lt_z z (pos 0) ≡ a → lt_z (pos 255) z ≡ b → (T (non_neg (cond a (pos 0) (cond b (pos 255) z)))) × (nat_abs (cond a (pos 0) (cond b (pos 255) z)) ≤ 255)
-    go true b low high = (tt, omega arith)
-    go false true low high = (tt, omega arith)
-    go false false low high = let k = kept_in z low high in (k.0, k.1)
 
 -- pel k is inside a plane of n pels, and so is every number on the way to its index
 pub record CellFits (side stride x y k n : ℕ) : Type 0 where
@@ -131,3 +118,8 @@ module _ (side stride x y : ℕ) (some : 0 < side) (across : x + side ≤ stride
       unfolding painted
       with-pels-painted = ext_get_or 0 _ _ (with-pels-length side stride x y square plane ∙ sym (tab-length _ _))
           (λ i h. painted-at i ∙ sym (tab-at _ _ i 0 (rw scatter-length at h)))
+
+-- pel i of line j
+pub line-index : (side stride x y j i : ℕ) → i < side → (y + j) * stride + x + i ≡ pel_index side stride x y (j * side + i)
+unfolding pel_index
+line-index side stride x y j i h = rw (digits_div j h, digits_mod j h) (omega arith)

@@ -13,13 +13,12 @@ use lib.Seq.{get_or-take, get_or-drop}
 use Rattle.math.specs.Part.{part}
 use Rattle.math.proofs.Part.{part_length, part-before, part_in, part-after}
 use Rattle.math.proofs.Tab.{tab-at, tab-ext}
-use Rattle.decode_prediction.specs.Prediction.{pel_at, prediction}
-use Rattle.decode_prediction.proofs.MeanLaws.{predicted-whole}
+use Rattle.decode_prediction.specs.Prediction.{pel_at, copied_pels}
 use Rattle.decode_macroblock.specs.Pel.{pel_index, with_block}
 use Rattle.decode_macroblock.proofs.PelLaws.{with-pels-length, cell-fits, cell-line, cell-column, in_pels, pel_in, painted, with-pels-painted}
 use Rattle.decode_macroblock.specs.declared.location.BlockLocation.{BlockLocation}
 use Rattle.decode_macroblock.specs.Byte.{pel_index_at}
-use Rattle.decode_macroblock.specs.Location.{read_at, put_at}
+use Rattle.decode_macroblock.specs.Location.{read_at, put_at, put_pels_at}
 use Rattle.decode_macroblock.specs.Requires.{BlockInside}
 use Rattle.decode_macroblock.specs.Compensation.{plane_of}
 
@@ -38,7 +37,7 @@ module _ (p : BlockLocation) (block l : List ℕ) (holds : BlockInside p (length
   whole = omega (arith, holds)
 
   pub put_keeps : length (put_at p block l) ≡ length l
-  unfolding put_at
+  unfolding put_pels_at
   put_keeps = part_length p.from (p.to - p.from) (with_block p.stride p.x p.y block) l whole put-length
 
   plane-at : (j : ℕ) → j < p.to - p.from → get_or (plane_of p l) j 0 ≡ get_or l (p.from + j) 0
@@ -53,7 +52,7 @@ module _ (p : BlockLocation) (block l : List ℕ) (holds : BlockInside p (length
       ∙ tab-at (length (plane_of p l)) _ j 0 (rw plane-length h)
 
   pub put-at : (i : ℕ) → get_or (put_at p block l) i 0 ≡ cond (in_location p i) (get_or block (pel_index_at p i) 0) (get_or l i 0)
-  unfolding put_at in_location
+  unfolding put_pels_at in_location
   put-at i = elim (dec_lt i p.from) [
     | yes h ↦ rw (lt-ltb i p.from h) (part-before p.from (p.to - p.from) (with_block p.stride p.x p.y block) l whole put-length i 0 h)
     | no h ↦ rw (le-ltb i p.from (omega arith)) (elim (dec_lt i p.to) [
@@ -92,11 +91,10 @@ module _ (p : BlockLocation) (l : List ℕ) (holds : BlockInside p (length l)) w
   half : (n : ℕ) → 2 * n / 2 ≡ n
   half n = omega arith
 
-  pub read_is : prediction (plane_of p l) p.stride (2 * p.x) (2 * p.y) ≡ read_at p l
+  pub read_is : copied_pels 8 (plane_of p l) p.stride (2 * p.x) (2 * p.y) ≡ read_at p l
   unfolding read_at pel_index
   read_is = tab-ext 64 _ _ (λ k h.
-      sym (predicted-whole (plane_of p l) p.stride (2 * p.x) (2 * p.y) k (omega arith))
-      ∙ (λ i. pel_at (plane_of p l) p.stride (half p.x i + k % 8) (half p.y i + k / 8))
+      (λ i. pel_at (plane_of p l) p.stride (half p.x i + k % 8) (half p.y i + k / 8))
       ∙ plane-at p [] l holds (at k) (at-below k h))
 
   -- reading gives what was put

@@ -8,7 +8,7 @@ use native.Mathlib.Decide.{ℕ_discrete, dec_lt, dec_le}
 use lib.ListN.{length, get_or}
 use lib.Seq.{ext_get_or}
 use Rattle.math.proofs.Tab.{tab-at}
-use Rattle.decode_prediction.specs.Prediction.{pel_at, prediction, copied_luma}
+use Rattle.decode_prediction.specs.Prediction.{pel_at, prediction, copied_pels}
 use Rattle.decode_prediction.proofs.MeanLaws.{predicted-whole}
 use Rattle.decode_macroblock.specs.Pel.{with_pels, with_block}
 use Rattle.decode_macroblock.proofs.PelLaws.{pel_in, with-pels-length, with-pels-out, with-pels-in}
@@ -118,7 +118,7 @@ line py q k = omega arith
 
 -- at whole pels each quarter of the luma pels is a prediction
 pub quarter-predicted : (plane : List ℕ) (stride px py q k : ℕ) → px % 2 + py % 2 ≡ 0 → q < 4 → k < 64
-    → get_or (prediction plane stride (px + 16 * (q % 2)) (py + 16 * (q / 2))) k 0 ≡ get_or (copied_luma plane stride px py) (pel_of_quarter q k) 0
+    → get_or (prediction plane stride (px + 16 * (q % 2)) (py + 16 * (q / 2))) k 0 ≡ get_or (copied_pels 16 plane stride px py) (pel_of_quarter q k) 0
 quarter-predicted plane stride px py q k even few h =
     tab-at 64 _ k 0 h
     ∙ sym (predicted-whole plane stride (px + 16 * (q % 2)) (py + 16 * (q / 2)) k (omega arith))

@@ -10,6 +10,7 @@ use lib.Dec.{ltb}
 use lib.IntN.{ℤ}
 use lib.ListN.{length, get_or, replicate}
 use lib.Seq.{ext_get_or}
+use Rattle.std.specs.Prelude.{Option, Some, None, is_some}
 use Rattle.math.proofs.Tab.{tab-ext}
 use Rattle.math.specs.Bound.{at}
 use Rattle.symbols.specs.Pattern.{is_coded}
@@ -17,6 +18,7 @@ use Rattle.symbols.specs.Size.{picture_bytes}
 use Rattle.decode_idct.specs.Transform.{residues_by}
 use Rattle.decode_macroblock.specs.Pel.{reconstructed_block, reconstructed_pel}
 use Rattle.decode_macroblock.specs.declared.location.MacroblockPosition.{MacroblockPosition}
+use Rattle.decode_macroblock.specs.declared.compensation.Vector.{Vector}
 use Rattle.decode_macroblock.specs.declared.compensation.Motion.{Motion}
 use Rattle.decode_macroblock.specs.Location.{block_location, read_at, put_at}
 use Rattle.decode_macroblock.specs.Requires.{Inside, BlockInside}
@@ -72,12 +74,16 @@ module _ (p : MacroblockPosition) (inside : Inside p) (k : ℕ) (low : k < 6) (l
       ap (λ (q : List ℕ). get_or (read_at (block_location p k) q) j 0) (sym (blocks-changed blocks blocks (λ b e. refl)))
       ∙ read-put (block_location p k) six (holds p inside blocks k six low (blocks-length p inside blocks 6 l (omega arith) long)) (blocks k) j h
 
+unused : (vector : Option Vector) → is_some vector ≡ false → vector ≡ None
+unused None e = refl
+unused (Some v) e = absurd (let z : ◌≡◌ {A = ℕ} 0 1 = cc in omega arith)
+
 module _ (transform : List ℤ → ℕ → ℤ) (r : References) (p : MacroblockPosition) (m : Motion) (pattern : ℕ) (c : List (List ℤ)) where
   -- ---- if neither direction is used, each block is its residue
-  pub intra-blocks : (l : List ℕ) → m.forward ≡ false → m.backward ≡ false
+  pub intra-blocks : (l : List ℕ) → is_some m.forward ≡ false → is_some m.backward ≡ false
       → with_blocks p (λ block. with_residue transform pattern c block (replicate 64 0)) 6 l ≡ with_blocks p (pels_of transform r p m pattern c) 6 l
   unfolding pels_of predicted_block
-  intra-blocks l forward backward = blocks-same p _ _ 6 l (λ b h. rw (forward, backward))
+  intra-blocks l forward backward = blocks-same p _ _ 6 l (λ b h. rw (unused m.forward forward, unused m.backward backward))
 
   -- ---- the residues of the first n blocks have been added
   pub partly_added : ℕ → ℕ → List ℕ

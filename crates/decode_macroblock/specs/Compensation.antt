@@ -1,9 +1,9 @@
 -- The prediction of a block from the references: motion compensation (document 01, "Vectors and prediction").
-use Rattle.std.specs.Prelude.{Bool, cond, ◌&&◌, List, ℕ, ◌-◌, eqb, take, drop, replicate}
+use Rattle.std.specs.Prelude.{Bool, cond, ◌&&◌, List, ℕ, ◌-◌, eqb, take, drop, replicate, Option, Some, None, option_map}
 use Rattle.symbols.specs.Pattern.{is_luma}
 use Rattle.decode_vectors.specs.Vector.{chroma_vector, odd_bit}
 use Rattle.decode_prediction.specs.Fit.{half_pel_coordinate}
-use Rattle.decode_prediction.specs.Prediction.{prediction, copied_luma, mean_of_both}
+use Rattle.decode_prediction.specs.Prediction.{prediction, copied_pels, mean_of_both}
 use Rattle.decode_macroblock.specs.declared.location.MacroblockPosition.{MacroblockPosition}
 use Rattle.decode_macroblock.specs.declared.location.BlockLocation.{BlockLocation}
 use Rattle.decode_macroblock.specs.declared.compensation.Vector.{Vector}
@@ -39,22 +39,24 @@ half_pels p v = record { px = half_pel_coordinate p.x v.right; py = half_pel_coo
 unfoldable pub predicted_from : List ℕ → BlockLocation → Vector → List ℕ
 predicted_from reference p v = prediction (plane_of p reference) p.stride (half_pels p v).px (half_pels p v).py
 
--- the 16 by 16 luma pels that it points to, if it points to whole pels
-unfoldable pub copied_luma_from : List ℕ → BlockLocation → Vector → List ℕ
-copied_luma_from reference p v = copied_luma (plane_of p reference) p.stride (half_pels p v).px (half_pels p v).py
+-- the `side` by `side` pels that it points to, if it points to whole pels
+unfoldable pub copied_from : ℕ → List ℕ → BlockLocation → Vector → List ℕ
+copied_from side reference p v = copied_pels side (plane_of p reference) p.stride (half_pels p v).px (half_pels p v).py
 
 -- the block that a macroblock's vector points to, from one of its blocks
 abbrev pub pointed_block : List ℕ → MacroblockPosition → Vector → ℕ → List ℕ
 pointed_block reference p v block = predicted_from reference (block_location p block) (vector_for block v)
 
 -- one direction, "the mean of both directions", or "0 for intra"
-abbrev pub combined : Bool → Bool → List ℕ → List ℕ → List ℕ
-combined forward backward before after =
-    cond forward (cond backward (mean_of_both before after) before) (cond backward after (replicate 64 0))
+abbrev pub combined : Option (List ℕ) → Option (List ℕ) → List ℕ
+combined (Some before) (Some after) = mean_of_both before after
+combined (Some before) None = before
+combined None (Some after) = after
+combined None None = replicate 64 0
 
 -- the prediction of a block, from the directions in use
 unfoldable pub predicted_block : List ℕ → List ℕ → Motion → BlockLocation → ℕ → List ℕ
 predicted_block forward backward m p block =
-    combined m.forward m.backward
-    (predicted_from forward p (vector_for block m.forward_vector))
-    (predicted_from backward p (vector_for block m.backward_vector))
+    combined
+    (option_map (λ v. predicted_from forward p (vector_for block v)) m.forward)
+    (option_map (λ v. predicted_from backward p (vector_for block v)) m.backward)

@@ -4,7 +4,7 @@ use Rattle.math.specs.Part.{part}
 use Rattle.math.specs.Tab.{tab}
 use Rattle.symbols.specs.declared.size.PictureSize.{PictureSize}
 use Rattle.symbols.specs.Size.{macroblock_count, start_of_y, start_of_cb, start_of_cr, column_of_address, row_of_address}
-use Rattle.decode_macroblock.specs.Pel.{pel_index, with_pels, with_block}
+use Rattle.decode_macroblock.specs.Pel.{pel_index, with_pels}
 use Rattle.decode_macroblock.specs.declared.location.MacroblockPosition.{MacroblockPosition}
 use Rattle.decode_macroblock.specs.declared.location.BlockLocation.{BlockLocation}
 
@@ -44,10 +44,21 @@ block_location p block =
 unfoldable pub read_at : BlockLocation → List ℕ → List ℕ
 read_at p picture = tab 64 (λ k. get_or picture (p.from + pel_index 8 p.stride p.x p.y k) 0)
 
--- the picture with a block put at its location
-unfoldable pub put_at : BlockLocation → List ℕ → List ℕ → List ℕ
-put_at p block picture = part p.from (p.to - p.from) (with_block p.stride p.x p.y block) picture
+-- the picture with `side` by `side` pels put at a location
+unfoldable pub put_pels_at : ℕ → BlockLocation → List ℕ → List ℕ → List ℕ
+put_pels_at side p square picture = part p.from (p.to - p.from) (with_pels side p.stride p.x p.y square) picture
 
--- the same for 16 by 16 luma pels
-unfoldable pub put_luma_at : BlockLocation → List ℕ → List ℕ → List ℕ
-put_luma_at p square picture = part p.from (p.to - p.from) (with_pels 16 p.stride p.x p.y square) picture
+-- the picture with a block put at its location
+abbrev pub put_at : BlockLocation → List ℕ → List ℕ → List ℕ
+put_at p block picture = put_pels_at 8 p block picture
+
+-- ---- what the code uses: a macroblock's first pel, in the plane from `from` to `to` with `side` by `side` pels a macroblock
+abbrev pub first_location : MacroblockPosition → ℕ → ℕ → ℕ → BlockLocation
+first_location p side from to = record {
+  from = from;
+  to = to;
+  stride = side * p.size.width;
+  lines = side * p.size.height;
+  x = side * p.column;
+  y = side * p.row;
+}

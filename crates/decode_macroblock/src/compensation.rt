@@ -1,8 +1,8 @@
 // Motion compensation: the prediction of a block from the lent references.
-ghost use Rattle.std.specs.Prelude.{◌≡◌, true, ◌+◌, ◌*◌, ◌≤◌};
+ghost use Rattle.std.specs.Prelude.{◌≡◌, ◌*◌, ◌≤◌};
 ghost use Rattle.decode_vectors.specs.Vector.{max_vector};
-ghost use Rattle.decode_macroblock.specs.Requires.{VectorWithin, Pointing, Readable, Predictable};
-ghost use Rattle.decode_macroblock.specs.Compensation.{vector_for, is_whole_pel, half_pels, predicted_from, copied_luma_from, predicted_block};
+ghost use Rattle.decode_macroblock.specs.Requires.{VectorWithin, Pointing, PelsReadable, Readable, Predictable};
+ghost use Rattle.decode_macroblock.specs.Compensation.{vector_for, is_whole_pel, half_pels, predicted_from, copied_from, predicted_block};
 
 use crate::location::BlockLocation;
 use decode_prediction::{fit, prediction};
@@ -15,13 +15,23 @@ pub struct Vector {
     pub down: i32,
 }
 
-// The directions that a macroblock is predicted from, and their vectors; with neither direction it is intra.
+impl Vector {
+    pub const ZERO: Vector = Vector { right: 0, down: 0 };
+}
+
+// The vectors of the directions that a macroblock is predicted from; with neither direction it is intra.
 #[derive(Clone, Copy)]
 pub struct Motion {
-    pub forward: bool,
-    pub backward: bool,
-    pub forward_vector: Vector,
-    pub backward_vector: Vector,
+    pub forward: Option<Vector>,
+    pub backward: Option<Vector>,
+}
+
+impl Motion {
+    // No prediction.
+    pub const NONE: Motion = Motion {
+        forward: None,
+        backward: None,
+    };
 }
 
 // The vector for a block's plane: halved for chroma.
@@ -78,43 +88,24 @@ pub(crate) fn is_whole_pel(vector: Vector) -> bool
     requires { VectorWithin max_vector vector }
     ensures { result ≡ is_whole_pel vector }
 {
-    if vector.right % 2 != 0 {
-        return false;
-    }
-    if vector.down % 2 != 0 {
-        return false;
-    }
-    true
+    vector.right % 2 == 0 && vector.down % 2 == 0
 }
 
-// The same with a vector that points to whole pels: a plain copy, no averaging.
-#[tactic(auto, unfolding(crate::specs::Compensation::predicted_from))]
-pub(crate) fn copy_block_from(reference: &[u8], location: BlockLocation, vector: Vector) -> [u8; 64]
-    requires { Readable location vector reference.now × (is_whole_pel vector ≡ true) }
-    ensures { result ≡ predicted_from reference.now location vector }
+// The SIDE by SIDE pels that a vector for the plane points to: a plain copy from whole pels, no averaging.
+#[tactic(auto, unfolding(crate::specs::Compensation::copied_from))]
+pub(crate) fn copy_from<const SIDE: usize, const PELS: usize>(
+    reference: &[u8],
+    location: BlockLocation,
+    vector: Vector,
+) -> [u8; PELS]
+    requires sides { (SIDE * SIDE ≡ PELS) × (SIDE ≤ 16) }
+    requires readable { PelsReadable SIDE location vector reference.now }
+    ensures { result ≡ copied_from SIDE reference.now location vector }
 {
     let from = location.from;
     let to = location.to;
     let at = half_pels(location, vector);
-    prediction::copy_block(
-        &reference[from..to],
-        location.stride,
-        location.lines,
-        at.px,
-        at.py,
-    )
-}
-
-// The 16 by 16 luma pels that a vector points to.
-#[tactic(auto, unfolding(crate::specs::Compensation::copied_luma_from))]
-pub(crate) fn copy_luma_from(reference: &[u8], location: BlockLocation, vector: Vector) -> [u8; 256]
-    requires { Readable location vector reference.now × ((half_pels location vector).px + 32 ≤ 2 * location.stride) × ((half_pels location vector).py + 32 ≤ 2 * location.lines) }
-    ensures { result ≡ copied_luma_from reference.now location vector }
-{
-    let from = location.from;
-    let to = location.to;
-    let at = half_pels(location, vector);
-    prediction::copy_luma_pels(
+    prediction::copy_pels::<SIDE, PELS>(
         &reference[from..to],
         location.stride,
         location.lines,
@@ -135,19 +126,14 @@ pub(crate) fn predict(
     requires { Predictable motion location block forward.now backward.now }
     ensures { result ≡ predicted_block forward.now backward.now motion location block }
 {
-    if motion.forward {
-        let forward_vector = vector_for(block, motion.forward_vector);
-        let before = predict_block_from(forward, location, forward_vector);
-        if motion.backward {
-            let backward_vector = vector_for(block, motion.backward_vector);
-            let after = predict_block_from(backward, location, backward_vector);
-            return prediction::mean_of_both(before, after);
+    match (motion.forward, motion.backward) {
+        (Some(forward_vector), Some(backward_vector)) => {
+            let before = predict_block_from(forward, location, vector_for(block, forward_vector));
+            let after = predict_block_from(backward, location, vector_for(block, backward_vector));
+            prediction::mean_of_both(before, after)
         }
-        return before;
+        (Some(vector), None) => predict_block_from(forward, location, vector_for(block, vector)),
+        (None, Some(vector)) => predict_block_from(backward, location, vector_for(block, vector)),
+        (None, None) => [0u8; 64],
     }
-    if motion.backward {
-        let backward_vector = vector_for(block, motion.backward_vector);
-        return predict_block_from(backward, location, backward_vector);
-    }
-    [0u8; 64]
 }

@@ -1,9 +1,9 @@
 // The locations of a macroblock's blocks in a picture, and reading and putting a block there.
-ghost use Rattle.std.specs.Prelude.{◌≡◌, ◌+◌, ◌-◌, ◌*◌, ◌≤◌, ◌<◌, length};
+ghost use Rattle.std.specs.Prelude.{◌≡◌, ◌*◌, ◌≤◌, ◌<◌, length};
 ghost use Rattle.symbols.specs.Requires.{SizeWithin};
-ghost use Rattle.symbols.specs.Size.{max_macroblocks, macroblock_count};
-ghost use Rattle.decode_macroblock.specs.Location.{macroblock_position, luma_location, chroma_location, block_location, read_at, put_at, put_luma_at};
-ghost use Rattle.decode_macroblock.specs.Requires.{Inside, BlockInside};
+ghost use Rattle.symbols.specs.Size.{max_macroblocks};
+ghost use Rattle.decode_macroblock.specs.Location.{macroblock_position, first_location, block_location, read_at, put_pels_at};
+ghost use Rattle.decode_macroblock.specs.Requires.{Inside, PelsInside, BlockInside};
 
 use crate::block;
 use decode_prediction::prediction;
@@ -32,55 +32,28 @@ pub(crate) fn macroblock_position(size: PictureSize, address: usize) -> Macroblo
     requires { SizeWithin max_macroblocks size }
     ensures { result ≡ macroblock_position size address }
 {
-    let width = size.width;
-    let column = address % width;
-    let row = address / width;
+    let column = address % size.width;
+    let row = address / size.width;
     MacroblockPosition { size, column, row }
 }
 
-// The location of one of the four Y blocks, left to right, top to bottom.
-fn luma_location(position: MacroblockPosition, block: usize) -> BlockLocation
-    requires { Inside position × (block < 4) }
-    ensures { result ≡ luma_location position block }
+// A macroblock's first pel, in the plane from `from` to `to` with `side` by `side` pels a macroblock.
+fn first_location(
+    position: MacroblockPosition,
+    side: usize,
+    from: usize,
+    to: usize,
+) -> BlockLocation
+    requires { Inside position × (side ≤ 16) }
+    ensures { result ≡ first_location position side from to }
 {
-    let width = position.size.width;
-    let height = position.size.height;
-    let macroblocks = width * height;
-    let to = 256 * macroblocks;
-    let stride = 16 * width;
-    let lines = 16 * height;
-    let x = 16 * position.column + 8 * (block % 2);
-    let y = 16 * position.row + 8 * (block / 2);
-    BlockLocation {
-        from: 0,
-        to,
-        stride,
-        lines,
-        x,
-        y,
-    }
-}
-
-// The location of the chroma block in the plane that starts at `from`.
-fn chroma_location(position: MacroblockPosition, from: usize) -> BlockLocation
-    requires { Inside position × (from ≤ 320 * macroblock_count position.size) }
-    ensures { result ≡ chroma_location position from }
-{
-    let width = position.size.width;
-    let height = position.size.height;
-    let macroblocks = width * height;
-    let to = from + 64 * macroblocks;
-    let stride = 8 * width;
-    let lines = 8 * height;
-    let x = 8 * position.column;
-    let y = 8 * position.row;
     BlockLocation {
         from,
         to,
-        stride,
-        lines,
-        x,
-        y,
+        stride: side * position.size.width,
+        lines: side * position.size.height,
+        x: side * position.column,
+        y: side * position.row,
     }
 }
 
@@ -90,16 +63,21 @@ pub(crate) fn block_location(position: MacroblockPosition, block: usize) -> Bloc
     requires { Inside position × (block < 6) }
     ensures { result ≡ block_location position block }
 {
-    let width = position.size.width;
-    let height = position.size.height;
-    let macroblocks = width * height;
+    let macroblocks = position.size.width * position.size.height;
+    let cb = 256 * macroblocks;
+    let cr = 320 * macroblocks;
     if block < 4 {
-        return luma_location(position, block);
+        let luma = first_location(position, 16, 0, cb);
+        return BlockLocation {
+            x: luma.x + 8 * (block % 2),
+            y: luma.y + 8 * (block / 2),
+            ..luma
+        };
     }
     if block == 4 {
-        return chroma_location(position, 256 * macroblocks);
+        return first_location(position, 8, cb, cr);
     }
-    chroma_location(position, 320 * macroblocks)
+    first_location(position, 8, cr, 384 * macroblocks)
 }
 
 // The block at a location.
@@ -112,34 +90,27 @@ pub(crate) fn read(picture: &[u8], location: BlockLocation) -> [u8; 64]
     let lines = location.y + 8;
     let px = 2 * location.x;
     let py = 2 * location.y;
-    prediction::copy_block(&picture[from..to], location.stride, lines, px, py)
+    prediction::copy_pels::<8, 64>(&picture[from..to], location.stride, lines, px, py)
 }
 
-// Puts a block at its location, by lending on the part of the output that is its plane.
-#[tactic(auto, unfolding(crate::specs::Location::put_at, math::specs::Part::part))]
-pub(crate) fn put(output: &mut [u8], location: BlockLocation, block: [u8; 64])
-    requires { BlockInside location (length output.old) }
-    ensures { output.new ≡ put_at location block output.old }
+// Puts SIDE by SIDE pels at a location, by lending on the part of the output that is its plane.
+#[tactic(auto, unfolding(crate::specs::Location::put_pels_at, math::specs::Part::part))]
+pub(crate) fn put<const SIDE: usize, const PELS: usize>(
+    output: &mut [u8],
+    location: BlockLocation,
+    pels: [u8; PELS],
+)
+    requires sides { (SIDE * SIDE ≡ PELS) × (SIDE ≤ 16) }
+    requires inside { PelsInside SIDE location (length output.old) }
+    ensures { output.new ≡ put_pels_at SIDE location pels.entry output.old }
 {
     let from = location.from;
     let to = location.to;
-    let x = location.x;
-    block::put_block(&mut output[from..to], location.stride, x, location.y, block);
-}
-
-// Puts 16 by 16 luma pels at their location.
-#[tactic(auto, unfolding(crate::specs::Location::put_luma_at, math::specs::Part::part))]
-pub(crate) fn put_luma(output: &mut [u8], location: BlockLocation, luma: [u8; 256])
-    requires { BlockInside location (length output.old) × (location.x + 16 ≤ location.stride) × ((location.y + 16) * location.stride ≤ location.to - location.from) }
-    ensures { output.new ≡ put_luma_at location luma output.old }
-{
-    let from = location.from;
-    let to = location.to;
-    block::put_luma_pels(
+    block::put_pels::<SIDE, PELS>(
         &mut output[from..to],
         location.stride,
         location.x,
         location.y,
-        luma,
+        pels,
     );
 }

@@ -33,7 +33,7 @@ fn write_predicted_block(
 {
     let location = location::block_location(position, block);
     let predicted = compensation::predict(forward, backward, motion, location, block);
-    location::put(output, location, predicted);
+    location::put::<8, 64>(output, location, predicted);
 }
 
 // Copies one block from the whole pels that the vector for its plane points to.
@@ -48,8 +48,8 @@ fn copy_block_at(
     ensures { output.new ≡ put_at (block_location position block) (predicted_from reference.now (block_location position block) vector) output.old }
 {
     let location = location::block_location(position, block);
-    let copied = compensation::copy_block_from(reference, location, vector);
-    location::put(output, location, copied);
+    let copied = compensation::copy_from::<8, 64>(reference, location, vector);
+    location::put::<8, 64>(output, location, copied);
 }
 
 // Copies the four Y blocks as 16 by 16 luma pels: a line of sixteen bytes takes no more loads and stores than one of eight.
@@ -58,8 +58,8 @@ fn copy_luma(output: &mut [u8], reference: &[u8], position: MacroblockPosition, 
     ensures { output.new ≡ with_blocks position (pointed_block reference.now position vector) 4 output.old }
 {
     let location = location::block_location(position, 0);
-    let luma = compensation::copy_luma_from(reference, location, vector);
-    location::put_luma(output, location, luma);
+    let luma = compensation::copy_from::<16, 256>(reference, location, vector);
+    location::put::<16, 256>(output, location, luma);
 }
 
 // Copies the blocks that the vector points to whole pels for, and answers how many it wrote: none, four (Y) or all six.
@@ -99,16 +99,11 @@ fn copy_blocks(
     ensures upper_bound { result ≤ 6 }
     ensures output_after { output.new ≡ with_blocks position (pels_of inverse_transform (references forward.now backward.now) position motion 0 []) result output.old }
 {
-    if motion.forward {
-        if motion.backward {
-            return 0;
-        }
-        return copy_whole_pels(output, forward, position, motion.forward_vector);
+    match (motion.forward, motion.backward) {
+        (Some(vector), None) => copy_whole_pels(output, forward, position, vector),
+        (None, Some(vector)) => copy_whole_pels(output, backward, position, vector),
+        _ => 0,
     }
-    if motion.backward {
-        return copy_whole_pels(output, backward, position, motion.backward_vector);
-    }
-    0
 }
 
 // Writes the predictions of the six blocks.
@@ -148,7 +143,7 @@ fn add_residue_at(
     let predicted = location::read(output, location);
     let coded = residue::reconstruct_coded_block(predicted, coefficients, marks, block);
     let sums = coded.pels;
-    location::put(output, location, sums);
+    location::put::<8, 64>(output, location, sums);
     coded.rows
 }
 
@@ -170,7 +165,7 @@ fn write_inter(
     predict_blocks(output, forward, backward, position, motion);
     let mut rows: usize = 0;
     for block in 0..6 {
-        rows = rows + add_residue_at(output, position, pattern, coefficients, marks, block);
+        rows += add_residue_at(output, position, pattern, coefficients, marks, block);
     }
     rows
 }
@@ -191,7 +186,7 @@ fn write_intra_block(
     let location = location::block_location(position, block);
     let reconstructed = residue::add_residue([0u8; 64], pattern, coefficients, marks, block);
     let pels = reconstructed.pels;
-    location::put(output, location, pels);
+    location::put::<8, 64>(output, location, pels);
     reconstructed.rows
 }
 
@@ -209,7 +204,7 @@ fn write_intra(
 {
     let mut rows: usize = 0;
     for block in 0..6 {
-        rows = rows + write_intra_block(output, position, pattern, coefficients, marks, block);
+        rows += write_intra_block(output, position, pattern, coefficients, marks, block);
     }
     rows
 }
@@ -231,10 +226,8 @@ pub fn write_macroblock(
     ensures value { result ≡ macroblock_rows pattern (six_blocks coefficients.now) }
 {
     let position = location::macroblock_position(size, address);
-    if !motion.forward {
-        if !motion.backward {
-            return write_intra(output, position, pattern, coefficients, marks);
-        }
+    if motion.forward.is_none() && motion.backward.is_none() {
+        return write_intra(output, position, pattern, coefficients, marks);
     }
     write_inter(
         output,

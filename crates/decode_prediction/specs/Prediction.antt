@@ -31,9 +31,9 @@ predicted_pel plane stride px py k =
 abbrev pub prediction : List ℕ → ℕ → ℕ → ℕ → List ℕ
 prediction plane stride px py = tab 64 (predicted_pel plane stride px py)
 
--- the 16 by 16 luma pels at (px, py), without averaging: four predictions if px and py are even
-abbrev pub copied_luma : List ℕ → ℕ → ℕ → ℕ → List ℕ
-copied_luma plane stride px py = tab 256 (λ k. pel_at plane stride (px / 2 + k % 16) (py / 2 + k / 16))
+-- the `side` by `side` pels at (px, py), without averaging: if px and py are even, 8 by 8 are a prediction and 16 by 16 are four
+abbrev pub copied_pels : ℕ → List ℕ → ℕ → ℕ → ℕ → List ℕ
+copied_pels side plane stride px py = tab (side * side) (λ k. pel_at plane stride (px / 2 + k % side) (py / 2 + k / side))
 
 -- "as does the mean of both directions": the mean of the two predictions, each already rounded
 abbrev pub mean_of_both : List ℕ → List ℕ → List ℕ

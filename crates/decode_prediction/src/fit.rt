@@ -12,13 +12,7 @@ fn vector_fits(x: usize, width: usize, vector: i32) -> bool
 {
     let coordinate = 2 * x as i32 + vector;
     let last = 2 * (width as i32 - 16);
-    if coordinate < 0 {
-        return false;
-    }
-    if last < coordinate {
-        return false;
-    }
-    true
+    0 <= coordinate && coordinate <= last
 }
 
 // Whether a luma vector, right and down, fits for the macroblock in this column and row.
@@ -34,10 +28,7 @@ pub fn macroblock_fits(
     requires { (width ≤ 2 ^ 12) × (height ≤ 2 ^ 12) × (column ≤ width) × (row ≤ height) × Within (2 ^ 16) right × Within (2 ^ 16) down }
     ensures { result ≡ macroblock_fits width height column row right down }
 {
-    if !vector_fits(16 * column, 16 * width, right) {
-        return false;
-    }
-    vector_fits(16 * row, 16 * height, down)
+    vector_fits(16 * column, 16 * width, right) && vector_fits(16 * row, 16 * height, down)
 }
 
 // The coordinate that a vector points to from pel x, in half pels.

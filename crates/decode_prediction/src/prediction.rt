@@ -1,19 +1,19 @@
 // The prediction of an 8 by 8 block from a plane of a reference picture, at coordinates in half pels.
 ghost use Rattle.std.specs.Prelude.{◌≡◌, ◌+◌, ◌*◌, ◌/◌, ◌%◌, ◌≤◌, ◌<◌, length};
-ghost use Rattle.decode_prediction.specs.Prediction.{mean_of, pel_at, predicted_pel, prediction, copied_luma, mean_of_both};
+ghost use Rattle.decode_prediction.specs.Prediction.{mean_of, predicted_pel, prediction, copied_pels, mean_of_both};
 
 // The mean of four pels, with halves rounded up.
 fn mean_of_four(a: u8, b: u8, c: u8, d: u8) -> u8
     ensures { result ≡ mean_of 4 (a + b + c + d) }
 {
-    ((a as u32 + b as u32 + c as u32 + d as u32 + 2) / 4) as u8
+    ((u32::from(a) + u32::from(b) + u32::from(c) + u32::from(d) + 2) / 4) as u8
 }
 
 // The mean of two pels, with halves rounded up.
 fn mean_of_two(a: u8, b: u8) -> u8
     ensures { result ≡ mean_of 2 (a + b) }
 {
-    ((a as u32 + b as u32 + 1) / 2) as u8
+    ((u32::from(a) + u32::from(b) + 1) / 2) as u8
 }
 
 // Pel k of the block at (px, py): the mean of two pels if one of px and py is odd, of four if both are.
@@ -58,55 +58,26 @@ pub fn predict_block(plane: &[u8], stride: usize, lines: usize, px: usize, py: u
     block
 }
 
-// Pel k of the block at (px, py), both even.
-fn copy_pel(plane: &[u8], stride: usize, lines: usize, px: usize, py: usize, k: usize) -> u8
-    requires { (px + 16 ≤ 2 * stride) × (py + 16 ≤ 2 * lines) × (lines * stride ≤ length plane.now) × (k < 64) × (px % 2 + py % 2 ≡ 0) }
-    ensures { result ≡ predicted_pel plane.now stride px py k }
+// The SIDE by SIDE pels at (px, py), in half pels: a plain copy from the whole pels there, no averaging.
+// The inner loop compiles to a load of eight or sixteen bytes; `copy_from_slice` takes more than twice the time.
+pub fn copy_pels<const SIDE: usize, const PELS: usize>(
+    plane: &[u8],
+    stride: usize,
+    lines: usize,
+    px: usize,
+    py: usize,
+) -> [u8; PELS]
+    requires sides { (SIDE * SIDE ≡ PELS) × (SIDE ≤ 16) }
+    requires inside { (px + 2 * SIDE ≤ 2 * stride) × (py + 2 * SIDE ≤ 2 * lines) × (lines * stride ≤ length plane.now) }
+    ensures { result ≡ copied_pels SIDE plane.now stride px py }
 {
-    let x = px / 2 + k % 8;
-    let y = py / 2 + k / 8;
-    plane[y * stride + x]
-}
-
-// Whole-pel prediction of the block at (px, py), both even: a plain copy, no averaging.
-pub fn copy_block(plane: &[u8], stride: usize, lines: usize, px: usize, py: usize) -> [u8; 64]
-    requires { (px + 16 ≤ 2 * stride) × (py + 16 ≤ 2 * lines) × (lines * stride ≤ length plane.now) × (px % 2 + py % 2 ≡ 0) }
-    ensures { result ≡ prediction plane.now stride px py }
-{
-    let mut block = [0u8; 64];
-    for j in 0..8 {
-        for i in 0..8 {
-            let k = 8 * j + i;
-            block[k] = copy_pel(plane, stride, lines, px, py, k);
+    let mut pels = [0u8; PELS];
+    for j in 0..SIDE {
+        for i in 0..SIDE {
+            pels[j * SIDE + i] = plane[(py / 2 + j) * stride + px / 2 + i];
         }
     }
-    block
-}
-
-// Pel k of the 16 by 16 luma pels at (px, py).
-fn copy_luma_pel(plane: &[u8], stride: usize, lines: usize, px: usize, py: usize, k: usize) -> u8
-    requires { (px + 32 ≤ 2 * stride) × (py + 32 ≤ 2 * lines) × (lines * stride ≤ length plane.now) × (k < 256) }
-    ensures { result ≡ pel_at plane.now stride (px / 2 + k % 16) (py / 2 + k / 16) }
-{
-    let x = px / 2 + k % 16;
-    let y = py / 2 + k / 16;
-    let at = y * stride + x;
-    plane[at]
-}
-
-// The 16 by 16 luma pels at (px, py). The inner loop compiles to a load of sixteen bytes.
-pub fn copy_luma_pels(plane: &[u8], stride: usize, lines: usize, px: usize, py: usize) -> [u8; 256]
-    requires { (px + 32 ≤ 2 * stride) × (py + 32 ≤ 2 * lines) × (lines * stride ≤ length plane.now) }
-    ensures { result ≡ copied_luma plane.now stride px py }
-{
-    let mut luma = [0u8; 256];
-    for j in 0..16 {
-        for i in 0..16 {
-            let k = 16 * j + i;
-            luma[k] = copy_luma_pel(plane, stride, lines, px, py, k);
-        }
-    }
-    luma
+    pels
 }
 
 // The mean of the forward and the backward prediction.

@@ -7,6 +7,7 @@ use native.Mathlib.Omega.{arith}
 use borrow.Author.Tests.{ltb-true, ltb-false, eqb-true, lt-ltb, le-leb}
 use lib.Dec.{T, ltb, leb, eqb}
 use lib.IntN.{ℤ}
+use Rattle.std.specs.Prelude.{Some, None, IfSome, OnSome}
 use Rattle.math.specs.Test.{all_below}
 use Rattle.math.proofs.Test.{and_left, and_right, at-below₂}
 use Rattle.math.specs.Bound.{Within}
@@ -24,7 +25,7 @@ use Rattle.decode_vectors.proofs.VectorLaws.{vector-within, used-within, factor-
 use Rattle.decode_macroblock.specs.Requires.{VectorWithin, MotionWithin}
 use Rattle.decode_macroblock.specs.declared.compensation.Motion.{Motion}
 use Rattle.decode_macroblock.specs.declared.compensation.Vector.{Vector}
-use Rattle.decode_state.specs.Vectors.{decoded_vector, vector_pasts_before, forward_after, backward_after, vector_pasts_after, vector_for_use, predicts_forward, predicts_backward, own_motion, next_vector_pasts}
+use Rattle.decode_state.specs.Vectors.{decoded_vector, vector_pasts_before, forward_after, backward_after, vector_pasts_after, vector_for_use, own_vector, predicts_forward, predicts_backward, own_motion, next_vector_pasts}
 use Rattle.decode_state.specs.Requires.{CodeWithin, Decodable, VectorPastsWithin, SymbolsWithin, Updatable}
 use Rattle.decode_state.specs.Plan.{skip_motion}
 use Rattle.decode_state.specs.State.{zero_vector, zero_vector_pasts, no_motion, still_motion}
@@ -86,15 +87,26 @@ pasts-within h m s u =
 used-vector-within : (coding : VectorCoding) (v : Vector) → VectorWithin 1024 v → VectorWithin 2048 (vector_for_use coding v)
 used-vector-within coding v p = record { across = used-within coding.full_pel v.right p.across; below = used-within coding.full_pel v.down p.below }
 
+-- what holds of a direction's vector holds if there is one
+on-used : (P : Vector → Type 0) {v : Vector} (predicts : Bool) → (predicts ≡ true → P v) → IfSome (cond predicts (Some v) None) P
+on-used P true p = p refl
+on-used P false p = tt
+
+own-within : (predicts : Bool) (coding : VectorCoding) (past : Vector) → VectorWithin 1024 past → IfSome (own_vector predicts coding past) (VectorWithin 2048)
+own-within predicts coding past p = on-used (VectorWithin 2048) predicts (λ e. used-vector-within coding past p)
+
 pub motion-within : (h : Header) (type : ℕ) (pasts : VectorPasts) → VectorPastsWithin pasts → MotionWithin 2048 (own_motion h type pasts)
 unfolding own_motion
-motion-within h type pasts p = record { forward = used-vector-within h.forward pasts.forward p.forward; backward = used-vector-within h.backward pasts.backward p.backward }
+motion-within h type pasts p = record {
+  forward = own-within (predicts_forward h.coding_type type) h.forward pasts.forward p.forward;
+  backward = own-within (predicts_backward type) h.backward pasts.backward p.backward;
+}
 
 pub still-within : MotionWithin 2048 still_motion
-still-within = record { forward = zero-within 2048; backward = zero-within 2048 }
+still-within = record { forward = zero-within 2048; backward = tt }
 
 pub no-motion-within : MotionWithin 2048 no_motion
-no-motion-within = record { forward = zero-within 2048; backward = zero-within 2048 }
+no-motion-within = record { forward = tt; backward = tt }
 
 pub skip-within : (coding : ℕ) (last : Motion) → MotionWithin 2048 last → MotionWithin 2048 (skip_motion coding last)
 unfolding skip_motion
@@ -147,22 +159,18 @@ own-backward-used coding type low high legal e =
     let fine = and_right (forward_fine coding type) (backward_fine coding type) (both-directed coding type low high legal) in
     holds (uses_backward coding) (implied (predicts_backward type) (uses_backward coding) fine e)
 
--- nor does a skipped one, if the last macroblock doesn't
-pub skip-forward-used : (coding : ℕ) (last : Motion) → (last.forward ≡ true → uses_forward coding ≡ true) → (skip_motion coding last).forward ≡ true → uses_forward coding ≡ true
+-- nor has a skipped one's, if the last macroblock's doesn't
+pub skip-forward-used : (coding : ℕ) (last : Motion) → OnSome last.forward (uses_forward coding ≡ true) → OnSome (skip_motion coding last).forward (uses_forward coding ≡ true)
 unfolding skip_motion
 skip-forward-used coding last used = go (eqb coding type_p) refl
   where
-    go : (test : Bool) → eqb coding type_p ≡ test → (cond test still_motion last).forward ≡ true → uses_forward coding ≡ true
-    go true e f = le-leb type_p coding (omega (arith, eqb-true coding type_p e))
-    go false e f = used f
+    go : (test : Bool) → eqb coding type_p ≡ test → OnSome (cond test still_motion last).forward (uses_forward coding ≡ true)
+    go true e = le-leb type_p coding (omega (arith, eqb-true coding type_p e))
+    go false e = used
 
-pub skip-backward-used : (coding : ℕ) (last : Motion) → (last.backward ≡ true → uses_backward coding ≡ true) → (skip_motion coding last).backward ≡ true → uses_backward coding ≡ true
+pub skip-backward-used : (coding : ℕ) (last : Motion) → OnSome last.backward (uses_backward coding ≡ true) → OnSome (skip_motion coding last).backward (uses_backward coding ≡ true)
 unfolding skip_motion
-skip-backward-used coding last used = go (eqb coding type_p)
-  where
-    go : (test : Bool) → (cond test still_motion last).backward ≡ true → uses_backward coding ≡ true
-    go true f = absurd (subst T (sym f) tt)
-    go false f = used f
+skip-backward-used coding last used = either (λ (m : Motion). OnSome m.backward (uses_backward coding ≡ true)) (eqb coding type_p) tt used
 
 -- ---- document 01's sentences about the pasts, as laws
 -- "In B an unused direction keeps its past": a direction that is not given is not reset

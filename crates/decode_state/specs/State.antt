@@ -1,5 +1,5 @@
 -- A slice's state between macroblocks (document 01, "Coefficients" and "Vectors and prediction").
-use Rattle.std.specs.Prelude.{true, false, ℕ, pos}
+use Rattle.std.specs.Prelude.{true, false, ℕ, pos, Some, None}
 use Rattle.decode_coefficients.specs.Dc.{reset_dc_pasts}
 use Rattle.decode_macroblock.specs.declared.compensation.Motion.{Motion}
 use Rattle.decode_macroblock.specs.declared.compensation.Vector.{Vector}
@@ -15,11 +15,11 @@ zero_vector_pasts = record { forward = zero_vector; backward = zero_vector }
 
 -- no prediction
 abbrev pub no_motion : Motion
-no_motion = record { forward = false; backward = false; forward_vector = zero_vector; backward_vector = zero_vector }
+no_motion = record { forward = None; backward = None }
 
 -- "P copies with vector 0"
 abbrev pub still_motion : Motion
-still_motion = record { forward = true; backward = false; forward_vector = zero_vector; backward_vector = zero_vector }
+still_motion = record { forward = Some zero_vector; backward = None }
 
 -- the state at a slice's start, from its scale alone
 abbrev pub reset_slice : ℕ → SliceState

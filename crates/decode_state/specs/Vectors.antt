@@ -1,5 +1,5 @@
 -- The vectors of a macroblock, and the vector pasts (predictors) after it (document 01, "Vectors and prediction").
-use Rattle.std.specs.Prelude.{Bool, true, false, cond, ◌&&◌, ℕ, eqb, ltb}
+use Rattle.std.specs.Prelude.{Bool, true, false, cond, ◌&&◌, ℕ, eqb, ltb, Option, Some, None}
 use Rattle.symbols.specs.Header.{type_p}
 use Rattle.symbols.specs.declared.header.Header.{Header}
 use Rattle.symbols.specs.declared.header.VectorCoding.{VectorCoding}
@@ -48,13 +48,15 @@ predicts_forward coding type = cond (is_intra type) false (cond (has_forward typ
 unfoldable pub predicts_backward : ℕ → Bool
 predicts_backward type = cond (is_intra type) false (has_backward type)
 
--- the macroblock's own directions and vectors: the new pasts, converted for use
+-- the vector of a direction: its new past, converted for use; no vector if the macroblock is not predicted from there
+abbrev pub own_vector : Bool → VectorCoding → Vector → Option Vector
+own_vector predicts coding past = cond predicts (Some (vector_for_use coding past)) None
+
+-- the macroblock's own directions and vectors
 unfoldable pub own_motion : Header → ℕ → VectorPasts → Motion
 own_motion h type pasts = record {
-  forward = predicts_forward h.coding_type type;
-  backward = predicts_backward type;
-  forward_vector = vector_for_use h.forward pasts.forward;
-  backward_vector = vector_for_use h.backward pasts.backward;
+  forward = own_vector (predicts_forward h.coding_type type) h.forward pasts.forward;
+  backward = own_vector (predicts_backward type) h.backward pasts.backward;
 }
 
 -- the pasts after a macroblock, with the skipped ones before it

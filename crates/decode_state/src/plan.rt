@@ -43,10 +43,9 @@ pub fn make_plan(header: Header, next: usize, before: SliceState, macroblock: Sy
     requires { Plannable header next before macroblock }
     ensures { result ≡ plan_of header next before macroblock }
 {
-    let last = before.motion;
     let symbols = macroblock.symbols;
-    let skip = skip_motion(header.coding_type, last);
-    let skipped = symbols.increment as usize - 1;
+    let skip = skip_motion(header.coding_type, before.motion);
+    let skipped = usize::from(symbols.increment) - 1;
     let address = next + skipped;
     let slice = slice::after_update(before, header, macroblock);
     let motion = slice.motion;

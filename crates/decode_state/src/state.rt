@@ -2,7 +2,6 @@
 ghost use Rattle.std.specs.Prelude.{◌≡◌};
 ghost use Rattle.decode_state.specs.State.{zero_vector_pasts, still_motion, reset_slice};
 
-use decode_coefficients::dc;
 use decode_coefficients::dc::DcPasts;
 use decode_macroblock::compensation::{Motion, Vector};
 
@@ -31,8 +30,8 @@ pub(crate) fn zero_vector_pasts() -> VectorPasts
     ensures { result ≡ zero_vector_pasts }
 {
     VectorPasts {
-        forward: Vector { right: 0, down: 0 },
-        backward: Vector { right: 0, down: 0 },
+        forward: Vector::ZERO,
+        backward: Vector::ZERO,
     }
 }
 
@@ -41,10 +40,8 @@ pub(crate) fn still_motion() -> Motion
     ensures { result ≡ still_motion }
 {
     Motion {
-        forward: true,
-        backward: false,
-        forward_vector: Vector { right: 0, down: 0 },
-        backward_vector: Vector { right: 0, down: 0 },
+        forward: Some(Vector::ZERO),
+        backward: None,
     }
 }
 
@@ -52,18 +49,11 @@ pub(crate) fn still_motion() -> Motion
 pub fn reset_slice(scale: u8) -> SliceState
     ensures { result ≡ reset_slice scale }
 {
-    let dc = dc::reset_dc_pasts();
-    let pasts = zero_vector_pasts();
     SliceState {
         scale,
-        dc,
-        pasts,
-        motion: Motion {
-            forward: false,
-            backward: false,
-            forward_vector: Vector { right: 0, down: 0 },
-            backward_vector: Vector { right: 0, down: 0 },
-        },
+        dc: DcPasts::reset(),
+        pasts: zero_vector_pasts(),
+        motion: Motion::NONE,
         intra: false,
         first: true,
     }

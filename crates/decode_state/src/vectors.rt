@@ -2,7 +2,7 @@
 ghost use Rattle.std.specs.Prelude.{◌≡◌, ◌≤◌};
 ghost use Rattle.decode_vectors.specs.Vector.{max_past, f_of};
 ghost use Rattle.decode_macroblock.specs.Requires.{VectorWithin};
-ghost use Rattle.decode_state.specs.Vectors.{decoded_vector, vector_pasts_before, forward_after, backward_after, vector_pasts_after, vector_for_use, predicts_forward, predicts_backward, own_motion, next_vector_pasts};
+ghost use Rattle.decode_state.specs.Vectors.{decoded_vector, vector_pasts_before, forward_after, backward_after, vector_pasts_after, vector_for_use, own_vector, predicts_forward, predicts_backward, own_motion, next_vector_pasts};
 ghost use Rattle.decode_state.specs.Requires.{Decodable, VectorPastsWithin, SymbolsWithin};
 
 use crate::state;
@@ -24,7 +24,7 @@ pub fn f_of_coding(coding: VectorCoding) -> u32
     if code < 1 {
         return 1;
     }
-    vector::f_of_code(code as u32)
+    vector::f_of_code(u32::from(code))
 }
 
 // A vector, from its codes and its past.
@@ -38,10 +38,15 @@ fn decode(coding: VectorCoding, past: Vector, codes: VectorCodes) -> Vector
     let right = vector::next_vector(
         f,
         past.right,
-        horizontal.code as i32,
-        horizontal.residual as u32,
+        i32::from(horizontal.code),
+        u32::from(horizontal.residual),
     );
-    let down = vector::next_vector(f, past.down, vertical.code as i32, vertical.residual as u32);
+    let down = vector::next_vector(
+        f,
+        past.down,
+        i32::from(vertical.code),
+        u32::from(vertical.residual),
+    );
     Vector { right, down }
 }
 
@@ -50,10 +55,8 @@ fn decode(coding: VectorCoding, past: Vector, codes: VectorCodes) -> Vector
 fn vector_pasts_before(coding: u8, increment: u16, pasts: VectorPasts) -> VectorPasts
     ensures { result ≡ vector_pasts_before coding increment pasts }
 {
-    if coding == P_PICTURE {
-        if 1 < increment {
-            return state::zero_vector_pasts();
-        }
+    if coding == P_PICTURE && 1 < increment {
+        return state::zero_vector_pasts();
     }
     pasts
 }
@@ -64,14 +67,11 @@ fn forward_after(header: Header, symbols: MacroblockSymbols, past: Vector) -> Ve
     requires { SymbolsWithin header symbols × VectorWithin max_past past }
     ensures { result ≡ forward_after header symbols past }
 {
-    let given = macroblock_type::has_part(symbols.macroblock_type, FORWARD);
-    if given {
-        let coding = header.forward;
-        let codes = symbols.forward;
-        return decode(coding, past, codes);
+    if macroblock_type::has_part(symbols.macroblock_type, FORWARD) {
+        return decode(header.forward, past, symbols.forward);
     }
     if header.coding_type == P_PICTURE {
-        return Vector { right: 0, down: 0 };
+        return Vector::ZERO;
     }
     past
 }
@@ -82,13 +82,10 @@ fn backward_after(header: Header, symbols: MacroblockSymbols, past: Vector) -> V
     requires { SymbolsWithin header symbols × VectorWithin max_past past }
     ensures { result ≡ backward_after header symbols past }
 {
-    let given = macroblock_type::has_part(symbols.macroblock_type, BACKWARD);
-    if !given {
+    if !macroblock_type::has_part(symbols.macroblock_type, BACKWARD) {
         return past;
     }
-    let coding = header.backward;
-    let codes = symbols.backward;
-    decode(coding, past, codes)
+    decode(header.backward, past, symbols.backward)
 }
 
 // The pasts after a macroblock's own codes: 0 after intra.
@@ -97,15 +94,13 @@ fn vector_pasts_after(header: Header, symbols: MacroblockSymbols, pasts: VectorP
     requires { SymbolsWithin header symbols × VectorPastsWithin pasts }
     ensures { result ≡ vector_pasts_after header symbols pasts }
 {
-    let intra = macroblock_type::has_part(symbols.macroblock_type, INTRA);
-    if intra {
+    if macroblock_type::has_part(symbols.macroblock_type, INTRA) {
         return state::zero_vector_pasts();
     }
-    let forward_past = pasts.forward;
-    let backward_past = pasts.backward;
-    let forward = forward_after(header, symbols, forward_past);
-    let backward = backward_after(header, symbols, backward_past);
-    VectorPasts { forward, backward }
+    VectorPasts {
+        forward: forward_after(header, symbols, pasts.forward),
+        backward: backward_after(header, symbols, pasts.backward),
+    }
 }
 
 // A vector for use: doubled if the direction's full-pel flag is set.
@@ -124,14 +119,8 @@ fn predicts_forward(coding: u8, macroblock_type: u8) -> bool
     ensures { result ≡ predicts_forward coding macroblock_type }
 {
     let intra = macroblock_type::has_part(macroblock_type, INTRA);
-    if intra {
-        return false;
-    }
     let given = macroblock_type::has_part(macroblock_type, FORWARD);
-    if given {
-        return true;
-    }
-    coding == P_PICTURE
+    !intra && (given || coding == P_PICTURE)
 }
 
 // Whether a macroblock is predicted backward.
@@ -140,10 +129,18 @@ fn predicts_backward(macroblock_type: u8) -> bool
     ensures { result ≡ predicts_backward macroblock_type }
 {
     let intra = macroblock_type::has_part(macroblock_type, INTRA);
-    if intra {
-        return false;
+    !intra && macroblock_type::has_part(macroblock_type, BACKWARD)
+}
+
+// The vector of a direction for use; no vector if the macroblock is not predicted from there.
+fn own_vector(predicts: bool, coding: VectorCoding, past: Vector) -> Option<Vector>
+    requires { VectorWithin max_past past }
+    ensures { result ≡ own_vector predicts coding past }
+{
+    if !predicts {
+        return None;
     }
-    macroblock_type::has_part(macroblock_type, BACKWARD)
+    Some(vector_for_use(coding, past))
 }
 
 // A macroblock's own directions and vectors for use.
@@ -154,17 +151,9 @@ pub(crate) fn own_motion(header: Header, macroblock_type: u8, pasts: VectorPasts
 {
     let forward = predicts_forward(header.coding_type, macroblock_type);
     let backward = predicts_backward(macroblock_type);
-    let forward_coding = header.forward;
-    let backward_coding = header.backward;
-    let forward_past = pasts.forward;
-    let backward_past = pasts.backward;
-    let forward_vector = vector_for_use(forward_coding, forward_past);
-    let backward_vector = vector_for_use(backward_coding, backward_past);
     Motion {
-        forward,
-        backward,
-        forward_vector,
-        backward_vector,
+        forward: own_vector(forward, header.forward, pasts.forward),
+        backward: own_vector(backward, header.backward, pasts.backward),
     }
 }
 

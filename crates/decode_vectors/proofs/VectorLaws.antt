@@ -13,29 +13,14 @@ use lib.Pow.{pow_mono, pow_pos}
 use Rattle.math.specs.Bound.{Within}
 use Rattle.math.specs.Limit.{eq_z, sign_of}
 use Rattle.math.proofs.Bound.{within-add, within-mul, within-neg, within-literal, within_more, within-eq, within-cond, within_both}
-use Rattle.math.proofs.Compare.{abs-below, abs-above}
 use Rattle.math.proofs.Difference.{same_of, parts_add}
-use Rattle.math.proofs.Limit.{range-between, between-range, sign-within, signed_below, signed_above, signed-none, signed-positive, signed-negative}
+use Rattle.math.proofs.Limit.{range-between, between-range, sign-within, signed-none, signed-positive, signed-negative}
 use Rattle.math.proofs.Machine.{quot_le}
 use Rattle.math.proofs.Test.{both_true}
 use Rattle.decode_vectors.specs.Vector.{f_of, vector_difference_of, lowest, highest, vector_of, code_in_range, residual_in_range, past_in_range, f_code_and_past_in_range, vector_entry_in_range, used_vector, chroma_vector}
 use Rattle.decode_vectors.proofs.WrapLaws.{Inside, sum-reach, wrapped-reach, wrapped-within}
 
--- ---- the difference in its three cases, as the program computes it
-pub difference_below : (f code residual : ℤ) → lt_z code (pos 0) ≡ true
-    → pos 0 -ℤ ((pos 0 -ℤ code -ℤ pos 1) *ℤ f +ℤ residual +ℤ pos 1) ≡ vector_difference_of f code residual
-unfolding vector_difference_of
-difference_below f code residual e =
-    ap (λ (z : ℤ). pos 0 -ℤ ((z -ℤ pos 1) *ℤ f +ℤ residual +ℤ pos 1)) (sym (abs-below code e))
-    ∙ signed_below code ((pos (nat_abs code) -ℤ pos 1) *ℤ f +ℤ residual +ℤ pos 1) e
-
-pub difference-above : (f code residual : ℤ) → lt_z code (pos 0) ≡ false → lt_z (pos 0) code ≡ true
-    → (code -ℤ pos 1) *ℤ f +ℤ residual +ℤ pos 1 ≡ vector_difference_of f code residual
-unfolding vector_difference_of
-difference-above f code residual e g =
-    ap (λ (z : ℤ). (z -ℤ pos 1) *ℤ f +ℤ residual +ℤ pos 1) (sym (abs-above code e))
-    ∙ signed_above code ((pos (nat_abs code) -ℤ pos 1) *ℤ f +ℤ residual +ℤ pos 1) e g
-
+-- ---- the difference of code 0
 pub difference-none : (f code residual : ℤ) → lt_z code (pos 0) ≡ false → lt_z (pos 0) code ≡ false → pos 0 ≡ vector_difference_of f code residual
 unfolding vector_difference_of
 difference-none f code residual e g = signed-none code ((pos (nat_abs code) -ℤ pos 1) *ℤ f +ℤ residual +ℤ pos 1) e g

@@ -1,16 +1,10 @@
 // A motion vector from its code, its residual and the past (its predictor), and the vectors for use.
-ghost use Rattle.std.specs.Prelude.{◌≡◌, ◌^◌, ◌≤◌, ◌<◌, pos, ◌+ℤ◌, ◌-ℤ◌, ◌*ℤ◌};
+ghost use Rattle.std.specs.Prelude.{◌≡◌, ◌^◌, ◌≤◌, ◌<◌, pos};
 ghost use Rattle.math.specs.Bound.{Within};
+ghost use Rattle.refusals.specs.Refusal.{number_in, value_in};
 ghost use Rattle.decode_vectors.specs.Vector.{max_f, max_past, max_vector, f_of, vector_difference_of, wrapped, vector_of, code_in_range, residual_in_range, past_in_range, f_code_and_past_in_range, vector_entry_in_range, vector_number, vector_value, used_vector, chroma_vector};
 
 use refusals::Refusal;
-
-// The vector entry's answer: 0 or a refusal's number, and the vector, 0 when refused.
-#[derive(Clone, Copy)]
-pub struct VectorAnswer {
-    pub number: u32,
-    pub vector: i32,
-}
 
 // f, which is 2^(f_code - 1); the caller has checked the f_code.
 pub fn f_of_code(f_code: u32) -> u32
@@ -20,26 +14,12 @@ pub fn f_of_code(f_code: u32) -> u32
     1 << (f_code - 1)
 }
 
-// The absolute difference for a code that is not 0, from the code's absolute value.
-fn difference_size(f: i32, size: i32, residual: i32) -> i32
-    requires { Within max_f f × Within 16 size × Within max_f residual }
-    ensures { result ≡ (size -ℤ pos 1) *ℤ f +ℤ residual +ℤ pos 1 }
-{
-    (size - 1) * f + residual + 1
-}
-
 // The difference that a code and its residual encode.
 fn vector_difference(f: i32, code: i32, residual: i32) -> i32
     requires { Within max_f f × Within 16 code × Within max_f residual }
     ensures { result ≡ vector_difference_of f code residual }
 {
-    if code < 0 {
-        return -difference_size(f, -code, residual);
-    }
-    if 0 < code {
-        return difference_size(f, code, residual);
-    }
-    0
+    code.signum() * ((code.abs() - 1) * f + residual + 1)
 }
 
 // A sum wrapped into -16f..16f-1.
@@ -72,13 +52,7 @@ pub fn next_vector(f: u32, past: i32, code: i32, residual: u32) -> i32
 pub fn code_in_range(code: i32) -> bool
     ensures { result ≡ code_in_range code }
 {
-    if code < -16 {
-        return false;
-    }
-    if 16 < code {
-        return false;
-    }
-    true
+    (-16..=16).contains(&code)
 }
 
 #[tactic(auto, unfolding(crate::specs::Vector::residual_in_range))]
@@ -98,13 +72,7 @@ pub fn past_in_range(f: u32, past: i32) -> bool
     ensures { result ≡ past_in_range f past }
 {
     let f_signed = f as i32;
-    if past < -(16 * f_signed) {
-        return false;
-    }
-    if 16 * f_signed - 1 < past {
-        return false;
-    }
-    true
+    (-(16 * f_signed)..=16 * f_signed - 1).contains(&past)
 }
 
 // Whether the f_code is 1..7, and the past in the range of its f.
@@ -112,14 +80,7 @@ pub fn past_in_range(f: u32, past: i32) -> bool
 pub fn f_code_and_past_in_range(f_code: u32, past: i32) -> bool
     ensures { result ≡ f_code_and_past_in_range f_code past }
 {
-    if f_code < 1 {
-        return false;
-    }
-    if 7 < f_code {
-        return false;
-    }
-    let f = f_of_code(f_code);
-    past_in_range(f, past)
+    (1..=7).contains(&f_code) && past_in_range(f_of_code(f_code), past)
 }
 
 // Whether every number is in the vector entry's range.
@@ -127,33 +88,20 @@ pub fn f_code_and_past_in_range(f_code: u32, past: i32) -> bool
 fn vector_entry_in_range(f_code: u32, past: i32, code: i32, residual: u32) -> bool
     ensures { result ≡ vector_entry_in_range f_code past code residual }
 {
-    if !f_code_and_past_in_range(f_code, past) {
-        return false;
-    }
-    if !code_in_range(code) {
-        return false;
-    }
-    let f = f_of_code(f_code);
-    residual_in_range(f, code, residual)
+    f_code_and_past_in_range(f_code, past)
+        && code_in_range(code)
+        && residual_in_range(f_of_code(f_code), code, residual)
 }
 
 // The vector entry: takes any numbers, and refuses those out of range. The vector is not doubled.
-pub fn decode_vector(f_code: u32, past: i32, code: i32, residual: u32) -> VectorAnswer
-    ensures number { result.number ≡ vector_number f_code past code residual }
-    ensures vector { result.vector ≡ vector_value f_code past code residual }
+pub fn decode_vector(f_code: u32, past: i32, code: i32, residual: u32) -> Result<i32, Refusal>
+    ensures number { number_in result ≡ vector_number f_code past code residual }
+    ensures vector { value_in (pos 0) result ≡ vector_value f_code past code residual }
 {
     if !vector_entry_in_range(f_code, past, code, residual) {
-        return VectorAnswer {
-            number: refusals::number(Refusal::NumberOutOfRange),
-            vector: 0,
-        };
+        return Err(Refusal::NumberOutOfRange);
     }
-    let f = f_of_code(f_code);
-    let vector = next_vector(f, past, code, residual);
-    VectorAnswer {
-        number: refusals::ACCEPTED,
-        vector,
-    }
+    Ok(next_vector(f_of_code(f_code), past, code, residual))
 }
 
 // The vector for use, in half pels: doubled if the full-pel flag is set.

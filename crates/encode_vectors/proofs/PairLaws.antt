@@ -6,45 +6,16 @@ use Prim.Native.Nat.{ℕ, zero, suc, ◌+◌, ◌-◌, ◌*◌, ◌/◌, ◌%◌
 use native.Mathlib.Nat.{div-add-mod', div-lt_iff_lt-mul, mod-lt, zero-mod}
 use native.Mathlib.Numerals.{add-one}
 use native.Mathlib.Omega.{arith}
-use borrow.Author.Tests.{eqb-true, ltb-true, ltb-false, ne_eqb, lt-ltb}
+use borrow.Author.Tests.{eqb-true, ne_eqb, lt-ltb}
 use lib.Arith.{digits_div, digits_mod}
-use lib.Dec.{T}
-use lib.IntN.{ℤ, pos, negsuc, neg_ℤ, nat_abs, ◌-ℤ◌, ◌*ℤ◌}
-use lib.Signed.{lt_z}
+use lib.IntN.{ℤ, pos, negsuc, neg_ℤ, nat_abs, ◌*ℤ◌}
 use Rattle.math.specs.Bound.{Within, Between}
 use Rattle.math.specs.Limit.{eq_z, sign_of}
-use Rattle.math.proofs.Compare.{tests}
-use Rattle.math.proofs.Difference.{same_of, le_of, parts_add}
-use Rattle.math.proofs.Limit.{between-range, signed_below, signed_above, signed-none, signed-positive, signed-negative}
+use Rattle.math.proofs.Difference.{le_of}
+use Rattle.math.proofs.Limit.{between-range, signed-none, signed-positive, signed-negative}
 use Rattle.decode_vectors.specs.Vector.{vector_difference_of, code_in_range, residual_in_range}
 use Rattle.decode_vectors.proofs.VectorLaws.{difference-positive, difference-negative, difference-zero, residual-known}
 use Rattle.encode_vectors.specs.Encoding.{motion_code_of, residual_of}
-
--- ---- the code in its three cases, as the program computes it
-pub code_below : (f : ℕ) (difference : ℤ) → lt_z difference (pos 0) ≡ true → pos 0 -ℤ pos ((nat_abs difference - 1) / f + 1) ≡ motion_code_of f difference
-unfolding motion_code_of
-code_below f difference = signed_below difference (pos ((nat_abs difference - 1) / f + 1))
-
-pub code-above : (f : ℕ) (difference : ℤ) → lt_z difference (pos 0) ≡ false → lt_z (pos 0) difference ≡ true → pos ((nat_abs difference - 1) / f + 1) ≡ motion_code_of f difference
-unfolding motion_code_of
-code-above f difference = signed_above difference (pos ((nat_abs difference - 1) / f + 1))
-
-pub code-none : (f : ℕ) (difference : ℤ) → lt_z difference (pos 0) ≡ false → lt_z (pos 0) difference ≡ false → pos 0 ≡ motion_code_of f difference
-unfolding motion_code_of
-code-none f difference = signed-none difference (pos ((nat_abs difference - 1) / f + 1))
-
--- ---- |difference| - 1, as the program computes it
-pub less-below : (difference : ℤ) → lt_z difference (pos 0) ≡ true → pos 0 -ℤ difference -ℤ pos 1 ≡ pos (nat_abs difference - 1)
-less-below (pos n) e = absurd (omega (arith, tests))
-less-below (negsuc n) e = same_of (pos 0 -ℤ negsuc n -ℤ pos 1) (pos (suc n - 1)) (omega (arith, parts_add (pos 0) (pos (suc n)), parts_add (pos 0 -ℤ negsuc n) (negsuc 0)))
-
-pub less-above : (difference : ℤ) → lt_z (pos 0) difference ≡ true → difference -ℤ pos 1 ≡ pos (nat_abs difference - 1)
-less-above (pos n) e = let h = ltb-true 0 n e in same_of (pos n -ℤ pos 1) (pos (n - 1)) (omega (arith, parts_add (pos n) (negsuc 0)))
-less-above (negsuc n) e = absurd (subst T (sym e) tt)
-
-pub less_none : (difference : ℤ) → lt_z difference (pos 0) ≡ false → lt_z (pos 0) difference ≡ false → 0 ≡ nat_abs difference - 1
-less_none (pos n) e g = omega (arith, ltb-false 0 n g)
-less_none (negsuc n) e g = absurd (subst T e tt)
 
 -- ---- code and residual by the difference's sign
 less : (n : ℕ) → suc n - 1 ≡ n
@@ -62,7 +33,8 @@ unfolding motion_code_of
 code-negative f n = ap (λ (z : ℤ). sign_of (negsuc n) *ℤ z) (size f n) ∙ signed-negative n (n / f)
 
 code-zero : (f : ℕ) → motion_code_of f (pos 0) ≡ pos 0
-code-zero f = sym (code-none f (pos 0) refl refl)
+unfolding motion_code_of
+code-zero f = sym (signed-none (pos 0) (pos ((0 - 1) / f + 1)) refl refl)
 
 residual-positive : (f n : ℕ) → residual_of f (pos (suc n)) ≡ n % f
 unfolding residual_of

@@ -4,6 +4,7 @@ use Rattle.std.specs.Int.Signed.{lt_z}
 use Rattle.math.specs.Limit.{sign_of}
 use Rattle.refusals.specs.Refusal.{accepted, number_of}
 use Rattle.refusals.specs.declared.Refusal.TheVariants.{VectorUnreachable}
+use Rattle.encode_vectors.specs.declared.EncodedVector.{EncodedVector}
 use Rattle.decode_vectors.specs.Vector.{f_of, past_in_range, f_code_and_past_in_range}
 
 -- The code and the residual of a difference, from document 01: a difference is "0 for code 0, else (|code| - 1) × f + residual + 1 with the code's
@@ -27,6 +28,10 @@ needed_difference f past wanted =
 -- (`ExactlyUnreachable`)
 unfoldable pub vector_reachable : ℕ → ℤ → ℤ → Bool
 vector_reachable f_code past wanted = f_code_and_past_in_range f_code past && past_in_range (f_of f_code) wanted
+
+-- the code and the residual that stand for a refused vector
+abbrev pub no_code : EncodedVector
+no_code = record { code = pos 0; residual = 0 }
 
 -- the answer: "33 when no pair reaches the wanted vector, or past or f_code is out of range; both are then 0"
 abbrev pub encoded_number : ℕ → ℤ → ℤ → ℕ

@@ -3,16 +3,16 @@
 
 ghost use Rattle.std.specs.Prelude.{◌≡◌, ◌-◌, ◌^◌, ◌≤◌, nat_abs};
 ghost use Rattle.math.specs.Bound.{Within};
+ghost use Rattle.refusals.specs.Refusal.{number_in, value_in};
 ghost use Rattle.decode_vectors.specs.Vector.{max_f, max_past};
-ghost use Rattle.encode_vectors.specs.Encoding.{motion_code_of, residual_of, needed_difference, vector_reachable, encoded_number, encoded_code, encoded_residual};
+ghost use Rattle.encode_vectors.specs.Encoding.{no_code, motion_code_of, residual_of, needed_difference, vector_reachable, encoded_number, encoded_code, encoded_residual};
 
 use decode_vectors::vector;
 use refusals::Refusal;
 
-// The encoder's answer: 0 or a refusal's number, the code and the residual, both 0 when refused.
+// The code and the residual of a vector.
 #[derive(Clone, Copy)]
 pub struct EncodedVector {
-    pub number: u32,
     pub code: i32,
     pub residual: u32,
 }
@@ -22,13 +22,7 @@ fn size_less_one(difference: i32) -> u32
     requires { Within (2 ^ 12) difference }
     ensures { result ≡ nat_abs difference - 1 }
 {
-    if difference < 0 {
-        return (-difference - 1) as u32;
-    }
-    if 0 < difference {
-        return (difference - 1) as u32;
-    }
-    0
+    difference.unsigned_abs().saturating_sub(1)
 }
 
 // The code of a difference.
@@ -37,13 +31,7 @@ fn motion_code_of(f: u32, difference: i32) -> i32
     ensures { result ≡ motion_code_of f difference }
 {
     let size = (size_less_one(difference) / f + 1) as i32;
-    if difference < 0 {
-        return -size;
-    }
-    if 0 < difference {
-        return size;
-    }
-    0
+    difference.signum() * size
 }
 
 // The residual of a difference.
@@ -76,31 +64,23 @@ fn needed_difference(f: i32, past: i32, wanted: i32) -> i32
 fn vector_reachable(f_code: u32, past: i32, wanted: i32) -> bool
     ensures { result ≡ vector_reachable f_code past wanted }
 {
-    if !vector::f_code_and_past_in_range(f_code, past) {
-        return false;
-    }
-    let f = vector::f_of_code(f_code);
-    vector::past_in_range(f, wanted)
+    vector::f_code_and_past_in_range(f_code, past)
+        && vector::past_in_range(vector::f_of_code(f_code), wanted)
 }
 
 // The code and the residual of a wanted vector, which is not doubled: takes any numbers, and refuses those that no pair reaches.
-pub fn encode_vector(f_code: u32, past: i32, wanted: i32) -> EncodedVector
-    ensures number { result.number ≡ encoded_number f_code past wanted }
-    ensures code { result.code ≡ encoded_code f_code past wanted }
-    ensures residual { result.residual ≡ encoded_residual f_code past wanted }
+pub fn encode_vector(f_code: u32, past: i32, wanted: i32) -> Result<EncodedVector, Refusal>
+    ensures number { number_in result ≡ encoded_number f_code past wanted }
+    ensures code { (value_in no_code result).code ≡ encoded_code f_code past wanted }
+    ensures residual { (value_in no_code result).residual ≡ encoded_residual f_code past wanted }
 {
     if !vector_reachable(f_code, past, wanted) {
-        return EncodedVector {
-            number: refusals::number(Refusal::VectorUnreachable),
-            code: 0,
-            residual: 0,
-        };
+        return Err(Refusal::VectorUnreachable);
     }
     let f = vector::f_of_code(f_code);
     let difference = needed_difference(f as i32, past, wanted);
-    EncodedVector {
-        number: refusals::ACCEPTED,
+    Ok(EncodedVector {
         code: motion_code_of(f, difference),
         residual: residual_of(f, difference),
-    }
+    })
 }

@@ -13,7 +13,7 @@ ghost use Rattle.encode_vectors.specs.Encoding.{encoded_number, encoded_code, en
 ghost use Rattle.format3_records.specs.Record.{record_of, record_number, kind_of, body_start_of, body_length_of};
 ghost use Rattle.format3_header.specs.FileStart.{first_header, file_header_of};
 ghost use Rattle.format3_picture.specs.Picture.{picture_within, picture_of};
-ghost use Rattle.mpeg1_reader.specs.Answer.{given_fields, raw_slice_outcome};
+ghost use Rattle.mpeg1_reader.specs.Answer.{given_fields, raw_slice_outcome, answer_number, answer_written, answer_byte, answer_bit};
 
 use entries::PictureParameters;
 
@@ -74,12 +74,22 @@ pub extern "C" fn format3_read_header(file: &[u8], header: &mut Header) -> u32
     ensures height { header.new.height ≡ (file_header_of (first_header file.now)).height }
     ensures records_start { header.new.records_start ≡ (file_header_of (first_header file.now)).records_start }
 {
-    let found = entries::read_header(file);
-    header.coding_type = found.coding_type;
-    header.width = found.width;
-    header.height = found.height;
-    header.records_start = found.records_start;
-    found.number
+    let answer = entries::read_header(file);
+    *header = match answer {
+        Ok(found) => Header {
+            coding_type: found.coding_type as u32,
+            width: found.size.width as u32,
+            height: found.size.height as u32,
+            records_start: found.records_start,
+        },
+        Err(_) => Header {
+            coding_type: 0,
+            width: 0,
+            height: 0,
+            records_start: 0,
+        },
+    };
+    entries::number(&answer)
 }
 
 // The picture of a Format 3 file, from its references into the lent output: number, place, made, rows worked.
@@ -101,7 +111,7 @@ pub extern "C" fn format3_reconstruct(
     res.place = answer.place;
     res.made = answer.made;
     res.rows = answer.rows;
-    answer.number
+    entries::number(&answer.verdict)
 }
 
 // The same for a caller with memory for PictureSize::MAX_MACROBLOCKS_SMALL macroblocks, the limit of this reader.
@@ -123,7 +133,7 @@ pub extern "C" fn format3_reconstruct_small(
     res.place = answer.place;
     res.made = answer.made;
     res.rows = answer.rows;
-    answer.number
+    entries::number(&answer.verdict)
 }
 
 // The residues of any sixty-four numbers, row by row, and the rows worked.
@@ -138,10 +148,18 @@ pub extern "C" fn format3_transform(
     ensures rows { rows.new ≡ transform_rows coefficients.now }
 {
     let answer = entries::transform(*coefficients);
-    let values = answer.residues;
-    *residues = values;
-    *rows = answer.rows;
-    answer.number
+    match answer {
+        Ok(done) => {
+            let values = done.values;
+            *residues = values;
+            *rows = done.rows;
+        }
+        Err(_) => {
+            *residues = [0; 64];
+            *rows = 0;
+        }
+    }
+    entries::number(&answer)
 }
 
 // The intra AC coefficient of a level.
@@ -156,9 +174,8 @@ pub extern "C" fn format3_intra_coefficient(
     ensures coefficient { coefficient.new ≡ coefficient_value true level scale weight }
 {
     let answer = entries::intra_coefficient(level, scale, weight);
-    let value = answer.value;
-    *coefficient = value;
-    answer.number
+    *coefficient = answer.unwrap_or(0);
+    entries::number(&answer)
 }
 
 // The coefficient of a level where the macroblock is not intra.
@@ -173,9 +190,8 @@ pub extern "C" fn format3_non_intra_coefficient(
     ensures coefficient { coefficient.new ≡ coefficient_value false level scale weight }
 {
     let answer = entries::non_intra_coefficient(level, scale, weight);
-    let value = answer.value;
-    *coefficient = value;
-    answer.number
+    *coefficient = answer.unwrap_or(0);
+    entries::number(&answer)
 }
 
 // A component of a vector from its code, its residual and the past (its predictor), not doubled.
@@ -191,9 +207,8 @@ pub extern "C" fn format3_vector(
     ensures vector { vector.new ≡ vector_value f_code past code residual }
 {
     let decoded = entries::vector(f_code, past, code, residual);
-    let value = decoded.vector;
-    *vector = value;
-    decoded.number
+    *vector = decoded.unwrap_or(0);
+    entries::number(&decoded)
 }
 
 // The code and the residual with which `format3_vector` gives a wanted component; zeros if it is refused.
@@ -210,10 +225,17 @@ pub extern "C" fn format3_encode_vector(
     ensures residual { residual.new ≡ encoded_residual f_code past wanted }
 {
     let encoded = entries::encode_vector(f_code, past, wanted);
-    let value = encoded.code;
-    *code = value;
-    *residual = encoded.residual;
-    encoded.number
+    match encoded {
+        Ok(found) => {
+            *code = found.code;
+            *residual = found.residual;
+        }
+        Err(_) => {
+            *code = 0;
+            *residual = 0;
+        }
+    }
+    entries::number(&encoded)
 }
 
 // The record at an offset: its kind, and where its body starts and how long that is; zeros if it is refused.
@@ -224,11 +246,20 @@ pub extern "C" fn format3_show_record(file: &[u8], offset: usize, shown: &mut Re
     ensures start { shown.new.start ≡ body_start_of (record_of file.now offset) }
     ensures length { shown.new.length ≡ body_length_of (record_of file.now offset) }
 {
-    let found = entries::show_record(file, offset);
-    shown.kind = found.kind;
-    shown.start = found.start;
-    shown.length = found.length;
-    found.number
+    let answer = entries::show_record(file, offset);
+    *shown = match answer {
+        Ok(found) => Record {
+            kind: found.kind,
+            start: found.start,
+            length: found.length,
+        },
+        Err(_) => Record {
+            kind: 0,
+            start: 0,
+            length: 0,
+        },
+    };
+    entries::number(&answer)
 }
 
 // The records of one raw slice, written into the lent buffer: number, bytes written, and the byte and bit where the refused code
@@ -240,15 +271,21 @@ pub extern "C" fn format3_read_slice(
     records: &mut [u8],
     res: &mut SliceResult,
 ) -> u32
-    ensures number { result ≡ (raw_slice_outcome (given_fields parameters.now) slice.now records.old).answer.number }
+    ensures number { result ≡ answer_number (raw_slice_outcome (given_fields parameters.now) slice.now records.old).answer }
     ensures records { records.new ≡ (raw_slice_outcome (given_fields parameters.now) slice.now records.old).buffer }
-    ensures written { res.new.written ≡ (raw_slice_outcome (given_fields parameters.now) slice.now records.old).answer.written }
-    ensures byte { res.new.byte ≡ (raw_slice_outcome (given_fields parameters.now) slice.now records.old).answer.byte }
-    ensures bit { res.new.bit ≡ (raw_slice_outcome (given_fields parameters.now) slice.now records.old).answer.bit }
+    ensures written { res.new.written ≡ answer_written (raw_slice_outcome (given_fields parameters.now) slice.now records.old).answer }
+    ensures byte { res.new.byte ≡ answer_byte (raw_slice_outcome (given_fields parameters.now) slice.now records.old).answer }
+    ensures bit { res.new.bit ≡ answer_bit (raw_slice_outcome (given_fields parameters.now) slice.now records.old).answer }
 {
     let answer = entries::read_slice(slice, *parameters, records);
-    res.written = answer.written;
-    res.byte = answer.byte;
-    res.bit = answer.bit;
-    answer.number
+    let (number, written, at) = match answer {
+        Ok(read) => (entries::ACCEPTED, read.written, read.end),
+        Err(refused) => (refused.refusal.number(), 0, refused.at),
+    };
+    *res = SliceResult {
+        written,
+        byte: at.byte,
+        bit: at.bit,
+    };
+    number
 }

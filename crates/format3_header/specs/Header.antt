@@ -1,9 +1,8 @@
 -- A header's record, kind 1 (document 01, and refusals 6 and 8).
-use Rattle.std.specs.Prelude.{List, ℕ, eqb, length, get_or}
-use Rattle.refusals.specs.declared.Refusal.TheVariants as Refusal
+use Rattle.std.specs.Prelude.{List, ℕ, eqb, length, get_or, Result, Err}
+use Rattle.refusals.specs.declared.Refusal.{Refusal}
 use Rattle.symbols.specs.declared.header.HeaderFields.{HeaderFields}
-use Rattle.symbols.specs.declared.header.HeaderAnswer.{HeaderAnswer}
-use Rattle.symbols.specs.declared.header.HeaderAnswer.TheVariants.{Refused}
+use Rattle.symbols.specs.declared.header.Header.{Header}
 use Rattle.symbols.specs.Guard.{require◌else◌then◌}
 use Rattle.symbols.specs.Header.{header_with}
 
@@ -20,7 +19,7 @@ fields_of body = record {
 }
 
 -- "Kind 1, header, 7 bytes": first the length (6), then the fields (8)
-unfoldable pub header_of : List ℕ → HeaderAnswer
+unfoldable pub header_of : List ℕ → Result Header Refusal
 header_of body =
-    require eqb (length body) 7 else Refused Refusal.BodyLength then
+    require eqb (length body) 7 else Err Refusal.BodyLength then
     header_with (fields_of body)

@@ -1,68 +1,85 @@
 // The start of a file: its version, its first record (the header), the reader's limit, and the lengths of the lent buffers.
 ghost use Rattle.std.specs.Prelude.{◌≡◌};
-ghost use Rattle.format3_header.specs.FileStart.{first_header, file_start_of, file_header_of};
+ghost use Rattle.format3_header.specs.FileStart.{first_record, first_header, file_start_of, file_header_of, header_numbers};
 
 use crate::{header, lengths};
-use format3_records::record::Record;
 use format3_records::turn::Turn;
-use format3_records::verdict::Verdict;
 use format3_records::{record, turn};
 use refusals::Refusal;
-use symbols::header::{Header, HeaderAnswer};
+use symbols::header::Header;
+use symbols::size::PictureSize;
 
 const VERSION: u8 = 3;
 
+// The header, and where the next record starts.
 #[derive(Clone, Copy)]
-pub enum FileStart {
-    // The header, and where the next record starts.
-    HeaderRead(Header, usize),
-    // A refusal and its place, a byte offset in the file.
-    Refused(Refusal, usize),
+pub struct FileStart {
+    pub header: Header,
+    pub end: usize,
 }
 
-// What a caller is told of a file's start: 0, the picture's coding type and its size in macroblocks, and where the next record
-// starts; or the number of a refusal, and zeros.
+// A refusal and its place, a byte offset in the file.
+#[derive(Clone, Copy)]
+pub struct RefusedAt {
+    pub refusal: Refusal,
+    pub place: usize,
+}
+
+// What a caller is told of a file's start: the picture's coding type and its size in macroblocks, and where the next record starts.
 #[derive(Clone, Copy)]
 pub struct FileHeader {
-    pub number: u32,
-    pub coding_type: u32,
-    pub width: u32,
-    pub height: u32,
+    pub coding_type: u8,
+    pub size: PictureSize,
     pub records_start: usize,
 }
 
+impl RefusedAt {
+    // A refusal of the file's first record, which starts after the version.
+    fn first_record(refusal: Refusal) -> RefusedAt
+        ensures { result ≡ record { refusal = refusal; place = 1 } }
+    {
+        RefusedAt { refusal, place: 1 }
+    }
+}
+
+// Reads the header from the file's first record.
+#[tactic(auto, using(symbols::proofs::Guard::guards), unfolding(crate::specs::FileStart::first_record))]
+fn first_record(file: &[u8]) -> Result<FileStart, Refusal>
+    ensures { result ≡ first_record file.now }
+{
+    let record = record::record_at(file, 1)?;
+    if !turn::in_turn(Turn::Start, record.kind) {
+        return Err(Refusal::OutOfTurn);
+    }
+    let end = record.start + record.length;
+    let header = header::read_header(&file[record.start..end])?;
+    Ok(FileStart { header, end })
+}
+
 // Reads the start of the file, up to the header.
-#[tactic(auto, unfolding(crate::specs::FileStart::first_header))]
-pub fn first_header(file: &[u8]) -> FileStart
+#[tactic(auto, using(symbols::proofs::Guard::guards), unfolding(crate::specs::FileStart::first_header))]
+pub fn first_header(file: &[u8]) -> Result<FileStart, RefusedAt>
     ensures { result ≡ first_header file.now }
 {
     if file.len() < 1 {
-        return FileStart::Refused(Refusal::FileEmpty, 0);
+        return Err(RefusedAt {
+            refusal: Refusal::FileEmpty,
+            place: 0,
+        });
     }
     if file[0] != VERSION {
-        return FileStart::Refused(Refusal::Version, 0);
+        return Err(RefusedAt {
+            refusal: Refusal::Version,
+            place: 0,
+        });
     }
     if file.len() < 2 {
-        return FileStart::Refused(Refusal::FileEnds, 1);
+        return Err(RefusedAt {
+            refusal: Refusal::FileEnds,
+            place: 1,
+        });
     }
-    match record::record_at(file, 1) {
-        Record::Refused(refusal) => FileStart::Refused(refusal, 1),
-        Record::Found {
-            kind,
-            start,
-            length,
-        } => {
-            let due = turn::in_turn(Turn::Start, kind);
-            if !due {
-                return FileStart::Refused(Refusal::OutOfTurn, 1);
-            }
-            let end = start + length;
-            match header::read_header(&file[start..end]) {
-                HeaderAnswer::Refused(refusal) => FileStart::Refused(refusal, 1),
-                HeaderAnswer::Legal(header) => FileStart::HeaderRead(header, end),
-            }
-        }
-    }
+    first_record(file).map_err(RefusedAt::first_record)
 }
 
 // Reads the start of the file, then tests the reader's limit and the lengths of the lent buffers.
@@ -73,40 +90,23 @@ pub fn read_file_start(
     output: usize,
     forward: usize,
     backward: usize,
-) -> FileStart
+) -> Result<FileStart, RefusedAt>
     ensures { result ≡ file_start_of limit file.now output forward backward }
 {
-    match first_header(file) {
-        FileStart::Refused(refusal, place) => FileStart::Refused(refusal, place),
-        FileStart::HeaderRead(header, end) => {
-            let verdict = lengths::caller_verdict(limit, header, output, forward, backward);
-            match verdict {
-                Verdict::Refused(refusal) => FileStart::Refused(refusal, 1),
-                Verdict::Passed => FileStart::HeaderRead(header, end),
-            }
-        }
-    }
+    let start = first_header(file)?;
+    let verdict = lengths::caller_verdict(limit, start.header, output, forward, backward);
+    verdict.map_err(RefusedAt::first_record)?;
+    Ok(start)
 }
 
 // Reads the start of the file for a caller who asks for its header alone.
-#[tactic(auto, unfolding(crate::specs::FileStart::file_header_of))]
-pub fn file_header(file: &[u8]) -> FileHeader
-    ensures { result ≡ file_header_of (first_header file.now) }
+pub fn file_header(file: &[u8]) -> Result<FileHeader, Refusal>
+    ensures { header_numbers result ≡ file_header_of (first_header file.now) }
 {
-    match first_header(file) {
-        FileStart::Refused(refusal, _) => FileHeader {
-            number: refusals::number(refusal),
-            coding_type: 0,
-            width: 0,
-            height: 0,
-            records_start: 0,
-        },
-        FileStart::HeaderRead(header, end) => FileHeader {
-            number: refusals::ACCEPTED,
-            coding_type: header.coding_type as u32,
-            width: header.size.width as u32,
-            height: header.size.height as u32,
-            records_start: end,
-        },
-    }
+    let FileStart { header, end } = first_header(file).map_err(|refused| refused.refusal)?;
+    Ok(FileHeader {
+        coding_type: header.coding_type,
+        size: header.size,
+        records_start: end,
+    })
 }

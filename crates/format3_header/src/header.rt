@@ -4,17 +4,17 @@ ghost use Rattle.format3_header.specs.Header.{header_of};
 
 use refusals::Refusal;
 use symbols::header;
-use symbols::header::{HeaderAnswer, HeaderFields};
+use symbols::header::{Header, HeaderFields};
 
 const HEADER_BODY_LENGTH: usize = 7;
 
 // Tests the length of a header's body (6), then its fields (8).
-#[tactic(auto, unfolding(crate::specs::Header::header_of))]
-pub(crate) fn read_header(body: &[u8]) -> HeaderAnswer
+#[tactic(auto, using(symbols::proofs::Guard::guards), unfolding(crate::specs::Header::header_of))]
+pub(crate) fn read_header(body: &[u8]) -> Result<Header, Refusal>
     ensures { result ≡ header_of body.now }
 {
     if body.len() != HEADER_BODY_LENGTH {
-        return HeaderAnswer::Refused(Refusal::BodyLength);
+        return Err(Refusal::BodyLength);
     }
     header::header_with(HeaderFields {
         width: body[0],

@@ -4,11 +4,10 @@ ghost use Rattle.symbols.specs.Requires.{SizeWithin};
 ghost use Rattle.symbols.specs.Size.{max_macroblocks};
 ghost use Rattle.format3_header.specs.Lengths.{reference_length, lent_lengths, caller_verdict};
 
-use format3_records::verdict::Verdict;
 use refusals::Refusal;
 use symbols::header;
 use symbols::header::Header;
-use symbols::size::{NewSize, PictureSize};
+use symbols::size::PictureSize;
 
 // The length that a reference must have: the picture's if it is used, otherwise 0.
 fn reference_length(used: bool, size: PictureSize) -> usize
@@ -19,39 +18,44 @@ fn reference_length(used: bool, size: PictureSize) -> usize
 }
 
 // Tests the output (19), the forward reference (20) and the backward reference (21).
-#[tactic(auto, unfolding(crate::specs::Lengths::lent_lengths))]
-fn lent_lengths(header: Header, output: usize, forward: usize, backward: usize) -> Verdict
+#[tactic(auto, using(symbols::proofs::Guard::guards), unfolding(crate::specs::Lengths::lent_lengths))]
+fn lent_lengths(
+    header: Header,
+    output: usize,
+    forward: usize,
+    backward: usize,
+) -> Result<(), Refusal>
     requires { SizeWithin max_macroblocks header.size }
     ensures { result ≡ lent_lengths header output forward backward }
 {
     let size = header.size;
     if output != size.bytes() {
-        return Verdict::Refused(Refusal::OutputLength);
+        return Err(Refusal::OutputLength);
     }
     if forward != reference_length(header::uses_forward(header.coding_type), size) {
-        return Verdict::Refused(Refusal::ForwardLength);
+        return Err(Refusal::ForwardLength);
     }
     if backward != reference_length(header::uses_backward(header.coding_type), size) {
-        return Verdict::Refused(Refusal::BackwardLength);
+        return Err(Refusal::BackwardLength);
     }
-    Verdict::Passed
+    Ok(())
 }
 
 // Tests the reader's limit (27), then the lengths of the lent buffers.
-#[tactic(auto, unfolding(crate::specs::Lengths::caller_verdict))]
+#[tactic(auto, using(symbols::proofs::Guard::guards, symbols::proofs::Laws::Size::within_some), unfolding(crate::specs::Lengths::caller_verdict))]
 pub(crate) fn caller_verdict(
     limit: usize,
     header: Header,
     output: usize,
     forward: usize,
     backward: usize,
-) -> Verdict
+) -> Result<(), Refusal>
     requires { SizeWithin max_macroblocks header.size }
     ensures { result ≡ caller_verdict limit header output forward backward }
 {
     let size = header.size;
-    let NewSize::Fits(_) = size.within(limit) else {
-        return Verdict::Refused(Refusal::MacroblockLimit);
-    };
+    if size.within(limit).is_none() {
+        return Err(Refusal::MacroblockLimit);
+    }
     lent_lengths(header, output, forward, backward)
 }

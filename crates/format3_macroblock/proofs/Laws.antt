@@ -2,6 +2,7 @@ pub mod Pairs
 pub mod Blocks
 pub mod Landing
 pub mod BlockArray
+pub mod Reads
 pub mod Slice
 pub mod VectorCodes
 pub mod MacroblockHead

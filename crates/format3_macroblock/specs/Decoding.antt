@@ -1,8 +1,7 @@
 -- What the readers of blocks answer: coefficients in the array of six blocks, and the DC predictors after them.
-use Rattle.std.specs.Prelude.{Bool, List, ℕ, ℤ}
+use Rattle.std.specs.Prelude.{Bool, List, ℕ, ℤ, Result}
 use Rattle.refusals.specs.declared.Refusal.{Refusal}
-use Rattle.refusals.specs.declared.Refusal.TheVariants.{DcCoefficient}
-use Rattle.symbols.specs.Parsed.{Parser, ◌then◌, give, ReadResult, value, stopped}
+use Rattle.symbols.specs.Parsed.{Parser, ◌then◌, give}
 use Rattle.symbols.specs.Block.{Block, uncoded, coded}
 use Rattle.symbols.specs.MacroblockType.{is_intra}
 use Rattle.symbols.specs.declared.macroblock.MacroblockSymbols.{MacroblockSymbols}
@@ -14,11 +13,9 @@ use Rattle.decode_coefficients.specs.Macroblock.{coefficients_from, block_coding
 use Rattle.decode_coefficients.specs.BlockArray.{six_blocks, put_block}
 use Rattle.decode_coefficients.specs.Matrices.{matrix_for}
 use Rattle.decode_coefficients.specs.declared.matrices.Matrices.{Matrices}
-use Rattle.format3_macroblock.specs.declared.difference.DcAnswer.{DcAnswer}
-use Rattle.format3_macroblock.specs.declared.difference.DcAnswer.TheVariants as Dc
+use Rattle.format3_records.specs.declared.field.Cursor.{Cursor}
+use Rattle.format3_records.specs.Reader.{with_made}
 use Rattle.format3_macroblock.specs.declared.blocks.BlocksCoding.{BlocksCoding}
-use Rattle.format3_macroblock.specs.declared.blocks.BlocksAnswer.{BlocksAnswer}
-use Rattle.format3_macroblock.specs.declared.blocks.BlocksAnswer.TheVariants as Blocks
 use Rattle.format3_macroblock.specs.Blocks.{given_difference_of, levels_of, given_block_of, six_blocks_of}
 use Rattle.format3_macroblock.specs.Macroblock.{blocks_to_end_of}
 
@@ -30,15 +27,6 @@ abbrev pub read_dc_of : Bool → ℤ → Parser ℤ
 read_dc_of intra past =
     given_difference_of intra past then λ difference.
     give (dc_of intra past difference)
-
-abbrev pub dc_result : DcAnswer → ReadResult ℤ
-dc_result (Dc.Legal dc cursor) = value dc cursor.at
-dc_result (Dc.Refused refusal) = stopped refusal
-
--- no caller asks for the refusal of a legal answer
-abbrev pub dc_refusal : DcAnswer → Refusal
-dc_refusal (Dc.Legal dc cursor) = DcCoefficient
-dc_refusal (Dc.Refused refusal) = refusal
 
 -- ---- a block's pairs, stored in it
 abbrev pub levels_into : BlockCoding → List ℕ → List ℤ → Parser (List ℤ)
@@ -63,9 +51,8 @@ block_into c matrix block s =
     given_block_of c.intra c.pattern s.pasts block then λ b.
     give (progress_after c matrix block s b)
 
-abbrev pub progress_result : BlocksAnswer → List ℤ → ReadResult Progress
-progress_result (Blocks.Legal pasts cursor) coefficients = value (record { pasts = pasts; coefficients = coefficients }) cursor.at
-progress_result (Blocks.Refused refusal) coefficients = stopped refusal
+abbrev pub progress_result : Result (DcPasts × Cursor) Refusal → List ℤ → Result (Progress × Cursor) Refusal
+progress_result answer coefficients = with_made (λ pasts. record { pasts = pasts; coefficients = coefficients }) answer
 
 -- ---- the six blocks: their coefficients, and the pasts after them
 pub record DecodedBlocks : Type 0 where
@@ -80,14 +67,8 @@ decoded_blocks_of c matrix pasts =
     six_blocks_of c.intra c.pattern pasts then λ blocks.
     give (decoded_blocks (one_block_coding c) matrix pasts blocks)
 
-abbrev pub decoded_blocks_result : BlocksAnswer → List ℤ → ReadResult DecodedBlocks
-decoded_blocks_result (Blocks.Legal pasts cursor) coefficients = value (record { pasts = pasts; coefficients = six_blocks coefficients }) cursor.at
-decoded_blocks_result (Blocks.Refused refusal) coefficients = stopped refusal
-
--- no caller asks for the refusal of a legal answer
-abbrev pub blocks_refusal : BlocksAnswer → Refusal
-blocks_refusal (Blocks.Legal pasts cursor) = DcCoefficient
-blocks_refusal (Blocks.Refused refusal) = refusal
+abbrev pub decoded_blocks_result : Result (DcPasts × Cursor) Refusal → List ℤ → Result (DecodedBlocks × Cursor) Refusal
+decoded_blocks_result answer coefficients = with_made (λ pasts. record { pasts = pasts; coefficients = six_blocks coefficients }) answer
 
 -- ---- what the reader of the blocks answers: their coefficients, and the pasts after them
 abbrev pub decoded_to_end_of : MacroblockSymbols → ℕ → Matrices → DcPasts → Parser DecodedBlocks

@@ -1,3 +1,4 @@
+pub mod Tested
 pub mod Pairs
 pub mod Landing
 pub mod Blocks

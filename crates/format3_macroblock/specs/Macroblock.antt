@@ -2,7 +2,7 @@
 use Rattle.std.specs.Prelude.{Bool, ◌&&◌, List, [], ◌∷◌, ℕ, leb}
 use Rattle.refusals.specs.declared.Refusal.{Refusal}
 use Rattle.symbols.specs.Guard.{require◌else◌then◌}
-use Rattle.symbols.specs.Parsed.{Parser, parsed, refused, ◌then◌, give, refuse, ReadResult, value, stopped}
+use Rattle.symbols.specs.Parsed.{Parser, parsed, refused, ◌then◌, give, refuse}
 use Rattle.symbols.specs.MacroblockType.{is_intra}
 use Rattle.symbols.specs.Pattern.{all_blocks, coded_pattern}
 use Rattle.symbols.specs.Block.{Block}
@@ -14,8 +14,6 @@ use Rattle.format3_records.specs.Field.{byte}
 use Rattle.format3_macroblock.specs.Blocks.{six_blocks_of}
 use Rattle.format3_macroblock.specs.MacroblockHead.{head_of}
 use Rattle.format3_macroblock.specs.declared.macroblock.MacroblockContext.{MacroblockContext}
-use Rattle.format3_macroblock.specs.declared.macroblock.SymbolsAnswer.{SymbolsAnswer}
-use Rattle.format3_macroblock.specs.declared.macroblock.SymbolsAnswer.TheVariants.{Legal, Refused}
 use Rattle.format3_macroblock.specs.Vectors.{vectors_of}
 
 -- "Pattern is 1..63"
@@ -61,12 +59,3 @@ unfoldable pub macroblock_of : MacroblockContext → Parser Macroblock
 macroblock_of c =
     macroblock_symbols_of c then λ m.
     macroblock_with_symbols c.dc m
-
--- ---- what the reader of the symbols answers; no caller asks for the refusal of a legal answer
-abbrev pub symbols_result : SymbolsAnswer → ReadResult MacroblockSymbols
-symbols_result (Legal m cursor) = value m cursor.at
-symbols_result (Refused refusal) = stopped refusal
-
-abbrev pub symbols_refusal : SymbolsAnswer → Refusal
-symbols_refusal (Legal m cursor) = Refusal.BodyLength
-symbols_refusal (Refused refusal) = refusal

@@ -1,16 +1,13 @@
 -- The first fields of a macroblock (document 01, kind 4, and refusals 6, 10, 12 and 13).
 use Rattle.std.specs.Prelude.{Bool, true, cond, ◌&&◌, ◌||◌, ℕ, ◌+◌, leb, eqb}
-use Rattle.refusals.specs.declared.Refusal.{Refusal}
 use Rattle.refusals.specs.declared.Refusal.TheVariants.{MacroblockType, AddressIncrement}
 use Rattle.symbols.specs.Guard.{require◌else◌then◌}
-use Rattle.symbols.specs.Parsed.{Parser, ◌then◌, give, refuse, optional◌default◌read◌, ReadResult, value, stopped}
+use Rattle.symbols.specs.Parsed.{Parser, ◌then◌, give, refuse, optional◌default◌read◌}
 use Rattle.symbols.specs.Header.{type_i, type_b}
 use Rattle.symbols.specs.declared.macroblock.MacroblockHead.{MacroblockHead}
 use Rattle.symbols.specs.MacroblockType.{has_scale, legal_type}
 use Rattle.format3_records.specs.Field.{byte, two_bytes}
 use Rattle.format3_macroblock.specs.declared.macroblock_head.HeadContext.{HeadContext}
-use Rattle.format3_macroblock.specs.declared.macroblock_head.HeadAnswer.{HeadAnswer}
-use Rattle.format3_macroblock.specs.declared.macroblock_head.HeadAnswer.TheVariants.{Legal, Refused}
 use Rattle.format3_macroblock.specs.Slice.{scale_of}
 
 -- whether the increment must be 1: "not 1 first in a slice, or above 1 in I or after intra in B"
@@ -36,12 +33,3 @@ head_of c =
     require legal_increment c increment else refuse AddressIncrement then
     given_scale_of type then λ scale.
     give (record { macroblock_type = type; increment = increment; scale = scale })
-
--- ---- what the reader answers; no caller asks for the refusal of a legal answer
-abbrev pub head_result : HeadAnswer → ReadResult MacroblockHead
-head_result (Legal head cursor) = value head cursor.at
-head_result (Refused refusal) = stopped refusal
-
-abbrev pub head_refusal : HeadAnswer → Refusal
-head_refusal (Legal head cursor) = MacroblockType
-head_refusal (Refused refusal) = refusal

@@ -1,15 +1,12 @@
 -- The pairs of a block (document 01, kind 4, and refusals 6 and 16).
 use Rattle.std.specs.Prelude.{Bool, not, ◌&&◌, List, [], ◌∷◌, ℕ, zero, suc, ◌+◌, leb, ℤ, pos, negsuc}
 use Rattle.math.specs.Limit.{in_range, eq_z}
-use Rattle.refusals.specs.declared.Refusal.{Refusal}
 use Rattle.refusals.specs.declared.Refusal.TheVariants.{Coefficient}
 use Rattle.symbols.specs.Guard.{require◌else◌then◌}
-use Rattle.symbols.specs.Parsed.{Parsed, parsed, refused, Parser, ◌then◌, give, refuse, ReadResult, value, stopped}
+use Rattle.symbols.specs.Parsed.{Parsed, parsed, refused, Parser, ◌then◌, give, refuse}
 use Rattle.symbols.specs.declared.pair.Pair.{Pair}
 use Rattle.symbols.specs.Pair.{last_position, after_pair}
 use Rattle.format3_records.specs.Field.{byte, signed_two_bytes}
-use Rattle.format3_macroblock.specs.declared.pairs.PairAnswer.{PairAnswer}
-use Rattle.format3_macroblock.specs.declared.pairs.PairAnswer.TheVariants as Pair
 
 -- "Levels are -255..-1 and 1..255"
 unfoldable pub legal_level : ℤ → Bool
@@ -41,12 +38,3 @@ followed_by (refused refusal) more = []
 unfoldable pub pairs_before_refusal : ℕ → ℕ → List ℕ → List Pair
 pairs_before_refusal zero next bytes = []
 pairs_before_refusal (suc n) next bytes = followed_by (pair_of next bytes) (λ pair rest. pairs_before_refusal n (after_pair next pair) rest)
-
--- ---- what the reader of a pair answers; no caller asks for the refusal of a legal answer
-abbrev pub pair_result : PairAnswer → ReadResult Pair
-pair_result (Pair.Legal pair cursor) = value pair cursor.at
-pair_result (Pair.Refused refusal) = stopped refusal
-
-abbrev pub pair_refusal : PairAnswer → Refusal
-pair_refusal (Pair.Legal pair cursor) = Coefficient
-pair_refusal (Pair.Refused refusal) = refusal

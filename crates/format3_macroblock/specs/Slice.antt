@@ -1,12 +1,11 @@
 -- A slice's record, kind 3 (document 01, and refusals 6 and 10).
-use Rattle.std.specs.Prelude.{Bool, ◌&&◌, ℕ, leb, eqb, length}
+use Rattle.std.specs.Prelude.{Bool, ◌&&◌, ℕ, leb, eqb, length, Result, Ok, Err}
+use Rattle.refusals.specs.declared.Refusal.{Refusal}
 use Rattle.refusals.specs.declared.Refusal.TheVariants.{BodyLength, QuantizerScale}
 use Rattle.symbols.specs.Guard.{require◌else◌then◌}
 use Rattle.symbols.specs.Parsed.{Parsed, Parser, parsed, refused, ◌then◌, give, refuse}
 use Rattle.symbols.specs.declared.slice.SliceHeader.{SliceHeader}
 use Rattle.format3_records.specs.Field.{byte, two_bytes}
-use Rattle.format3_macroblock.specs.declared.slice.SliceAnswer.{SliceAnswer}
-use Rattle.format3_macroblock.specs.declared.slice.SliceAnswer.TheVariants.{Legal, Refused}
 
 -- "quantizer scale 1..31"
 abbrev pub legal_scale : ℕ → Bool
@@ -32,6 +31,6 @@ slice_of body =
     slice_fields_of body
 
 -- ---- what the reader answers
-abbrev pub slice_answer : Parsed SliceHeader → SliceAnswer
-slice_answer (parsed slice rest) = Legal slice
-slice_answer (refused refusal) = Refused refusal
+abbrev pub slice_answer : Parsed SliceHeader → Result SliceHeader Refusal
+slice_answer (parsed slice rest) = Ok slice
+slice_answer (refused refusal) = Err refusal

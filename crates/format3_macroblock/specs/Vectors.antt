@@ -1,14 +1,11 @@
 -- The codes of a macroblock's vectors (document 01, kind 4: "forward codes ..; backward codes").
 use Rattle.std.specs.Prelude.{Bool, ℕ}
-use Rattle.refusals.specs.declared.Refusal.{Refusal}
-use Rattle.symbols.specs.Parsed.{Parser, ◌then◌, give, optional◌default◌read◌, ReadResult, value, stopped}
+use Rattle.symbols.specs.Parsed.{Parser, ◌then◌, give, optional◌default◌read◌}
 use Rattle.symbols.specs.declared.vector_codes.VectorCodes.{VectorCodes}
 use Rattle.symbols.specs.MacroblockType.{has_forward, has_backward}
 use Rattle.symbols.specs.declared.vector_codes.Vectors.{Vectors}
 use Rattle.symbols.specs.VectorCodes.{no_codes}
 use Rattle.format3_macroblock.specs.VectorCodes.{vector_codes_of}
-use Rattle.format3_macroblock.specs.declared.vectors.VectorsAnswer.{VectorsAnswer}
-use Rattle.format3_macroblock.specs.declared.vectors.VectorsAnswer.TheVariants.{Legal, Refused}
 
 -- the codes of one direction, zeros if they are not given
 abbrev pub given_vector_codes_of : Bool → ℕ → Parser VectorCodes
@@ -20,12 +17,3 @@ vectors_of type forward_f backward_f =
     given_vector_codes_of (has_forward type) forward_f then λ forward.
     given_vector_codes_of (has_backward type) backward_f then λ backward.
     give (record { forward = forward; backward = backward })
-
--- ---- what the reader answers; no caller asks for the refusal of a legal answer
-abbrev pub vectors_result : VectorsAnswer → ReadResult Vectors
-vectors_result (Legal vectors cursor) = value vectors cursor.at
-vectors_result (Refused refusal) = stopped refusal
-
-abbrev pub vectors_refusal : VectorsAnswer → Refusal
-vectors_refusal (Legal vectors cursor) = Refusal.VectorCode
-vectors_refusal (Refused refusal) = refusal

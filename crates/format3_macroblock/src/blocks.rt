@@ -1,28 +1,19 @@
 // The six blocks of a macroblock, each stored in an array of 384 coefficients once it is whole.
 ghost use Rattle.std.specs.Prelude.{◌≡◌, ◌*◌, ◌<◌, pos, replicate};
-ghost use Rattle.tables.specs.Tables.{zigzag};
-ghost use Rattle.symbols.specs.Parsed.{ParsesAs};
 ghost use Rattle.decode_coefficients.specs.Marks.{BlocksMarked};
+ghost use Rattle.format3_records.specs.Reader.{ParsesAs};
 ghost use Rattle.format3_macroblock.specs.Requires.{LegalDcPasts, BlocksCodingWithin};
-ghost use Rattle.format3_macroblock.specs.Decoding.{block_into, progress_result, decoded_blocks_of, decoded_blocks_result, blocks_refusal};
+ghost use Rattle.format3_macroblock.specs.Decoding.{block_into, progress_result, decoded_blocks_of, decoded_blocks_result};
 
-use crate::difference::DcAnswer;
-use crate::pairs::PairsAnswer;
-use crate::{difference, levels, pairs};
+use crate::level_coding::{LevelCoding, ZigzagOrder};
+use crate::{difference, levels};
 use decode_coefficients::block::BlockCoding;
 use decode_coefficients::dc::DcPasts;
-use decode_coefficients::{block, dc, marks};
+use decode_coefficients::{block, marks};
 use format3_records::field;
 use format3_records::field::Cursor;
 use refusals::Refusal;
 use symbols::pattern;
-
-// The pasts after the blocks and where they end, if all of them are legal.
-#[derive(Clone, Copy)]
-pub enum BlocksAnswer {
-    Legal(DcPasts, Cursor),
-    Refused(Refusal),
-}
 
 // Which blocks of a macroblock are coded, and how their levels are scaled.
 #[derive(Clone, Copy)]
@@ -38,45 +29,36 @@ fn read_block(
     block: usize,
     pasts: DcPasts,
     coding: BlocksCoding,
-    order: &[u8; 64],
+    order: &ZigzagOrder,
     matrix: &[u8; 64],
     coefficients: &mut [i16; 384],
     marks: &mut [u64; 6],
-) -> BlocksAnswer
-    requires { (block < 6) × LegalDcPasts pasts × BlocksCodingWithin coding × (order.now ≡ zigzag) × BlocksMarked coefficients.old marks.old }
+) -> Result<(DcPasts, Cursor), Refusal>
+    requires { (block < 6) × LegalDcPasts pasts × BlocksCodingWithin coding × BlocksMarked coefficients.old marks.old }
     ensures parses_as { ParsesAs (block_into coding matrix.now block (record { pasts = pasts; coefficients = coefficients.old })) rest.now (progress_result result coefficients.new) }
     ensures blocks_marked { BlocksMarked coefficients.new marks.new }
 {
     if !pattern::is_coded(coding.pattern, block) {
-        return BlocksAnswer::Legal(pasts, Cursor { at: 0 });
+        return Ok((pasts, Cursor { at: 0 }));
     }
     let intra = coding.intra;
-    let start = difference::read_dc(rest, dc::dc_past_of(pasts, block), intra);
-    let DcAnswer::Legal(dc, after_dc) = start else {
-        return BlocksAnswer::Refused(difference::dc_refusal(start));
-    };
-    let one = BlockCoding {
-        intra,
-        scale: coding.scale,
+    let (dc, after_dc) = difference::read_dc(rest, pasts.of_block(block), intra)?;
+    let one = LevelCoding {
+        scaling: BlockCoding {
+            intra,
+            scale: coding.scale,
+        },
+        matrix,
+        order,
     };
     let left = field::after(rest, after_dc.at);
-    let read = levels::read_levels(
-        left,
-        one,
-        order,
-        matrix,
-        block::dc_block(dc),
-        marks::dc_marks(dc),
-    );
-    let answer = read.answer;
-    let PairsAnswer::Legal(end) = answer else {
-        return BlocksAnswer::Refused(pairs::pairs_refusal(answer));
-    };
+    let read = levels::read_levels(left, one, block::dc_block(dc), marks::dc_marks(dc));
+    let end = read.answer?;
     let values = read.block;
     block::store_block(coefficients, block, values);
     marks[block] = read.marks;
     let at = after_dc.at + end.at;
-    BlocksAnswer::Legal(dc::dc_pasts_with(intra, pasts, block, dc), Cursor { at })
+    Ok((pasts.after_block(intra, block, dc), Cursor { at }))
 }
 
 // Reads the six blocks into an array of zeros, and their marks.
@@ -87,16 +69,16 @@ pub(crate) fn read_blocks(
     matrix: &[u8; 64],
     coefficients: &mut [i16; 384],
     marks: &mut [u64; 6],
-) -> BlocksAnswer
+) -> Result<(DcPasts, Cursor), Refusal>
     requires { LegalDcPasts pasts × BlocksCodingWithin coding × (coefficients.old ≡ replicate (6 * 64) (pos 0)) × (marks.old ≡ replicate 6 0) }
     ensures parses_as { ParsesAs (decoded_blocks_of coding matrix.now pasts) rest.now (decoded_blocks_result result coefficients.new) }
     ensures blocks_marked { BlocksMarked coefficients.new marks.new }
 {
-    let order = tables::zigzag_table();
+    let order = ZigzagOrder::new();
     let mut running = pasts;
     let mut at: usize = 0;
     for block in 0..6 {
-        let answer = read_block(
+        let (next, cursor) = read_block(
             &rest[at..],
             block,
             running,
@@ -105,22 +87,9 @@ pub(crate) fn read_blocks(
             matrix,
             coefficients,
             marks,
-        );
-        let BlocksAnswer::Legal(next, cursor) = answer else {
-            return answer;
-        };
+        )?;
         running = next;
-        at = at + cursor.at;
+        at += cursor.at;
     }
-    BlocksAnswer::Legal(running, Cursor { at })
-}
-
-// The refusal of blocks that are not all legal.
-pub fn blocks_refusal(answer: BlocksAnswer) -> Refusal
-    ensures { result ≡ blocks_refusal answer }
-{
-    match answer {
-        BlocksAnswer::Legal(_, _) => Refusal::DcCoefficient,
-        BlocksAnswer::Refused(refusal) => refusal,
-    }
+    Ok((running, Cursor { at }))
 }

@@ -3,10 +3,12 @@
 
 pub mod blocks;
 pub mod difference;
+mod level_coding;
 pub mod levels;
 pub mod macroblock;
 pub mod macroblock_head;
 pub mod pairs;
 pub mod slice;
+mod tested;
 pub mod vector_codes;
 pub mod vectors;

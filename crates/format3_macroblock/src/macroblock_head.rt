@@ -1,12 +1,11 @@
 // The first fields of a macroblock: its type, its address increment, and its quantizer scale.
 ghost use Rattle.std.specs.Prelude.{◌≡◌};
-ghost use Rattle.symbols.specs.Parsed.{ParsesAs};
-ghost use Rattle.format3_records.specs.Field.{tested_result};
-ghost use Rattle.format3_macroblock.specs.MacroblockHead.{must_follow, legal_increment, given_scale_of, head_of, head_result, head_refusal};
+ghost use Rattle.format3_records.specs.Reader.{ParsesAs};
+ghost use Rattle.format3_macroblock.specs.MacroblockHead.{must_follow, legal_increment, given_scale_of, head_of};
 
 use crate::slice;
 use format3_records::field;
-use format3_records::field::{ByteField, Cursor, TestedByte, TwoByteField};
+use format3_records::field::Cursor;
 use refusals::Refusal;
 use symbols::header::{B_PICTURE, I_PICTURE};
 use symbols::macroblock::MacroblockHead;
@@ -26,12 +25,6 @@ pub struct HeadContext {
     pub intra: bool,
 }
 
-#[derive(Clone, Copy)]
-pub enum HeadAnswer {
-    Legal(MacroblockHead, Cursor),
-    Refused(Refusal),
-}
-
 // Whether a macroblock must directly follow the previous one, with none skipped.
 fn must_follow(context: HeadContext) -> bool
     ensures { result ≡ must_follow context }
@@ -39,14 +32,11 @@ fn must_follow(context: HeadContext) -> bool
     if context.first {
         return true;
     }
-    let coding = context.coding_type;
-    if coding == I_PICTURE {
-        return true;
+    match context.coding_type {
+        I_PICTURE => true,
+        B_PICTURE => context.intra,
+        _ => false,
     }
-    if coding == B_PICTURE {
-        return context.intra;
-    }
-    false
 }
 
 // Whether the address increment is legal; the macroblock's own address is next + increment - 1.
@@ -62,7 +52,7 @@ fn legal_increment(context: HeadContext, increment: u16) -> bool
     if macroblocks < next {
         return false;
     }
-    if macroblocks - next < increment as usize {
+    if macroblocks - next < usize::from(increment) {
         return false;
     }
     if must_follow(context) {
@@ -72,55 +62,43 @@ fn legal_increment(context: HeadContext, increment: u16) -> bool
 }
 
 // Reads the scale (10) if the type has one; otherwise 0.
-fn read_given_scale(rest: &[u8], macroblock_type: u8) -> TestedByte
-    ensures { ParsesAs (given_scale_of macroblock_type) rest.now (tested_result result) }
+fn read_given_scale(rest: &[u8], macroblock_type: u8) -> Result<(u8, Cursor), Refusal>
+    ensures { ParsesAs (given_scale_of macroblock_type) rest.now result }
 {
     if !macroblock_type::has_part(macroblock_type, SCALE_GIVEN) {
-        return TestedByte::Legal(0, Cursor { at: 0 });
+        return Ok((0, Cursor { at: 0 }));
     }
     slice::read_scale(rest)
 }
 
 // Reads the type (12), the address increment (13) and the scale (10).
-#[tactic(auto, unfolding(crate::specs::MacroblockHead::head_of))]
-pub(crate) fn read_head(body: &[u8], context: HeadContext) -> HeadAnswer
-    ensures { ParsesAs (head_of context) body.now (head_result result) }
+#[tactic(auto, using(crate::proofs::Laws::Reads::reads), unfolding(crate::specs::MacroblockHead::head_of))]
+pub(crate) fn read_head(
+    body: &[u8],
+    context: HeadContext,
+) -> Result<(MacroblockHead, Cursor), Refusal>
+    ensures { ParsesAs (head_of context) body.now result }
 {
-    let ByteField::Value(macroblock_type, after_type) = field::read_u8(body) else {
-        return HeadAnswer::Refused(Refusal::BodyLength);
+    let Some((macroblock_type, after_type)) = field::read_u8(body) else {
+        return Err(Refusal::BodyLength);
     };
     if !macroblock_type::legal_type(context.coding_type, macroblock_type) {
-        return HeadAnswer::Refused(Refusal::MacroblockType);
+        return Err(Refusal::MacroblockType);
     }
     let rest = field::after(body, after_type.at);
-    let TwoByteField::Value(increment, after_increment) = field::read_u16(rest) else {
-        return HeadAnswer::Refused(Refusal::BodyLength);
+    let Some((increment, after_increment)) = field::read_u16(rest) else {
+        return Err(Refusal::BodyLength);
     };
     if !legal_increment(context, increment) {
-        return HeadAnswer::Refused(Refusal::AddressIncrement);
+        return Err(Refusal::AddressIncrement);
     }
     let left = field::after(rest, after_increment.at);
-    let given = read_given_scale(left, macroblock_type);
-    let TestedByte::Legal(scale, after_scale) = given else {
-        return HeadAnswer::Refused(field::tested_refusal(given));
-    };
+    let (scale, after_scale) = read_given_scale(left, macroblock_type)?;
     let at = after_type.at + (after_increment.at + after_scale.at);
-    HeadAnswer::Legal(
-        MacroblockHead {
-            macroblock_type,
-            increment,
-            scale,
-        },
-        Cursor { at },
-    )
-}
-
-// The refusal of a head that is not legal.
-pub(crate) fn head_refusal(answer: HeadAnswer) -> Refusal
-    ensures { result ≡ head_refusal answer }
-{
-    match answer {
-        HeadAnswer::Legal(_, _) => Refusal::MacroblockType,
-        HeadAnswer::Refused(refusal) => refusal,
-    }
+    let head = MacroblockHead {
+        macroblock_type,
+        increment,
+        scale,
+    };
+    Ok((head, Cursor { at }))
 }

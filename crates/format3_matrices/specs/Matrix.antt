@@ -1,19 +1,29 @@
 -- The quantizer matrices of a picture (document 01, kind 2, and refusals 6 and 9).
-use Rattle.std.specs.Prelude.{Bool, true, cond, not, List, ℕ, leb, eqb, length, get_or, drop, replicate}
+use Rattle.std.specs.Prelude.{Bool, true, cond, not, List, ℕ, leb, eqb, length, get_or, drop, replicate, ⊤, Result, Ok, Err}
 use Rattle.math.specs.Scatter.{scatter}
 use Rattle.math.specs.Test.{all_below}
-use Rattle.refusals.specs.declared.Refusal.TheVariants as Refusal
+use Rattle.refusals.specs.declared.Refusal.{Refusal}
 use Rattle.tables.specs.Tables.{zigzag}
 use Rattle.symbols.specs.Guard.{require◌else◌then◌}
 use Rattle.decode_coefficients.specs.declared.matrices.Matrices.{Matrices}
 use Rattle.decode_coefficients.specs.Matrices.{matrices_of}
-use Rattle.format3_records.specs.declared.verdict.Verdict.{Verdict}
-use Rattle.format3_records.specs.declared.verdict.Verdict.TheVariants.{Passed, Refused}
 use Rattle.format3_matrices.specs.declared.Loaded.{Loaded}
+use Rattle.format3_matrices.specs.declared.Matrix.{Matrix}
+use Rattle.format3_matrices.specs.declared.Matrix.TheVariants.{Intra, NonIntra}
 
 -- "which (0 intra, 1 non-intra), then 64 weights in zigzag order"
 abbrev pub which_of : List ℕ → ℕ
 which_of body = get_or body 0 0
+
+abbrev pub number_of_matrix : Matrix → ℕ
+number_of_matrix Intra = 0
+number_of_matrix NonIntra = 1
+
+unfoldable pub matrix_with : ℕ → Result Matrix Refusal
+matrix_with number =
+    cond (eqb number (number_of_matrix Intra)) (Ok Intra)
+    (cond (eqb number (number_of_matrix NonIntra)) (Ok NonIntra)
+    (Err Refusal.Matrix))
 
 abbrev pub weights_of : List ℕ → List ℕ
 weights_of body = drop 1 body
@@ -31,14 +41,14 @@ abbrev pub loaded_already : ℕ → Loaded → Bool
 loaded_already which loaded = cond (eqb which 0) loaded.intra loaded.non_intra
 
 -- "Kind 2, matrix, 65 bytes": 6, then 9: "matrix first tests which, then given twice"
-unfoldable pub matrix_verdict : List ℕ → Loaded → Verdict
+unfoldable pub matrix_verdict : List ℕ → Loaded → Result ⊤ Refusal
 matrix_verdict body loaded =
-    require eqb (length body) 65 else Refused Refusal.BodyLength then
-    require leb (which_of body) 1 else Refused Refusal.Matrix then
-    require not (loaded_already (which_of body) loaded) else Refused Refusal.Matrix then
-    require positive (weights_of body) else Refused Refusal.Matrix then
-    require legal_first (which_of body) (get_or body 1 0) else Refused Refusal.Matrix then
-    Passed
+    require eqb (length body) 65 else Err Refusal.BodyLength then
+    require leb (which_of body) 1 else Err Refusal.Matrix then
+    require not (loaded_already (which_of body) loaded) else Err Refusal.Matrix then
+    require positive (weights_of body) else Err Refusal.Matrix then
+    require legal_first (which_of body) (get_or body 1 0) else Err Refusal.Matrix then
+    Ok tt
 
 -- the weights, each moved from its zigzag position to its raster index, 8 × row + column
 unfoldable pub raster_order : List ℕ → List ℕ

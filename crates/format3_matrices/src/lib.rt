@@ -3,20 +3,21 @@
 #![tactic(auto)]
 
 ghost use Rattle.std.specs.Prelude.{◌≡◌, ◌<◌, length};
-ghost use Rattle.format3_matrices.specs.Matrix.{positive, legal_first, loaded_already, matrix_verdict, raster_order, loaded_with, now_loaded};
+ghost use Rattle.format3_matrices.specs.Matrix.{number_of_matrix, matrix_with, positive, legal_first, loaded_already, matrix_verdict, raster_order, loaded_with, now_loaded};
 
 use decode_coefficients::matrices::Matrices;
-use format3_records::field;
-use format3_records::verdict::Verdict;
 use refusals::Refusal;
 
 const MATRIX_BODY_LENGTH: usize = 65;
 
-const INTRA_MATRIX: u8 = 0;
-
-const NON_INTRA_MATRIX: u8 = 1;
-
 const FIRST_INTRA_WEIGHT: u8 = 8;
+
+// The two matrices, with their numbers in a record.
+#[derive(Clone, Copy, Debug, PartialEq, Eq)]
+enum Matrix {
+    Intra = 0,
+    NonIntra = 1,
+}
 
 // Which matrices this picture has loaded.
 #[derive(Clone, Copy)]
@@ -25,62 +26,73 @@ pub struct Loaded {
     pub non_intra: bool,
 }
 
+impl TryFrom<u8> for Matrix {
+    type Error = Refusal;
+
+    ghost try_from_gives = { λ number result. result ≡ matrix_with number };
+
+    #[tactic(auto, unfolding(crate::specs::Matrix::matrix_with))]
+    fn try_from(number: u8) -> Result<Self, Refusal> {
+        match number {
+            0 => Ok(Matrix::Intra),
+            1 => Ok(Matrix::NonIntra),
+            _ => Err(Refusal::Matrix),
+        }
+    }
+}
+
+impl Matrix {
+    // Whether its first weight is legal: 8 in the intra matrix.
+    fn legal_first(self, first: u8) -> bool
+        ensures { result ≡ legal_first (number_of_matrix self) first }
+    {
+        match self {
+            Matrix::Intra => first == FIRST_INTRA_WEIGHT,
+            Matrix::NonIntra => true,
+        }
+    }
+}
+
+impl Loaded {
+    // Whether this matrix has been loaded before.
+    fn includes(self, matrix: Matrix) -> bool
+        ensures { result ≡ loaded_already (number_of_matrix matrix) self }
+    {
+        match matrix {
+            Matrix::Intra => self.intra,
+            Matrix::NonIntra => self.non_intra,
+        }
+    }
+}
+
 // Whether no weight is 0.
 #[tactic(auto, unfolding(crate::specs::Matrix::positive))]
 fn all_positive(weights: &[u8]) -> bool
     requires { length weights.now ≡ 64 }
     ensures { result ≡ positive weights.now }
 {
-    for k in 0..64 {
-        if weights[k] == 0 {
-            return false;
-        }
-    }
-    true
-}
-
-// Whether the first weight is legal: 8 in an intra matrix.
-fn legal_first(which: u8, first: u8) -> bool
-    ensures { result ≡ legal_first which first }
-{
-    if which == INTRA_MATRIX {
-        return first == FIRST_INTRA_WEIGHT;
-    }
-    true
-}
-
-// Whether this matrix has been loaded before.
-fn loaded_already(which: u8, loaded: Loaded) -> bool
-    ensures { result ≡ loaded_already which loaded }
-{
-    if which == INTRA_MATRIX {
-        return loaded.intra;
-    }
-    loaded.non_intra
+    !weights.contains(&0)
 }
 
 // Tests the body's length (6); then which matrix, whether it was loaded before, and its weights (9).
-#[tactic(auto, unfolding(crate::specs::Matrix::matrix_verdict))]
-pub fn matrix_verdict(body: &[u8], loaded: Loaded) -> Verdict
+#[tactic(auto, using(symbols::proofs::Guard::guards), unfolding(crate::specs::Matrix::matrix_verdict))]
+pub fn matrix_verdict(body: &[u8], loaded: Loaded) -> Result<(), Refusal>
     ensures { result ≡ matrix_verdict body.now loaded }
 {
     if body.len() != MATRIX_BODY_LENGTH {
-        return Verdict::Refused(Refusal::BodyLength);
+        return Err(Refusal::BodyLength);
     }
-    let which = body[0];
-    if NON_INTRA_MATRIX < which {
-        return Verdict::Refused(Refusal::Matrix);
+    let matrix = Matrix::try_from(body[0])?;
+    if loaded.includes(matrix) {
+        return Err(Refusal::Matrix);
     }
-    if loaded_already(which, loaded) {
-        return Verdict::Refused(Refusal::Matrix);
+    if !all_positive(&body[1..]) {
+        return Err(Refusal::Matrix);
     }
-    if !all_positive(field::after(body, 1)) {
-        return Verdict::Refused(Refusal::Matrix);
+    if !matrix.legal_first(body[1]) {
+        return Err(Refusal::Matrix);
     }
-    if !legal_first(which, body[1]) {
-        return Verdict::Refused(Refusal::Matrix);
-    }
-    Verdict::Passed
+    Ok(())
 }
 
 // The weights, given in zigzag order, in raster order.
@@ -91,9 +103,8 @@ fn raster_order(weights: &[u8]) -> [u8; 64]
 {
     let zigzag = tables::zigzag_table();
     let mut matrix = [0u8; 64];
-    for k in 0..64 {
-        let raster = zigzag[k] as usize;
-        matrix[raster] = weights[k];
+    for (raster, weight) in zigzag.iter().zip(weights) {
+        matrix[usize::from(*raster)] = *weight;
     }
     matrix
 }
@@ -103,7 +114,7 @@ pub fn mark_loaded(body: &[u8], loaded: Loaded) -> Loaded
     requires { 0 < length body.now }
     ensures { result ≡ now_loaded body.now loaded }
 {
-    if body[0] == INTRA_MATRIX {
+    if body[0] == Matrix::Intra as u8 {
         return Loaded {
             intra: true,
             ..loaded
@@ -120,17 +131,15 @@ pub fn load_matrix(body: &[u8], matrices: Matrices) -> Matrices
     requires { length body.now ≡ 65 }
     ensures { result ≡ loaded_with body.now matrices }
 {
-    let weights = raster_order(field::after(body, 1));
-    if body[0] == INTRA_MATRIX {
-        let non_intra = matrices.non_intra;
+    let weights = raster_order(&body[1..]);
+    if body[0] == Matrix::Intra as u8 {
         return Matrices {
             intra: weights,
-            non_intra,
+            ..matrices
         };
     }
-    let intra = matrices.intra;
     Matrices {
-        intra,
         non_intra: weights,
+        ..matrices
     }
 }

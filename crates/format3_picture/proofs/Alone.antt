@@ -7,9 +7,9 @@ use native.Mathlib.Omega.{arith}
 use borrow.Author.Tests.{eq-eqb, ne_eqb}
 use lib.IntN.{ℤ}
 use lib.ListN.{length}
+use Rattle.std.specs.Prelude.{Result, Ok, Err}
 use lib.Seq.{ext_get_or}
 use Rattle.refusals.specs.Refusal.{accepted}
-use Rattle.refusals.specs.declared.Refusal.{Refusal}
 use Rattle.refusals.proofs.Laws.{never-accepted}
 use Rattle.symbols.specs.declared.header.Header.{Header}
 use Rattle.symbols.specs.declared.size.PictureSize.{PictureSize}
@@ -20,6 +20,7 @@ use Rattle.decode_macroblock.specs.Owner.{owner_of}
 use Rattle.decode_macroblock.proofs.OwnerLaws.{owner-below}
 use Rattle.format3_header.specs.FileStart.{file_start_of}
 use Rattle.format3_header.specs.declared.file_start.FileStart.{FileStart}
+use Rattle.format3_header.specs.declared.file_start.RefusedAt.{RefusedAt}
 use Rattle.format3_picture.specs.Alone.{Alike}
 use Rattle.format3_picture.specs.Picture.{Picture, answer_of, symbols_of, picture_within}
 use Rattle.format3_picture.specs.Reconstruction.{macroblocks_of}
@@ -45,20 +46,20 @@ module _ (limit : ℕ) (transform : List ℤ → ℕ → ℤ) (file forward back
   there = picture_within limit transform file forward backward other
 
   -- the file's start is the same with both outputs
-  also : {x : FileStart} → file_start_of limit file (length output) (length forward) (length backward) ≡ x → file_start_of limit file (length other) (length forward) (length backward) ≡ x
+  also : {x : Result FileStart RefusedAt} → file_start_of limit file (length output) (length forward) (length backward) ≡ x → file_start_of limit file (length other) (length forward) (length backward) ≡ x
   also e = ap (λ (n : ℕ). file_start_of limit file n (length forward) (length backward)) (sym long) ∙ e
 
-  no-header-alike : {refusal : Refusal} {place : ℕ} → file_start_of limit file (length output) (length forward) (length backward) ≡ FileStart.Refused refusal place → Alike (length output) here there
-  no-header-alike {refusal} e =
+  no-header-alike : {stop : RefusedAt} → file_start_of limit file (length output) (length forward) (length backward) ≡ Err stop → Alike (length output) here there
+  no-header-alike {stop} e =
       let a = no_header limit transform file forward backward output e in
       let b = no_header limit transform file forward backward other (also e) in
       record {
         answer = ap (λ (p : Picture). answer_of p) a ∙ sym (ap (λ (p : Picture). answer_of p) b);
-        bytes = λ number. absurd (never-accepted refusal (sym (ap (λ (p : Picture). p.number) a) ∙ number));
+        bytes = λ number. absurd (never-accepted stop.refusal (sym (ap (λ (p : Picture). p.number) a) ∙ number));
         long = ap (λ (p : Picture). length p.output) a;
       }
 
-  module _ {h : Header} {end : ℕ} (e : file_start_of limit file (length output) (length forward) (length backward) ≡ FileStart.HeaderRead h end) where
+  module _ {h : Header} {end : ℕ} (e : file_start_of limit file (length output) (length forward) (length backward) ≡ Ok (record { header = h; end = end })) where
     same_bytes : here.number ≡ accepted → here.output ≡ there.output
     same_bytes number =
         let start = header_read limit file forward backward output e in
@@ -79,9 +80,9 @@ module _ (limit : ℕ) (transform : List ℤ → ℕ → ℤ) (file forward back
       long = header-read-long limit transform file forward backward output e;
     }
 
-  alike : (x : FileStart) → file_start_of limit file (length output) (length forward) (length backward) ≡ x → Alike (length output) here there
-  alike (FileStart.Refused refusal place) e = no-header-alike e
-  alike (FileStart.HeaderRead h end) e = header-read-alike e
+  alike : (x : Result FileStart RefusedAt) → file_start_of limit file (length output) (length forward) (length backward) ≡ x → Alike (length output) here there
+  alike (Err stop) e = no-header-alike e
+  alike (Ok start) e = header-read-alike e
 
 -- rules out a picture through which an earlier one shows
 pub picture-alone : (limit : ℕ) (transform : List ℤ → ℕ → ℤ) (file forward backward output other : List ℕ) → length output ≡ length other

@@ -4,23 +4,22 @@ use mathlib.Core.Path.{◌≡◌, refl}
 use Prim.Native.Nat.{ℕ, ◌≤◌, ◌<◌}
 use borrow.Author.Tests.{leb-false}
 use lib.Dec.{lit≤}
+use Rattle.std.specs.Prelude.{Result, Ok, Err, ⊤}
 use Rattle.refusals.specs.Refusal.{number_of}
 use Rattle.refusals.specs.declared.Refusal.{Refusal}
 use Rattle.refusals.specs.declared.Refusal.TheVariants.{MacroblockLimit}
 use Rattle.symbols.specs.Size.{macroblock_count}
 use Rattle.symbols.specs.declared.header.Header.{Header}
 use Rattle.symbols.proofs.Guard.{require-cases, require-all}
-use Rattle.format3_records.specs.declared.verdict.Verdict.{Verdict}
-use Rattle.format3_records.specs.declared.verdict.Verdict.TheVariants.{Passed, Refused}
 use Rattle.format3_header.specs.Lengths.{lent_lengths, caller_verdict}
 
 module _ (limit : ℕ) (h : Header) where
   abbrev pub CallerRefusal : Refusal → Type 0
   CallerRefusal refusal = ((refusal ≡ MacroblockLimit) × (limit < macroblock_count h.size)) ⊎ ((19 ≤ number_of refusal) × (number_of refusal ≤ 21))
 
-  abbrev pub RefusedByCaller : Verdict → Type 0
-  RefusedByCaller Passed = Unit {0}
-  RefusedByCaller (Refused refusal) = CallerRefusal refusal
+  abbrev pub RefusedByCaller : Result ⊤ Refusal → Type 0
+  RefusedByCaller (Ok passed) = Unit {0}
+  RefusedByCaller (Err refusal) = CallerRefusal refusal
 
   pub caller-refusal : (output forward backward : ℕ) → RefusedByCaller (caller_verdict limit h output forward backward)
   unfolding caller_verdict lent_lengths

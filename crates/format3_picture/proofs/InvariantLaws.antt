@@ -9,16 +9,19 @@ use native.Mathlib.Omega.{arith}
 use borrow.Author.Tests.{ne_eqb}
 use lib.Dec.{T, eqb}
 use lib.ListN.{length}
+use Rattle.std.specs.Prelude.{Option, Some, None, Result, Ok, Err, OnSome}
+use Rattle.refusals.specs.declared.Refusal.{Refusal}
 use Rattle.math.specs.Each.{Each}
 use Rattle.math.proofs.Each.{each_append}
 use Rattle.math.proofs.Bound.{within-literal}
+use Rattle.symbols.specs.Header.{uses_forward, uses_backward}
+use Rattle.symbols.specs.MacroblockType.{legal_type}
 use Rattle.symbols.specs.Requires.{HeaderWithin}
 use Rattle.symbols.specs.Size.{macroblock_count}
 use Rattle.symbols.specs.declared.header.Header.{Header}
+use Rattle.symbols.specs.declared.header.VectorCoding.{VectorCoding}
 use Rattle.symbols.specs.declared.vector_codes.VectorCodes.{VectorCodes}
 use Rattle.symbols.specs.Macroblock.{Macroblock}
-use Rattle.symbols.specs.declared.macroblock.MacroblockSymbols.{MacroblockSymbols}
-use Rattle.symbols.proofs.Parsed.{all-at}
 use Rattle.decode_coefficients.specs.declared.matrices.Matrices.{Matrices}
 use Rattle.decode_coefficients.proofs.Range.{zeros-between}
 use Rattle.decode_coefficients.specs.Requires.{BlocksInRange}
@@ -29,31 +32,47 @@ use Rattle.decode_macroblock.specs.Requires.{VectorWithin}
 use Rattle.decode_macroblock.specs.Macroblock.{MadeMacroblock, predicted_only_from, InOrder}
 use Rattle.decode_macroblock.specs.Rows.{rows_of}
 use Rattle.decode_macroblock.proofs.OrderLaws.{order-both, uncoded-order, uncoded-each}
+use Rattle.decode_macroblock.specs.declared.compensation.Vector.{Vector}
 use Rattle.decode_state.specs.Plan.{skip_motion, plan_of, own_macroblock, macroblocks_of_plan}
 use Rattle.decode_state.specs.Requires.{Plannable, CodesWithin}
-use Rattle.decode_state.specs.Vectors.{own_motion, next_vector_pasts}
+use Rattle.decode_state.specs.Vectors.{own_vector, own_motion, next_vector_pasts, predicts_forward, predicts_backward}
 use Rattle.decode_state.specs.State.{zero_vector}
 use Rattle.decode_state.proofs.PlanLaws.{pasts-within, motion-within, no-motion-within, skip-within, own-forward-used, own-backward-used, skip-forward-used, skip-backward-used}
 use Rattle.format3_records.specs.Record.{matrix_kind, slice_kind, macroblock_kind, record_of}
 use Rattle.format3_records.specs.Turn.{in_turn, turn_after}
 use Rattle.format3_records.specs.declared.record.Record.{Record}
 use Rattle.format3_records.specs.declared.turn.Turn.{Turn}
-use Rattle.format3_records.specs.declared.verdict.Verdict.TheVariants.{Passed}
 use Rattle.format3_records.proofs.Laws.Record.{Inside, inside}
 use Rattle.format3_macroblock.specs.Blocks.{legal_dc}
 use Rattle.format3_macroblock.specs.Slice.{legal_scale}
-use Rattle.format3_macroblock.proofs.Laws.Macroblock.{SymbolsLegal, symbols-legal, scale-legal-after, pasts-after-legal, coefficients-in-range, MacroblockLegal}
+use Rattle.format3_macroblock.proofs.Laws.Macroblock.{SymbolsLegal, scale-legal-after, pasts-after-legal, coefficients-in-range, MacroblockLegal}
 use Rattle.format3_macroblock.proofs.Laws.Vectors.{CodesKnown}
 use Rattle.format3_picture.specs.State.{start_state}
 use Rattle.format3_picture.specs.declared.state.PictureState.{PictureState}
 use Rattle.format3_picture.specs.Reconstruction.{plan_for, coefficients_for}
 use Rattle.format3_picture.specs.MacroblockRecord.{context_of, Applied}
 use Rattle.format3_picture.specs.Picture.{is_complete}
-use Rattle.format3_picture.specs.Requires.{LentLengths, StateWithin, PlanWithin, PlanLent, PlanWritable, SymbolsRead}
+use Rattle.format3_picture.specs.Requires.{LentLengths, StateWithin, PlanWithin, PlanLent, PlanWritable}
 use Rattle.format3_picture.specs.Step.{with_matrix, with_slice, RecordStep, step_at, step_at_refusing}
 use Rattle.format3_picture.specs.Symbols.{Symbol}
 use Rattle.format3_picture.proofs.WriteLaws.{plan-rows-most}
 use Rattle.format3_picture.proofs.RecordLaws.{made_record, StepCases, refuses, matrix-passes, slice-starts, macroblocks-made, step-cases, found_after}
+
+-- ---- what holds of a picture's type holds for each direction in use
+if-used : {P Q : Type 0} (v : Option Vector) → (P → Q) → OnSome v P → OnSome v Q
+if-used (Some v) f p = f p
+if-used None f p = tt
+
+vector-used : {P : Type 0} (predicts : Bool) (coding : VectorCoding) (past : Vector) → (predicts ≡ true → P) → OnSome (own_vector predicts coding past) P
+vector-used true coding past f = f refl
+vector-used false coding past f = tt
+
+module _ (h : Header) (w : HeaderWithin h) (type : ℕ) (past : Vector) (legal : legal_type h.coding_type type ≡ true) where
+  pub own-forward : OnSome (own_vector (predicts_forward h.coding_type type) h.forward past) (uses_forward h.coding_type ≡ true)
+  own-forward = vector-used (predicts_forward h.coding_type type) h.forward past (own-forward-used h.coding_type type w.first-type w.last-type legal)
+
+  pub own-backward : OnSome (own_vector (predicts_backward type) h.backward past) (uses_backward h.coding_type ≡ true)
+  own-backward = vector-used (predicts_backward type) h.backward past (own-backward-used h.coding_type type w.first-type w.last-type legal)
 
 -- ---- symbols of a macroblock that were read can be planned and written
 codes-within : {f : ℕ} {c : VectorCodes} → 1 ≤ f → CodesKnown f c → CodesWithin f c
@@ -61,9 +80,6 @@ codes-within h k = record {
   across = record { code = k.across.small; residual = k.across.below h };
   down = record { code = k.down.small; residual = k.down.below h };
 }
-
-pub given-legal : {s : PictureState} {m : MacroblockSymbols} → SymbolsRead s m → SymbolsLegal (context_of s) m
-given-legal {s} g = all-at (symbols-legal (context_of s) g.body) g.read
 
 module _ (s : PictureState) (m : SymbolsWithDc) (w : StateWithin s) (l : SymbolsLegal (context_of s) m.symbols) where
   pub plannable : Plannable s.header s.next s.slice m
@@ -95,13 +111,13 @@ module _ (s : PictureState) (m : SymbolsWithDc) (w : StateWithin s) (l : Symbols
   unfolding plan_of own_motion
   plan-lent lent = record {
     skip-lent = record {
-      forward-whole = λ e. lent.forward-whole (skip-forward-used s.header.coding_type s.slice.motion w.forward-used e);
-      backward-whole = λ e. lent.backward-whole (skip-backward-used s.header.coding_type s.slice.motion w.backward-used e);
+      forward-whole = if-used _ lent.forward-whole (skip-forward-used s.header.coding_type s.slice.motion w.forward-used);
+      backward-whole = if-used _ lent.backward-whole (skip-backward-used s.header.coding_type s.slice.motion w.backward-used);
       output-whole = lent.output-whole;
     };
     own-lent = record {
-      forward-whole = λ e. lent.forward-whole (own-forward-used s.header.coding_type m.symbols.macroblock_type w.header.first-type w.header.last-type l.type-legal e);
-      backward-whole = λ e. lent.backward-whole (own-backward-used s.header.coding_type m.symbols.macroblock_type w.header.first-type w.header.last-type l.type-legal e);
+      forward-whole = if-used _ lent.forward-whole (own-forward s.header w.header m.symbols.macroblock_type (next_vector_pasts s.header m.symbols s.slice.pasts).forward l.type-legal);
+      backward-whole = if-used _ lent.backward-whole (own-backward s.header w.header m.symbols.macroblock_type (next_vector_pasts s.header m.symbols s.slice.pasts).backward l.type-legal);
       output-whole = lent.output-whole;
     };
   }
@@ -163,8 +179,8 @@ module _ (q : Matrices) (s : PictureState) (w : StateWithin s) where
     dc = record { legal-y = refl; legal-cb = refl; legal-cr = refl };
     pasts = record { forward = zero-within; backward = zero-within };
     motion = no-motion-within;
-    forward-used = λ f. absurd (subst T (sym f) tt);
-    backward-used = λ f. absurd (subst T (sym f) tt);
+    forward-used = tt;
+    backward-used = tt;
     inside = w.inside;
     counted = w.counted;
     worked = w.worked;
@@ -186,8 +202,8 @@ module _ (q : Matrices) (s : PictureState) (w : StateWithin s) where
           dc = pasts-after-legal s.slice.dc m w.dc legal.blocks;
           pasts = pasts;
           motion = motion-within s.header m.symbols.macroblock_type (next_vector_pasts s.header m.symbols s.slice.pasts) pasts;
-          forward-used = λ e. own-forward-used s.header.coding_type m.symbols.macroblock_type w.header.first-type w.header.last-type l.type-legal e;
-          backward-used = λ e. own-backward-used s.header.coding_type m.symbols.macroblock_type w.header.first-type w.header.last-type l.type-legal e;
+          forward-used = own-forward s.header w.header m.symbols.macroblock_type (next_vector_pasts s.header m.symbols s.slice.pasts).forward l.type-legal;
+          backward-used = own-backward s.header w.header m.symbols.macroblock_type (next_vector_pasts s.header m.symbols s.slice.pasts).backward l.type-legal;
           inside = omega (arith, l.address-inside, l.increment-some);
           counted = omega (arith, w.counted, l.increment-some);
           worked = omega (arith, w.worked, plan-rows-most (plan_for s.header s.next s.slice m) (coefficients_for q s.slice m));
@@ -211,14 +227,14 @@ module _ (q : Matrices) (s : PictureState) (w : StateWithin s) where
         (uncoded-each (λ n. BlocksInRange n.coefficients) _ (λ address. record { all = λ block. zeros-between 0 }) s.next _)
         (coefficients-in-range q _ _ m legal.blocks, tt)
 
-  pub kept : {symbol : Symbol} {t : RecordStep} → StepCases q s symbol t → t.applied.verdict ≡ Passed → KeepsInvariant s t.applied
+  pub kept : {symbol : Symbol} {t : RecordStep} → StepCases q s symbol t → t.applied.verdict ≡ Ok tt → KeepsInvariant s t.applied
   unfolding rows_of
   kept (refuses refusal) e = let z : ◌≡◌ {A = ℕ} 0 1 = cc in absurd (omega arith)
   kept (matrix-passes turn body) e = record { within = matrix-within matrix_kind turn body; header = refl; order = refl; rows = sym (add-zero s.rows); in-range = tt }
   kept (slice-starts turn header legal start) e = record { within = slice-within slice_kind turn header.scale legal; header = refl; order = refl; rows = sym (add-zero s.rows); in-range = tt }
   kept (macroblocks-made begun m legal) e = record { within = advanced-within m legal; header = refl; order = made-order m legal; rows = refl; in-range = made-in-range m legal }
 
-  pub step_keeps : (file : List ℕ) (at : ℕ) → (step_at file at s q).applied.verdict ≡ Passed → KeepsInvariant s (step_at file at s q).applied
+  pub step_keeps : (file : List ℕ) (at : ℕ) → (step_at file at s q).applied.verdict ≡ Ok tt → KeepsInvariant s (step_at file at s q).applied
   step_keeps file at = kept (step-cases file at s q)
 
 -- ---- where it ends: after its start, and inside the file
@@ -226,14 +242,14 @@ pub record Ends (file : List ℕ) (at end : ℕ) : Type 0 where
   pub beyond : at < end
   pub in-file : end ≤ length file
 
-pub step-ends : (file : List ℕ) (at : ℕ) (s : PictureState) (q : Matrices) → (step_at file at s q).applied.verdict ≡ Passed → Ends file at (step_at file at s q).end
+pub step-ends : (file : List ℕ) (at : ℕ) (s : PictureState) (q : Matrices) → (step_at file at s q).applied.verdict ≡ Ok tt → Ends file at (step_at file at s q).end
 unfolding step_at_refusing
 step-ends file at s q = go (record_of file at) refl
   where
-    go : (r : Record) → record_of file at ≡ r → (step_at file at s q).applied.verdict ≡ Passed → Ends file at (step_at file at s q).end
-    go (Record.Refused refusal) e = rw e (λ v. let z : ◌≡◌ {A = ℕ} 0 1 = cc in absurd (omega arith))
-    go (Record.Found kind start n) e = rw e (λ v. record {
-      beyond = omega (arith, found_after file at kind start n e);
+    go : (r : Result Record Refusal) → record_of file at ≡ r → (step_at file at s q).applied.verdict ≡ Ok tt → Ends file at (step_at file at s q).end
+    go (Err refusal) e = rw e (λ v. let z : ◌≡◌ {A = ℕ} 0 1 = cc in absurd (omega arith))
+    go (Ok found) e = rw e (λ v. record {
+      beyond = omega (arith, found_after file at found e);
       in-file = (subst (Inside file) e (inside file at)).fits;
     })
 
@@ -246,8 +262,8 @@ start-within h w = record {
   dc = record { legal-y = refl; legal-cb = refl; legal-cr = refl };
   pasts = record { forward = record { across = within-literal tt; below = within-literal tt }; backward = record { across = within-literal tt; below = within-literal tt } };
   motion = no-motion-within;
-  forward-used = λ f. absurd (subst T (sym f) tt);
-  backward-used = λ f. absurd (subst T (sym f) tt);
+  forward-used = tt;
+  backward-used = tt;
   inside = zero-le;
   counted = refl;
   worked = zero-le;

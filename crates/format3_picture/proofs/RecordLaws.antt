@@ -1,11 +1,13 @@
 -- The outcomes of a record: a refusal, a matrix or a slice that passes, or macroblocks that fit. Assumes nothing.
 use mathlib.Core.Bool.{Bool, true, false}
 use mathlib.Core.List.{List, []}
-use mathlib.Core.Path.{◌≡◌, refl, sym, subst}
+use mathlib.Core.Path.{◌≡◌, refl, sym, ap, subst}
 use Prim.Native.Nat.{ℕ, ◌+◌}
 use native.Mathlib.Omega.{arith}
 use lib.Dec.{T, eqb, eqb→eq}
 use lib.ListN.{length, take, drop}
+use Rattle.std.specs.Prelude.{Result, Ok, Err, ⊤}
+use Rattle.std.specs.Result.{result_and}
 use Rattle.refusals.specs.declared.Refusal.{Refusal}
 use Rattle.refusals.specs.declared.Refusal.TheVariants.{OutOfTurn, BackwardVectorOutside}
 use Rattle.symbols.specs.Guard.{require◌else◌then◌}
@@ -15,16 +17,14 @@ use Rattle.symbols.specs.Macroblock.{Macroblock}
 use Rattle.symbols.proofs.Guard.{require-all}
 use Rattle.symbols.proofs.Parsed.{All, here}
 use Rattle.decode_coefficients.specs.declared.matrices.Matrices.{Matrices}
-use Rattle.decode_macroblock.specs.declared.fit.Fit.{Fit}
-use Rattle.decode_macroblock.specs.declared.fit.Fit.TheVariants.{Fits, Forward, Backward}
+use Rattle.decode_macroblock.specs.declared.fit.Direction.{Direction}
+use Rattle.decode_macroblock.specs.declared.fit.Direction.TheVariants.{Forward, Backward}
 use Rattle.decode_macroblock.specs.Rows.{rows_of}
 use Rattle.decode_state.specs.Plan.{macroblocks_of_plan}
 use Rattle.format3_records.specs.Record.{matrix_kind, slice_kind, record_of}
 use Rattle.format3_records.specs.Turn.{in_turn}
 use Rattle.format3_records.specs.declared.record.Record.{Record}
 use Rattle.format3_records.specs.declared.turn.Turn.{Turn}
-use Rattle.format3_records.specs.declared.verdict.Verdict.{Verdict}
-use Rattle.format3_records.specs.declared.verdict.Verdict.TheVariants.{Passed, Refused}
 use Rattle.format3_matrices.specs.Matrix.{matrix_verdict, loaded_with}
 use Rattle.format3_matrices.proofs.Laws.Matrix.{passed-long}
 use Rattle.format3_macroblock.specs.Slice.{legal_scale, slice_of}
@@ -33,7 +33,7 @@ use Rattle.format3_macroblock.proofs.Laws.Slice.{slice-legal}
 use Rattle.format3_macroblock.proofs.Laws.Macroblock.{MacroblockLegal, macroblock-legal}
 use Rattle.format3_picture.specs.declared.state.PictureState.{PictureState}
 use Rattle.format3_picture.specs.Reconstruction.{plan_for, coefficients_for}
-use Rattle.format3_picture.specs.MacroblockRecord.{Applied, context_of, refused_record, record_fit, state_after, plan_applied, plan_applied_refusing, symbols_applied_refusing, parsed_applied, macroblock_applied, macroblock_applied_refusing}
+use Rattle.format3_picture.specs.MacroblockRecord.{Applied, context_of, refused_record, record_fit, state_after, plan_applied, plan_applied_refusing, symbols_applied_refusing, parsed_applied, macroblock_applied, macroblock_applied_refusing, outcome_of}
 use Rattle.format3_picture.specs.Step.{passed_record, with_matrix, matrix_applied, with_slice, slice_started, slice_started_from, slice_applied, record_applied, record_applied_refusing, matrices_after, RecordStep, step_over_refusing, step_at, step_at_refusing}
 use Rattle.format3_picture.specs.Symbols.{Symbol, starts, continues, none, slice_symbol, macroblock_symbol, symbol_of, symbol_at}
 
@@ -62,7 +62,7 @@ abbrev pub made_record : Matrices → PictureState → Macroblock → Applied
 made_record q s m =
     let p = plan_for s.header s.next s.slice m in
     let macroblocks = macroblocks_of_plan p (coefficients_for q s.slice m) in
-    record { verdict = Passed; state = state_after s p (rows_of macroblocks); macroblocks = macroblocks }
+    record { verdict = Ok tt; state = state_after s p (rows_of macroblocks); macroblocks = macroblocks }
 
 -- the outcomes of a record: the symbol that it gives, and its result
 pub data StepCases (q : Matrices) (s : PictureState) : Symbol → RecordStep → Type 0 where
@@ -81,9 +81,9 @@ module _ (q : Matrices) (s : PictureState) (end : ℕ) where
   unfolding matrix_applied
   matrix-way turn body after = go (matrix_verdict body s.loaded) refl
     where
-      go : (v : Verdict) → matrix_verdict body s.loaded ≡ v → StepCases q s none (takes (matrix_applied s body) after)
-      go Passed e = rw e (matrix-passes turn body)
-      go (Refused refusal) e = rw e (refuses refusal)
+      go : (v : Result ⊤ Refusal) → matrix_verdict body s.loaded ≡ v → StepCases q s none (takes (matrix_applied s body) after)
+      go (Ok passed) e = rw e (matrix-passes turn body)
+      go (Err refusal) e = rw e (refuses refusal)
 
   slice-way : in_turn s.turn slice_kind ≡ true → (body : List ℕ) → StepCases q s (slice_symbol (slice_of body)) (takes (slice_applied s body) q)
   unfolding slice_started
@@ -100,11 +100,11 @@ module _ (q : Matrices) (s : PictureState) (end : ℕ) where
     unfolding plan_applied_refusing
     fit-way m legal = go (record_fit s.header.size (plan_for s.header s.next s.slice m)) refl
       where
-        go : (f : Fit) → record_fit s.header.size (plan_for s.header s.next s.slice m) ≡ f
+        go : (f : Result ⊤ Direction) → record_fit s.header.size (plan_for s.header s.next s.slice m) ≡ f
             → StepCases q s (continues m) (takes (plan_applied s (plan_for s.header s.next s.slice m) (coefficients_for q s.slice m)) q)
-        go Fits e = rw e (macroblocks-made begun m legal)
-        go Forward e = rw e (refuses _)
-        go Backward e = rw e (refuses _)
+        go (Ok fits) e = rw e (macroblocks-made begun m legal)
+        go (Err Forward) e = rw e (refuses _)
+        go (Err Backward) e = rw e (refuses _)
 
     macroblock-way : (body : List ℕ) → StepCases q s (macroblock_symbol (macroblock_of (context_of s) body)) (takes (macroblock_applied q s body) q)
     unfolding symbols_applied_refusing
@@ -132,18 +132,18 @@ pub step-cases : (file : List ℕ) (at : ℕ) (s : PictureState) (q : Matrices) 
 unfolding step_at_refusing symbol_at
 step-cases file at s q = go (record_of file at) refl
   where
-    go : (r : Record) → record_of file at ≡ r → StepCases q s (symbol_at file at s) (step_at file at s q)
-    go (Record.Refused refusal) e = rw e (refuses refusal)
-    go (Record.Found kind start n) e = rw e (applied-cases q s (start + n) kind (take n (drop start file)))
+    go : (r : Result Record Refusal) → record_of file at ≡ r → StepCases q s (symbol_at file at s) (step_at file at s q)
+    go (Err refusal) e = rw e (refuses refusal)
+    go (Ok found) e = rw e (applied-cases q s (found.start + found.length) found.kind (take found.length (drop found.start file)))
 
 -- ---- which records make no macroblock
 pub matrix-makes-none : (s : PictureState) (body : List ℕ) → (matrix_applied s body).macroblocks ≡ []
 unfolding matrix_applied
 matrix-makes-none s body = go (matrix_verdict body s.loaded) refl
   where
-    go : (v : Verdict) → matrix_verdict body s.loaded ≡ v → (matrix_applied s body).macroblocks ≡ []
-    go Passed e = rw e
-    go (Refused refusal) e = rw e
+    go : (v : Result ⊤ Refusal) → matrix_verdict body s.loaded ≡ v → (matrix_applied s body).macroblocks ≡ []
+    go (Ok passed) e = rw e
+    go (Err refusal) e = rw e
 
 pub slice-makes-none : (s : PictureState) (body : List ℕ) → (slice_applied s body).macroblocks ≡ []
 unfolding slice_started
@@ -153,10 +153,10 @@ slice-makes-none s body = go (slice_of body)
     go (parsed l rest) = require-all (λ (a : Applied). a.macroblocks ≡ []) _ _ _ refl λ start. refl
     go (refused refusal) = refl
 
-pub refused-makes-none : (q : Matrices) (s : PictureState) (file : List ℕ) (at : ℕ) (refusal : Refusal) → (step_at file at s q).applied.verdict ≡ Refused refusal → (step_at file at s q).applied.macroblocks ≡ []
+pub refused-makes-none : (q : Matrices) (s : PictureState) (file : List ℕ) (at : ℕ) (refusal : Refusal) → (step_at file at s q).applied.verdict ≡ Err refusal → (step_at file at s q).applied.macroblocks ≡ []
 refused-makes-none q s file at refusal = go (step-cases file at s q)
   where
-    go : {symbol : Symbol} {t : RecordStep} → StepCases q s symbol t → t.applied.verdict ≡ Refused refusal → t.applied.macroblocks ≡ []
+    go : {symbol : Symbol} {t : RecordStep} → StepCases q s symbol t → t.applied.verdict ≡ Err refusal → t.applied.macroblocks ≡ []
     go (refuses other) e = refl
     go (matrix-passes turn body) e = refl
     go (slice-starts turn header legal start) e = refl
@@ -164,38 +164,56 @@ refused-makes-none q s file at refusal = go (step-cases file at s q)
 
 -- ---- a record at an offset, by what is found there
 module _ (refusal : Refusal) (file : List ℕ) (at : ℕ) (s : PictureState) (q : Matrices) where
-  pub step-over : {kind start n : ℕ} → record_of file at ≡ Record.Found kind start n → step_at_refusing refusal file at s q ≡ step_over_refusing refusal s q kind (take n (drop start file)) (start + n)
+  pub step-over : {found : Record} → record_of file at ≡ Ok found
+      → step_at_refusing refusal file at s q ≡ step_over_refusing refusal s q found.kind (take found.length (drop found.start file)) (found.start + found.length)
   unfolding step_at_refusing
   step-over e = rw e
 
-  pub no_step : {found : Refusal} → record_of file at ≡ Record.Refused found → step_at_refusing refusal file at s q ≡ record { applied = refused_record found s; matrices = q; end = at }
+  pub no_step : {found : Refusal} → record_of file at ≡ Err found → step_at_refusing refusal file at s q ≡ record { applied = refused_record found s; matrices = q; end = at }
   unfolding step_at_refusing
   no_step e = rw e
 
 module _ (file : List ℕ) (at : ℕ) (s : PictureState) (q : Matrices) where
-  pub step-found : {kind start n : ℕ} → record_of file at ≡ Record.Found kind start n → step_at file at s q ≡ step_over_refusing BackwardVectorOutside s q kind (take n (drop start file)) (start + n)
+  pub step-found : {found : Record} → record_of file at ≡ Ok found
+      → step_at file at s q ≡ step_over_refusing BackwardVectorOutside s q found.kind (take found.length (drop found.start file)) (found.start + found.length)
   step-found e = step-over BackwardVectorOutside file at s q e
 
-  pub step-unfound : {refusal : Refusal} → record_of file at ≡ Record.Refused refusal → step_at file at s q ≡ record { applied = refused_record refusal s; matrices = q; end = at }
+  pub step-unfound : {refusal : Refusal} → record_of file at ≡ Err refusal → step_at file at s q ≡ record { applied = refused_record refusal s; matrices = q; end = at }
   step-unfound e = no_step BackwardVectorOutside file at s q e
 
+-- ---- what the code's answer says of a record
+module _ (a : Applied) where
+  pub outcome-refused : {refusal : Refusal} → outcome_of a ≡ Err refusal → a.verdict ≡ Err refusal
+  outcome-refused {refusal} = go a.verdict
+    where
+      go : (v : Result ⊤ Refusal) → result_and v (Ok a.state) ≡ Err refusal → v ≡ Err refusal
+      go (Ok passed) e = let z : ◌≡◌ {A = ℕ} 0 1 = cc in absurd (omega arith)
+      go (Err other) e = let same : other ≡ refusal = cc in ap Err same
+
+  pub outcome-passed : {s : PictureState} → outcome_of a ≡ Ok s → (a.verdict ≡ Ok tt) × (a.state ≡ s)
+  outcome-passed {s} = go a.verdict
+    where
+      go : (v : Result ⊤ Refusal) → result_and v (Ok a.state) ≡ Ok s → (v ≡ Ok tt) × (a.state ≡ s)
+      go (Ok passed) e = (refl, cc)
+      go (Err other) e = let z : ◌≡◌ {A = ℕ} 0 1 = cc in absurd (omega arith)
+
 -- ---- a matrix record that passes has the right length
-pub matrix-long : (q : Matrices) (s : PictureState) (body : List ℕ) → (record_applied q s matrix_kind body).verdict ≡ Passed → length body ≡ 65
+pub matrix-long : (q : Matrices) (s : PictureState) (body : List ℕ) → (record_applied q s matrix_kind body).verdict ≡ Ok tt → length body ≡ 65
 unfolding record_applied_refusing matrix_applied
-matrix-long q s body = require-all (λ (a : Applied). a.verdict ≡ Passed → length body ≡ 65) _ _ _ (λ e. let z : ◌≡◌ {A = ℕ} 0 1 = cc in absurd (omega arith)) λ turn. go (matrix_verdict body s.loaded) refl
+matrix-long q s body = require-all (λ (a : Applied). a.verdict ≡ Ok tt → length body ≡ 65) _ _ _ (λ e. let z : ◌≡◌ {A = ℕ} 0 1 = cc in absurd (omega arith)) λ turn. go (matrix_verdict body s.loaded) refl
   where
-    go : (v : Verdict) → matrix_verdict body s.loaded ≡ v → (matrix_applied s body).verdict ≡ Passed → length body ≡ 65
-    go Passed e = λ p. passed-long body s.loaded e
-    go (Refused refusal) e = rw e (λ p. let z : ◌≡◌ {A = ℕ} 0 1 = cc in absurd (omega arith))
+    go : (v : Result ⊤ Refusal) → matrix_verdict body s.loaded ≡ v → (matrix_applied s body).verdict ≡ Ok tt → length body ≡ 65
+    go (Ok passed) e = λ p. passed-long body s.loaded e
+    go (Err refusal) e = rw e (λ p. let z : ◌≡◌ {A = ℕ} 0 1 = cc in absurd (omega arith))
 
 -- ---- the body of a record that is found starts three bytes on
-record Starts (at : ℕ) (r : Record) : Type 0 where
-  starts : (kind start n : ℕ) → r ≡ Record.Found kind start n → start ≡ at + 3
+record Starts (at : ℕ) (r : Result Record Refusal) : Type 0 where
+  starts : (found : Record) → r ≡ Ok found → found.start ≡ at + 3
 
-refused-starts : {at : ℕ} {refusal : Refusal} → Starts at (Record.Refused refusal)
-refused-starts = record { starts = λ kind start n e. let z : ◌≡◌ {A = ℕ} 0 1 = cc in absurd (omega arith) }
+refused-starts : {at : ℕ} {refusal : Refusal} → Starts at (Err refusal)
+refused-starts = record { starts = λ found e. let z : ◌≡◌ {A = ℕ} 0 1 = cc in absurd (omega arith) }
 
-pub found_after : (file : List ℕ) (at kind start n : ℕ) → record_of file at ≡ Record.Found kind start n → start ≡ at + 3
+pub found_after : (file : List ℕ) (at : ℕ) (found : Record) → record_of file at ≡ Ok found → found.start ≡ at + 3
 unfolding record_of
 found_after file at = whole.starts
   where
@@ -205,4 +223,4 @@ found_after file at = whole.starts
         require-all (Starts at) _ _ _ refused-starts λ b.
         require-all (Starts at) _ _ _ refused-starts λ c.
         require-all (Starts at) _ _ _ refused-starts λ d.
-        record { starts = λ kind start n e. cc }
+        record { starts = λ found e. cc }

@@ -9,6 +9,7 @@ use native.Mathlib.Nat.{le_of_eq}
 use borrow.Author.Tests.{leb-true, eqb-true}
 use lib.Dec.{T, eqb}
 use lib.ListN.{length}
+use Rattle.std.specs.Prelude.{Result, Ok, Err, ⊤}
 use Rattle.refusals.specs.declared.Refusal.{Refusal}
 use Rattle.symbols.specs.Header.{uses_forward, uses_backward}
 use Rattle.symbols.specs.Requires.{HeaderWithin}
@@ -16,10 +17,10 @@ use Rattle.symbols.specs.Size.{macroblock_count, picture_bytes}
 use Rattle.symbols.specs.declared.size.PictureSize.{PictureSize}
 use Rattle.symbols.specs.declared.header.Header.{Header}
 use Rattle.symbols.proofs.Guard.{require-all}
-use Rattle.format3_records.specs.declared.verdict.Verdict.{Verdict}
 use Rattle.format3_header.specs.Lengths.{reference_length, lent_lengths, caller_verdict}
 use Rattle.format3_header.specs.FileStart.{first_header, file_start_of}
 use Rattle.format3_header.specs.declared.file_start.FileStart.{FileStart}
+use Rattle.format3_header.specs.declared.file_start.RefusedAt.{RefusedAt}
 use Rattle.format3_header.proofs.Laws.FileStart.{begun}
 use Rattle.format3_picture.specs.Requires.{LentLengths}
 
@@ -30,10 +31,10 @@ pub record CallerPassed (limit : ℕ) (h : Header) (forward backward output : Li
   pub forward-short : length forward ≤ picture_bytes h.size
   pub backward-short : length backward ≤ picture_bytes h.size
 
-record IfPassed (limit : ℕ) (h : Header) (forward backward output : List ℕ) (v : Verdict) : Type 0 where
-  caller : v ≡ Verdict.Passed → CallerPassed limit h forward backward output
+record IfPassed (limit : ℕ) (h : Header) (forward backward output : List ℕ) (v : Result ⊤ Refusal) : Type 0 where
+  caller : v ≡ Ok tt → CallerPassed limit h forward backward output
 
-not-passed : {limit : ℕ} {h : Header} {forward backward output : List ℕ} {refusal : Refusal} → IfPassed limit h forward backward output (Verdict.Refused refusal)
+not-passed : {limit : ℕ} {h : Header} {forward backward output : List ℕ} {refusal : Refusal} → IfPassed limit h forward backward output (Err refusal)
 not-passed = record { caller = λ e. let z : ◌≡◌ {A = ℕ} 0 1 = cc in absurd (omega arith) }
 
 used-length : (used : Bool) (n : ℕ) (s : PictureSize) → eqb n (reference_length used s) ≡ true → used ≡ true → n ≡ picture_bytes s
@@ -72,33 +73,32 @@ pub record Started (limit : ℕ) (file forward backward output : List ℕ) (h : 
   pub in-file : end ≤ length file
 
 module _ (limit : ℕ) (file forward backward output : List ℕ) where
-  record Good (x : FileStart) : Type 0 where
-    good : (h : Header) (end : ℕ) → x ≡ FileStart.HeaderRead h end → Started limit file forward backward output h end
+  record Good (x : Result FileStart RefusedAt) : Type 0 where
+    good : (start : FileStart) → x ≡ Ok start → Started limit file forward backward output start.header start.end
 
-  refused-good : {refusal : Refusal} {place : ℕ} → Good (FileStart.Refused refusal place)
-  refused-good = record { good = λ h end e. let z : ◌≡◌ {A = ℕ} 0 1 = cc in absurd (omega arith) }
+  refused-good : {stop : RefusedAt} → Good (Err stop)
+  refused-good = record { good = λ start e. let z : ◌≡◌ {A = ℕ} 0 1 = cc in absurd (omega arith) }
 
   file-start-good : Good (file_start_of limit file (length output) (length forward) (length backward))
   unfolding file_start_of
   file-start-good = go (first_header file) refl
     where
-      verdict : Header → Verdict
+      verdict : Header → Result ⊤ Refusal
       verdict h = caller_verdict limit h (length output) (length forward) (length backward)
 
-      lengths : (h : Header) (end : ℕ) → first_header file ≡ FileStart.HeaderRead h end → (v : Verdict) → verdict h ≡ v → Good (file_start_of limit file (length output) (length forward) (length backward))
-      lengths h end e (Verdict.Refused refusal) l = rw (e, l) refused-good
-      lengths h end e Verdict.Passed l = rw (e, l) (record {
-        good = λ g n same.
-            let a : ◌≡◌ {A = Header} h g = cc in
-            let b : ◌≡◌ {A = ℕ} end n = cc in
+      lengths : (start : FileStart) → first_header file ≡ Ok start → (v : Result ⊤ Refusal) → verdict start.header ≡ v → Good (file_start_of limit file (length output) (length forward) (length backward))
+      lengths start e (Err refusal) l = rw (e, l) refused-good
+      lengths start e (Ok passed) l = rw (e, l) (record {
+        good = λ other same.
+            let a : start ≡ other = cc in
             let found = begun file e in
-            subst (λ (k : Header). Started limit file forward backward output k n) a (subst (λ (m : ℕ). Started limit file forward backward output h m) b
-            (record { header = found.header; caller = (caller-passed limit h forward backward output).caller l; in-file = found.in-file }));
+            subst (λ (k : FileStart). Started limit file forward backward output k.header k.end) a
+            (record { header = found.header; caller = (caller-passed limit start.header forward backward output).caller l; in-file = found.in-file });
       })
 
-      go : (x : FileStart) → first_header file ≡ x → Good (file_start_of limit file (length output) (length forward) (length backward))
-      go (FileStart.Refused refusal place) e = rw e refused-good
-      go (FileStart.HeaderRead h end) e = lengths h end e (verdict h) refl
+      go : (x : Result FileStart RefusedAt) → first_header file ≡ x → Good (file_start_of limit file (length output) (length forward) (length backward))
+      go (Err stop) e = rw e refused-good
+      go (Ok start) e = lengths start e (verdict start.header) refl
 
-  pub header_read : {h : Header} {end : ℕ} → file_start_of limit file (length output) (length forward) (length backward) ≡ FileStart.HeaderRead h end → Started limit file forward backward output h end
-  header_read {h} {end} e = file-start-good.good h end e
+  pub header_read : {h : Header} {end : ℕ} → file_start_of limit file (length output) (length forward) (length backward) ≡ Ok (record { header = h; end = end }) → Started limit file forward backward output h end
+  header_read e = file-start-good.good _ e

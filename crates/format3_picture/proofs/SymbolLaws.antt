@@ -6,6 +6,7 @@ use Prim.Native.Nat.{ℕ, zero, suc}
 use native.Mathlib.Omega.{arith}
 use lib.Dec.{T, eqb, leb}
 use lib.ListN.{length}
+use Rattle.std.specs.Prelude.{Result, Ok, Err, ⊤}
 use Rattle.math.specs.Joined.{joined}
 use Rattle.refusals.specs.declared.Refusal.{Refusal}
 use Rattle.symbols.specs.Size.{macroblock_count}
@@ -17,8 +18,6 @@ use Rattle.decode_macroblock.specs.Macroblock.{MadeMacroblock}
 use Rattle.format3_records.specs.Record.{matrix_kind, macroblock_kind}
 use Rattle.format3_records.specs.Turn.{in_turn, turn_after}
 use Rattle.format3_records.specs.declared.turn.Turn.TheVariants as Turn
-use Rattle.format3_records.specs.declared.verdict.Verdict.{Verdict}
-use Rattle.format3_records.specs.declared.verdict.Verdict.TheVariants.{Passed, Refused}
 use Rattle.format3_picture.specs.State.{start_state}
 use Rattle.format3_picture.specs.declared.state.PictureState.{PictureState}
 use Rattle.format3_picture.specs.Reconstruction.{macroblocks_made_from, macroblocks_of_slice, macroblocks_of}
@@ -45,7 +44,7 @@ module _ (file : List ℕ) where
   pub by-records : (P : PictureState → Matrices → Answered → Type 0)
       → ((s : PictureState) (q : Matrices) → P s q (answered_by (end_answer (length file) s) q))
       → ((s : PictureState) (q : Matrices) (refusal : Refusal) (at : ℕ) → P s q (answered_by (refused_at refusal at s.made s.rows) q))
-      → ((s : PictureState) (q : Matrices) (symbol : Symbol) (t : RecordStep) → StepCases q s symbol t → t.applied.verdict ≡ Passed
+      → ((s : PictureState) (q : Matrices) (symbol : Symbol) (t : RecordStep) → StepCases q s symbol t → t.applied.verdict ≡ Ok tt
       → (rest : Answered) → P t.applied.state t.matrices rest → P s q (record { answer = rest.answer; gathered = put_in_front symbol rest.gathered }))
       → (n at : ℕ) (s : PictureState) (q : Matrices) → P s q (records_from file n at s q)
   unfolding records_from_refusing
@@ -55,10 +54,10 @@ module _ (file : List ℕ) where
       rest : Answered
       rest = let t = step_at file at s q in records_from file n t.end t.applied.state t.matrices
 
-      by-verdict : P (step_at file at s q).applied.state (step_at file at s q).matrices rest → (v : Verdict) → (step_at file at s q).applied.verdict ≡ v
+      by-verdict : P (step_at file at s q).applied.state (step_at file at s q).matrices rest → (v : Result ⊤ Refusal) → (step_at file at s q).applied.verdict ≡ v
           → P s q (followed v (λ refusal. answered_by (refused_at refusal at s.made s.rows) q) (symbol_at file at s) rest)
-      by-verdict later (Refused refusal) e = stops s q refusal at
-      by-verdict later Passed e = passes s q _ _ (step-cases file at s q) e rest later
+      by-verdict later (Err refusal) e = stops s q refusal at
+      by-verdict later (Ok passed) e = passes s q _ _ (step-cases file at s q) e rest later
 
       over : (b : Bool) → P (step_at file at s q).applied.state (step_at file at s q).matrices rest
           → P s q (cond b (answered_by (end_answer (length file) s) q) (followed (step_at file at s q).applied.verdict (λ refusal. answered_by (refused_at refusal at s.made s.rows) q) (symbol_at file at s) rest))
@@ -69,7 +68,7 @@ module _ (file : List ℕ) where
 abbrev pub Stays : PictureState → Matrices → Answered → Type 0
 Stays s q a = in_turn s.turn matrix_kind ≡ false → a.gathered.matrices ≡ q
 
-pub stay : (s : PictureState) (q : Matrices) {symbol : Symbol} {t : RecordStep} → StepCases q s symbol t → t.applied.verdict ≡ Passed
+pub stay : (s : PictureState) (q : Matrices) {symbol : Symbol} {t : RecordStep} → StepCases q s symbol t → t.applied.verdict ≡ Ok tt
     → (rest : Answered) → Stays t.applied.state t.matrices rest → in_turn s.turn matrix_kind ≡ false → (put_in_front symbol rest.gathered).matrices ≡ q
 stay s q (refuses refusal) v rest later e = let z : ◌≡◌ {A = ℕ} 0 1 = cc in absurd (omega arith)
 stay s q (matrix-passes turn body) v rest later e = absurd (subst T (sym turn ∙ e) tt)
@@ -83,7 +82,7 @@ matrices-stay file = by-records file Stays (λ s q e. refl) (λ s q refusal at e
 abbrev Starts : PictureState → Matrices → Answered → Type 0
 Starts s q a = s.turn ≡ Turn.Header → a.gathered.further ≡ []
 
-start : (s : PictureState) (q : Matrices) {symbol : Symbol} {t : RecordStep} → StepCases q s symbol t → t.applied.verdict ≡ Passed
+start : (s : PictureState) (q : Matrices) {symbol : Symbol} {t : RecordStep} → StepCases q s symbol t → t.applied.verdict ≡ Ok tt
     → (rest : Answered) → Starts t.applied.state t.matrices rest → s.turn ≡ Turn.Header → (put_in_front symbol rest.gathered).further ≡ []
 start s q (refuses refusal) v rest later e = let z : ◌≡◌ {A = ℕ} 0 1 = cc in absurd (omega arith)
 start s q (matrix-passes turn body) v rest later e = later refl
@@ -94,7 +93,7 @@ slice_first : (file : List ℕ) (n at : ℕ) (s : PictureState) (q : Matrices) �
 slice_first file = by-records file Starts (λ s q e. refl) (λ s q refusal at e. refl) (λ s q symbol t. start s q)
 
 -- ---- a record that passes makes the macroblocks of its symbol, before those of the records after it
-pub made-next : (s : PictureState) (q : Matrices) {symbol : Symbol} {t : RecordStep} → StepCases q s symbol t → t.applied.verdict ≡ Passed
+pub made-next : (s : PictureState) (q : Matrices) {symbol : Symbol} {t : RecordStep} → StepCases q s symbol t → t.applied.verdict ≡ Ok tt
     → (g : Gathered) → (in_turn t.applied.state.turn matrix_kind ≡ false → g.matrices ≡ t.matrices)
     → made_of s (put_in_front symbol g) ≡ t.applied.macroblocks ++ made_of t.applied.state g
 unfolding macroblocks_made_from joined

@@ -1,6 +1,6 @@
 -- The answer and the picture for a file and its references (document 01, "Refusals by who can cause them").
-use Rattle.std.specs.Prelude.{Bool, true, false, cond, List, ℕ, zero, suc, leb, ℤ, length}
-use Rattle.refusals.specs.Refusal.{accepted, number_of}
+use Rattle.std.specs.Prelude.{Bool, true, false, cond, List, ℕ, zero, suc, leb, ℤ, length, Result, Ok, Err, ⊤}
+use Rattle.refusals.specs.Refusal.{number_in}
 use Rattle.refusals.specs.declared.Refusal.{Refusal}
 use Rattle.refusals.specs.declared.Refusal.TheVariants.{FileEnds, BackwardVectorOutside}
 use Rattle.symbols.specs.Size.{max_macroblocks}
@@ -9,10 +9,9 @@ use Rattle.decode_coefficients.specs.Matrices.{default_matrices}
 use Rattle.decode_coefficients.specs.declared.matrices.Matrices.{Matrices}
 use Rattle.decode_macroblock.specs.Compensation.{references}
 use Rattle.format3_records.specs.declared.turn.Turn.{Turn}
-use Rattle.format3_records.specs.declared.verdict.Verdict.{Verdict}
-use Rattle.format3_records.specs.declared.verdict.Verdict.TheVariants.{Passed, Refused}
 use Rattle.format3_header.specs.FileStart.{file_start_of}
 use Rattle.format3_header.specs.declared.file_start.FileStart.{FileStart}
+use Rattle.format3_header.specs.declared.file_start.RefusedAt.{RefusedAt}
 use Rattle.format3_picture.specs.State.{start_state}
 use Rattle.format3_picture.specs.declared.state.PictureState.{PictureState}
 use Rattle.format3_picture.specs.Reconstruction.{Symbols, reconstruction}
@@ -23,7 +22,7 @@ use Rattle.format3_picture.specs.declared.reader.Answer.{Answer}
 -- "The answer is number, place, made": place is a byte offset in the file, made the count of macroblocks written.
 -- Request No. 6: "On a refused picture it is the total over the macroblocks made": rows
 abbrev pub refused_at : Refusal → ℕ → ℕ → ℕ → Answer
-refused_at refusal place made rows = record { number = number_of refusal; place = place; made = made; rows = rows }
+refused_at refusal place made rows = record { verdict = Err refusal; place = place; made = made; rows = rows }
 
 -- whether every macroblock has been made
 abbrev pub is_complete : Turn → Bool
@@ -34,8 +33,11 @@ is_complete Turn.Macroblock = false
 is_complete Turn.Complete = true
 
 -- the file's end: "7 file ends with macroblocks or the header missing"; "Accepted is 0, file length, N"; a missing header is in `file_start_of`
+abbrev pub end_verdict : Bool → Result ⊤ Refusal
+end_verdict complete = cond complete (Ok tt) (Err FileEnds)
+
 abbrev pub end_answer : ℕ → PictureState → Answer
-end_answer file_length s = record { number = cond (is_complete s.turn) accepted (number_of FileEnds); place = file_length; made = s.made; rows = s.rows }
+end_answer file_length s = record { verdict = end_verdict (is_complete s.turn); place = file_length; made = s.made; rows = s.rows }
 
 -- the answer to some records, and the symbols of those that pass
 pub record Answered : Type 0 where
@@ -47,17 +49,18 @@ abbrev pub answered_by : Answer → Matrices → Answered
 answered_by a q = record { answer = a; gathered = none_gathered q }
 
 -- a refused record ends the picture; a record that passes is followed by those after it
-abbrev pub followed : Verdict → (Refusal → Answered) → Symbol → Answered → Answered
-followed (Refused refusal) stop symbol rest = stop refusal
-followed Passed stop symbol rest = record { answer = rest.answer; gathered = put_in_front symbol rest.gathered }
+abbrev pub followed : Result ⊤ Refusal → (Refusal → Answered) → Symbol → Answered → Answered
+followed (Err refusal) stop symbol rest = stop refusal
+followed (Ok passed) stop symbol rest = record { answer = rest.answer; gathered = put_in_front symbol rest.gathered }
 
 -- the symbols that are gathered: of all records if the file is accepted, otherwise of those before the refused one.
 -- "a macroblock needs a slice" (5), so none is left over in `further`
 abbrev pub symbols_in : Answered → Symbols
 symbols_in a = record { matrices = a.gathered.matrices; slices = a.gathered.slices }
 
--- the answer, with the output
+-- the answer and its number, with the output
 pub record Picture : Type 0 where
+  pub verdict : Result ⊤ Refusal
   pub number : ℕ
   pub place : ℕ
   pub made : ℕ
@@ -65,7 +68,7 @@ pub record Picture : Type 0 where
   pub output : List ℕ
 
 abbrev pub with_output : Answer → List ℕ → Picture
-with_output a output = record { number = a.number; place = a.place; made = a.made; rows = a.rows; output = output }
+with_output a output = record { verdict = a.verdict; number = number_in a.verdict; place = a.place; made = a.made; rows = a.rows; output = output }
 
 -- ---- `Refusing`: with any refusal for a backward misfit. The reader's own follow, with 23
 module _ (backward_refusal : Refusal) where
@@ -87,11 +90,11 @@ module _ (backward_refusal : Refusal) where
   unfoldable pub picture_refusing : ℕ → (List ℤ → ℕ → ℤ) → List ℕ → List ℕ → List ℕ → List ℕ → Picture
   picture_refusing limit transform file forward backward output = go (file_start_of limit file (length output) (length forward) (length backward))
     where
-      go : FileStart → Picture
-      go (FileStart.Refused refusal place) = with_output (refused_at refusal place 0 0) output
-      go (FileStart.HeaderRead h end) =
-          let a = records_after_refusing file h end in
-          with_output a.answer (reconstruction transform (references forward backward) h (symbols_in a) output)
+      go : Result FileStart RefusedAt → Picture
+      go (Err stop) = with_output (refused_at stop.refusal stop.place 0 0) output
+      go (Ok start) =
+          let a = records_after_refusing file start.header start.end in
+          with_output a.answer (reconstruction transform (references forward backward) start.header (symbols_in a) output)
 
 abbrev pub records_from : List ℕ → ℕ → ℕ → PictureState → Matrices → Answered
 records_from = records_from_refusing BackwardVectorOutside
@@ -112,4 +115,4 @@ picture_of = picture_within max_macroblocks
 
 -- the answer without the output, as the code gives it
 abbrev pub answer_of : Picture → Answer
-answer_of p = record { number = p.number; place = p.place; made = p.made; rows = p.rows }
+answer_of p = record { verdict = p.verdict; place = p.place; made = p.made; rows = p.rows }

@@ -1,5 +1,5 @@
 -- What the code of this crate relies on; no rule of document 01.
-use Rattle.std.specs.Prelude.{true, List, ◌≡◌, ℕ, ◌+◌, ◌*◌, ◌≤◌, ◌<◌, eqb, length}
+use Rattle.std.specs.Prelude.{true, List, ◌≡◌, ℕ, ◌+◌, ◌*◌, ◌≤◌, ◌<◌, eqb, length, OnSome}
 use Rattle.symbols.specs.Parsed.{parsed}
 use Rattle.symbols.specs.Header.{uses_forward, uses_backward}
 use Rattle.symbols.specs.Requires.{HeaderWithin, SizeWithin}
@@ -7,11 +7,9 @@ use Rattle.symbols.specs.Size.{max_macroblocks, macroblock_count, picture_bytes}
 use Rattle.symbols.specs.declared.header.Header.{Header}
 use Rattle.symbols.specs.declared.size.PictureSize.{PictureSize}
 use Rattle.symbols.specs.declared.macroblock.MacroblockSymbols.{MacroblockSymbols}
-use Rattle.decode_coefficients.specs.Dc.{reset_dc_pasts}
 use Rattle.decode_vectors.specs.Vector.{max_vector}
 use Rattle.decode_macroblock.specs.Requires.{MotionWithin, Lent}
 use Rattle.decode_state.specs.Requires.{VectorPastsWithin}
-use Rattle.decode_state.specs.Plan.{plan_of}
 use Rattle.decode_state.specs.declared.plan.Plan.{Plan}
 use Rattle.format3_macroblock.specs.Requires.{LegalDcPasts}
 use Rattle.format3_macroblock.specs.Slice.{legal_scale}
@@ -33,8 +31,8 @@ pub record StateWithin (s : PictureState) : Type 0 where
   pub dc : LegalDcPasts s.slice.dc
   pub pasts : VectorPastsWithin s.slice.pasts
   pub motion : MotionWithin max_vector s.slice.motion
-  pub forward-used : s.slice.motion.forward ≡ true → uses_forward s.header.coding_type ≡ true
-  pub backward-used : s.slice.motion.backward ≡ true → uses_backward s.header.coding_type ≡ true
+  pub forward-used : OnSome s.slice.motion.forward (uses_forward s.header.coding_type ≡ true)
+  pub backward-used : OnSome s.slice.motion.backward (uses_backward s.header.coding_type ≡ true)
   pub inside : s.next ≤ macroblock_count s.header.size
   pub counted : s.made ≡ s.next
   pub worked : s.rows ≤ 48 * s.made
@@ -77,7 +75,3 @@ pub record SymbolsRead (s : PictureState) (m : MacroblockSymbols) : Type 0 where
   pub body : List ℕ
   pub rest : List ℕ
   pub read : macroblock_symbols_of (context_of s) body ≡ parsed m rest
-
--- the plan for such symbols, with reset DC pasts, as a non-intra macroblock leaves them
-abbrev pub starting_plan : PictureState → MacroblockSymbols → Plan
-starting_plan s m = plan_of s.header s.next s.slice (record { symbols = m; dc = reset_dc_pasts })

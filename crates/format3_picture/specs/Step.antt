@@ -1,7 +1,7 @@
 -- What a record does: its turn is tested, then it is applied by its kind (document 01, refusals 3 to 6 and 9 to 18; request No. 1, 23).
-use Rattle.std.specs.Prelude.{cond, false, List, [], ℕ, ◌+◌, eqb, take, drop}
+use Rattle.std.specs.Prelude.{cond, false, List, [], ℕ, ◌+◌, eqb, take, drop, Result, Ok, Err, ⊤}
 use Rattle.refusals.specs.declared.Refusal.{Refusal}
-use Rattle.refusals.specs.declared.Refusal.TheVariants.{RecordCut, OutOfTurn, SliceStart, BackwardVectorOutside}
+use Rattle.refusals.specs.declared.Refusal.TheVariants.{OutOfTurn, SliceStart, BackwardVectorOutside}
 use Rattle.symbols.specs.Guard.{require◌else◌then◌}
 use Rattle.symbols.specs.Parsed.{Parsed, parsed, refused}
 use Rattle.symbols.specs.declared.slice.SliceHeader.{SliceHeader}
@@ -10,8 +10,6 @@ use Rattle.decode_state.specs.State.{reset_slice}
 use Rattle.format3_records.specs.Record.{record_of, matrix_kind, slice_kind}
 use Rattle.format3_records.specs.Turn.{in_turn, turn_after}
 use Rattle.format3_records.specs.declared.record.Record.{Record}
-use Rattle.format3_records.specs.declared.verdict.Verdict.{Verdict}
-use Rattle.format3_records.specs.declared.verdict.Verdict.TheVariants.{Passed, Refused}
 use Rattle.format3_matrices.specs.Matrix.{matrix_verdict, loaded_with, now_loaded}
 use Rattle.format3_macroblock.specs.Slice.{slice_of}
 use Rattle.format3_picture.specs.declared.state.PictureState.{PictureState}
@@ -19,7 +17,7 @@ use Rattle.format3_picture.specs.MacroblockRecord.{Applied, refused_record, macr
 
 -- a record that changes the state and makes no macroblock
 abbrev pub passed_record : PictureState → Applied
-passed_record s = record { verdict = Passed; state = s; macroblocks = [] }
+passed_record s = record { verdict = Ok tt; state = s; macroblocks = [] }
 
 -- a matrix record: loads its matrix
 abbrev pub with_matrix : PictureState → List ℕ → PictureState
@@ -36,9 +34,9 @@ with_matrix s body = record {
 unfoldable pub matrix_applied : PictureState → List ℕ → Applied
 matrix_applied s body = go (matrix_verdict body s.loaded)
   where
-    go : Verdict → Applied
-    go (Refused refusal) = refused_record refusal s
-    go Passed = passed_record (with_matrix s body)
+    go : Result ⊤ Refusal → Applied
+    go (Err refusal) = refused_record refusal s
+    go (Ok passed) = passed_record (with_matrix s body)
 
 -- a slice record: resets the slice's state
 abbrev pub with_slice : PictureState → ℕ → PictureState
@@ -92,21 +90,12 @@ module _ (backward_refusal : Refusal) where
   unfoldable pub step_at_refusing : List ℕ → ℕ → PictureState → Matrices → RecordStep
   step_at_refusing file at s q = go (record_of file at)
     where
-      go : Record → RecordStep
-      go (Record.Refused refusal) = record { applied = refused_record refusal s; matrices = q; end = at }
-      go (Record.Found kind start n) = step_over_refusing s q kind (take n (drop start file)) (start + n)
+      go : Result Record Refusal → RecordStep
+      go (Err refusal) = record { applied = refused_record refusal s; matrices = q; end = at }
+      go (Ok found) = step_over_refusing s q found.kind (take found.length (drop found.start file)) (found.start + found.length)
 
 abbrev pub record_applied : Matrices → PictureState → ℕ → List ℕ → Applied
 record_applied = record_applied_refusing BackwardVectorOutside
 
 abbrev pub step_at : List ℕ → ℕ → PictureState → Matrices → RecordStep
 step_at = step_at_refusing BackwardVectorOutside
-
--- ---- the refusal in an answer of the code; no caller asks for it if there is none
-abbrev pub record_refusal : Record → Refusal
-record_refusal (Record.Refused refusal) = refusal
-record_refusal (Record.Found kind start n) = RecordCut
-
-abbrev pub verdict_refusal : Verdict → Refusal
-verdict_refusal (Refused refusal) = refusal
-verdict_refusal Passed = OutOfTurn

@@ -1,5 +1,6 @@
 -- The symbols that records give (document 01, kinds 2 to 4): slices with their macroblocks, and the matrices in effect.
-use Rattle.std.specs.Prelude.{cond, List, [], ◌∷◌, ℕ, eqb, take, drop}
+use Rattle.std.specs.Prelude.{cond, List, [], ◌∷◌, ℕ, eqb, take, drop, Result, Ok, Err}
+use Rattle.refusals.specs.declared.Refusal.{Refusal}
 use Rattle.symbols.specs.Parsed.{Parsed, parsed, refused}
 use Rattle.symbols.specs.declared.slice.SliceHeader.{SliceHeader}
 use Rattle.symbols.specs.Macroblock.{Macroblock}
@@ -39,9 +40,9 @@ symbol_of s kind body =
 unfoldable pub symbol_at : List ℕ → ℕ → PictureState → Symbol
 symbol_at file at s = go (record_of file at)
   where
-    go : Record → Symbol
-    go (Record.Refused refusal) = none
-    go (Record.Found kind start n) = symbol_of s kind (take n (drop start file))
+    go : Result Record Refusal → Symbol
+    go (Err refusal) = none
+    go (Ok found) = symbol_of s found.kind (take found.length (drop found.start file))
 
 -- ---- the records from a given one on
 -- the macroblocks that continue the slice before these records, the slices that the records start, and the matrices after them.

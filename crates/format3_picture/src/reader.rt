@@ -1,5 +1,6 @@
 // The strict reader: reads a file's records in sequence into the lent output.
 ghost use Rattle.std.specs.Prelude.{◌≡◌, ◌≤◌, length};
+ghost use Rattle.refusals.specs.Refusal.{number_in};
 ghost use Rattle.symbols.specs.Requires.{HeaderWithin};
 ghost use Rattle.decode_idct.specs.Transform.{inverse_transform};
 ghost use Rattle.decode_macroblock.specs.Compensation.{references};
@@ -11,19 +12,17 @@ use crate::state::PictureState;
 use crate::{records, state};
 use decode_coefficients::matrices;
 use format3_header::file_start;
-use format3_header::file_start::FileStart;
 use format3_records::record;
-use format3_records::record::{MATRIX_KIND, Record};
+use format3_records::record::MATRIX_KIND;
 use format3_records::turn::Turn;
-use format3_records::verdict::Verdict;
 use refusals::Refusal;
 use symbols::header::Header;
 
-// The answer: 0 or a refusal's number, the place (a byte offset in the file), how many macroblocks were made (written), and the rows
+// The answer: whether the file is accepted, the place (a byte offset in the file), how many macroblocks were made (written), and the rows
 // that the transform worked for them.
 #[derive(Clone, Copy)]
 pub struct Answer {
-    pub number: u32,
+    pub verdict: Result<(), Refusal>,
     pub place: usize,
     pub made: usize,
     pub rows: usize,
@@ -33,31 +32,18 @@ pub struct Answer {
 fn is_complete(turn: Turn) -> bool
     ensures { result ≡ is_complete turn }
 {
-    match turn {
-        Turn::Start => false,
-        Turn::Header => false,
-        Turn::Slice => false,
-        Turn::Macroblock => false,
-        Turn::Complete => true,
-    }
+    matches!(turn, Turn::Complete)
 }
 
 // The answer at the file's end.
 fn answer_at_end(file_length: usize, picture: PictureState) -> Answer
     ensures { result ≡ end_answer file_length picture }
 {
-    let turn = picture.turn;
-    if is_complete(turn) {
-        return Answer {
-            number: refusals::ACCEPTED,
-            place: file_length,
-            made: picture.made,
-            rows: picture.rows,
-        };
+    if !is_complete(picture.turn) {
+        return refused_at(Refusal::FileEnds, file_length, picture.made, picture.rows);
     }
-    let number = refusals::number(Refusal::FileEnds);
     Answer {
-        number,
+        verdict: Ok(()),
         place: file_length,
         made: picture.made,
         rows: picture.rows,
@@ -68,9 +54,8 @@ fn answer_at_end(file_length: usize, picture: PictureState) -> Answer
 fn refused_at(refusal: Refusal, place: usize, made: usize, rows: usize) -> Answer
     ensures { result ≡ refused_at refusal place made rows }
 {
-    let number = refusals::number(refusal);
     Answer {
-        number,
+        verdict: Err(refusal),
         place,
         made,
         rows,
@@ -94,37 +79,27 @@ fn read_records(
     let mut picture = state::start_state(header);
     let mut matrices = matrices::default_matrices();
     while at < file.len() {
-        let found = record::record_at(file, at);
-        let Record::Found {
-            kind,
-            start: from,
-            length,
-        } = found
-        else {
-            let not_found = records::record_refusal(found);
-            return refused_at(not_found, at, picture.made, picture.rows);
+        let record = match record::record_at(file, at) {
+            Ok(record) => record,
+            Err(not_found) => return refused_at(not_found, at, picture.made, picture.rows),
         };
-        let end = from + length;
-        let body = &file[from..end];
-        let outcome = records::apply_record(
+        let end = record.start + record.length;
+        let body = &file[record.start..end];
+        picture = match records::apply_record(
             picture,
-            kind,
+            record.kind,
             body,
-            &matrices.intra,
-            &matrices.non_intra,
+            &matrices,
             forward,
             backward,
             output,
-        );
-        let verdict = outcome.verdict;
-        let Verdict::Passed = verdict else {
-            let refusal = records::verdict_refusal(verdict);
-            return refused_at(refusal, at, picture.made, picture.rows);
+        ) {
+            Ok(next) => next,
+            Err(refusal) => return refused_at(refusal, at, picture.made, picture.rows),
         };
-        if kind == MATRIX_KIND {
+        if record.kind == MATRIX_KIND {
             matrices = format3_matrices::load_matrix(body, matrices);
         }
-        picture = outcome.state;
         at = end;
     }
     answer_at_end(file.len(), picture)
@@ -140,12 +115,11 @@ pub fn reconstruct_within(
     output: &mut [u8],
 ) -> Answer
     ensures value { result ≡ answer_of (picture_within limit inverse_transform file.now forward.now backward.now output.old) }
+    ensures number { number_in result.verdict ≡ (picture_within limit inverse_transform file.now forward.now backward.now output.old).number }
     ensures output_after { output.new ≡ (picture_within limit inverse_transform file.now forward.now backward.now output.old).output }
 {
     match file_start::read_file_start(limit, file, output.len(), forward.len(), backward.len()) {
-        FileStart::Refused(refusal, place) => refused_at(refusal, place, 0, 0),
-        FileStart::HeaderRead(header, end) => {
-            read_records(file, end, header, forward, backward, output)
-        }
+        Ok(start) => read_records(file, start.end, start.header, forward, backward, output),
+        Err(refused) => refused_at(refused.refusal, refused.place, 0, 0),
     }
 }

@@ -26,7 +26,6 @@ pub struct PictureState {
 pub(crate) fn start_state(header: Header) -> PictureState
     ensures { result ≡ start_state header }
 {
-    let slice = state::reset_slice(1);
     PictureState {
         header,
         loaded: Loaded {
@@ -37,6 +36,6 @@ pub(crate) fn start_state(header: Header) -> PictureState
         next: 0,
         made: 0,
         rows: 0,
-        slice,
+        slice: state::reset_slice(1),
     }
 }

@@ -1,16 +1,9 @@
 -- The fields of a body (document 01, "The Format 3 file": "Numbers are big-endian; signed ones two's complement").
-use Rattle.std.specs.Prelude.{cond, [], ◌∷◌, ℕ, ◌+◌, ◌*◌, ◌^◌, ltb, ℤ, pos, ◌-ℤ◌}
+use Rattle.std.specs.Prelude.{cond, [], ◌∷◌, ℕ, ◌+◌, ◌*◌, ◌^◌, ltb, ℤ, pos, ◌-ℤ◌, Option, Result, ok_or}
 use Rattle.refusals.specs.declared.Refusal.{Refusal}
 use Rattle.refusals.specs.declared.Refusal.TheVariants.{BodyLength}
-use Rattle.symbols.specs.Parsed.{Parser, parsed, refused, ◌then◌, give, ReadResult, value, stopped}
-use Rattle.format3_records.specs.declared.field.ByteField.{ByteField}
-use Rattle.format3_records.specs.declared.field.ByteField.TheVariants as Byte
-use Rattle.format3_records.specs.declared.field.TwoByteField.{TwoByteField}
-use Rattle.format3_records.specs.declared.field.TwoByteField.TheVariants as Word
-use Rattle.format3_records.specs.declared.field.SignedField.{SignedField}
-use Rattle.format3_records.specs.declared.field.SignedField.TheVariants as Signed
-use Rattle.format3_records.specs.declared.field.TestedByte.{TestedByte}
-use Rattle.format3_records.specs.declared.field.TestedByte.TheVariants as Tested
+use Rattle.symbols.specs.Parsed.{Parser, parsed, refused, ◌then◌, give}
+use Rattle.format3_records.specs.declared.field.Cursor.{Cursor}
 
 -- "A field that isn't wholly inside its record is refused by 6"
 abbrev pub not_inside : Refusal
@@ -47,23 +40,5 @@ signed_two_bytes =
     give (twos_complement (2 ^ 15) n)
 
 -- ---- what the field readers answer
-abbrev pub byte_result : ByteField → ReadResult ℕ
-byte_result (Byte.Value n cursor) = value n cursor.at
-byte_result Byte.Truncated = stopped not_inside
-
-abbrev pub two_bytes_result : TwoByteField → ReadResult ℕ
-two_bytes_result (Word.Value n cursor) = value n cursor.at
-two_bytes_result Word.Truncated = stopped not_inside
-
-abbrev pub signed_result : SignedField → ReadResult ℤ
-signed_result (Signed.Value z cursor) = value z cursor.at
-signed_result Signed.Truncated = stopped not_inside
-
-abbrev pub tested_result : TestedByte → ReadResult ℕ
-tested_result (Tested.Legal n cursor) = value n cursor.at
-tested_result (Tested.Refused refusal) = stopped refusal
-
--- the refusal in such an answer; no caller asks for that of a legal one
-abbrev pub tested_refusal : TestedByte → Refusal
-tested_refusal (Tested.Legal n cursor) = not_inside
-tested_refusal (Tested.Refused refusal) = refusal
+abbrev pub field_result : {A : Type 0} → Option (A × Cursor) → Result (A × Cursor) Refusal
+field_result answer = ok_or answer not_inside

@@ -1,3 +1,4 @@
+pub mod Reader
 pub mod Field
 pub mod Record
 pub mod Turn

@@ -4,4 +4,3 @@
 pub mod field;
 pub mod record;
 pub mod turn;
-pub mod verdict;

@@ -1,7 +1,8 @@
 // The records of a file, type-length-value units: each is a 2-byte length of what comes after it, a kind byte and a body.
 ghost use Rattle.std.specs.Prelude.{◌≡◌, ◌+◌};
-ghost use Rattle.format3_records.specs.Record.{record_of, kind_of, body_start_of, body_of};
+ghost use Rattle.format3_records.specs.Record.{legal_kind, record_of, kind_of, body_start_of, body_of};
 
+use crate::field;
 use refusals::Refusal;
 
 pub(crate) const HEADER_KIND: u8 = 1;
@@ -14,50 +15,44 @@ pub const MACROBLOCK_KIND: u8 = 4;
 
 const LAST_KIND: u8 = MACROBLOCK_KIND;
 
+// A whole record: its kind, and its body's offset and length.
 #[derive(Clone, Copy)]
-pub enum Record {
-    // A whole record: its kind, and its body's offset and length.
-    Found {
-        kind: u8,
-        start: usize,
-        length: usize,
-    },
-    Refused(Refusal),
+pub struct Record {
+    pub kind: u8,
+    pub start: usize,
+    pub length: usize,
+}
+
+// Whether a kind is one of the four.
+fn legal_kind(kind: u8) -> bool
+    ensures { result ≡ legal_kind kind }
+{
+    (HEADER_KIND..=LAST_KIND).contains(&kind)
 }
 
 // The record at an offset: cut (3), of an unknown kind (4), or found.
-#[tactic(auto, unfolding(crate::specs::Record::record_length_at, crate::specs::Record::record_of, crate::specs::Record::kind_at))]
-pub fn record_at(file: &[u8], offset: usize) -> Record
+pub fn record_at(file: &[u8], offset: usize) -> Result<Record, Refusal>
     ensures { result ≡ record_of file.now offset }
 {
-    if file.len() <= offset {
-        return Record::Refused(Refusal::RecordCut);
-    }
-    let left = file.len() - offset;
-    if left < 3 {
-        return Record::Refused(Refusal::RecordCut);
-    }
-    let high = file[offset] as usize;
-    let low = file[offset + 1] as usize;
-    let length = 256 * high + low;
+    let left = field::after(file, offset);
+    let [high, low, kind, ..] = *left else {
+        return Err(Refusal::RecordCut);
+    };
+    let length = usize::from(u16::from_be_bytes([high, low]));
     if length < 1 {
-        return Record::Refused(Refusal::RecordCut);
+        return Err(Refusal::RecordCut);
     }
-    if left - 2 < length {
-        return Record::Refused(Refusal::RecordCut);
+    if left.len() - 2 < length {
+        return Err(Refusal::RecordCut);
     }
-    let kind = file[offset + 2];
-    if kind < HEADER_KIND {
-        return Record::Refused(Refusal::RecordKind);
+    if !legal_kind(kind) {
+        return Err(Refusal::RecordKind);
     }
-    if LAST_KIND < kind {
-        return Record::Refused(Refusal::RecordKind);
-    }
-    Record::Found {
+    Ok(Record {
         kind,
         start: offset + 3,
         length: length - 1,
-    }
+    })
 }
 
 // The kind of the record at an offset; 0 if it is refused.
@@ -65,12 +60,8 @@ fn shown_kind(file: &[u8], offset: usize) -> u8
     ensures { result ≡ kind_of (record_of file.now offset) }
 {
     match record_at(file, offset) {
-        Record::Found {
-            kind,
-            start: _,
-            length: _,
-        } => kind,
-        Record::Refused(_) => 0,
+        Ok(record) => record.kind,
+        Err(_) => 0,
     }
 }
 
@@ -80,12 +71,8 @@ fn shown_body<'a>(file: &'a [u8], offset: usize) -> &'a [u8]
     ensures ref_ptr_value { result.ref_ptr ≡ (file.entry.ref_ptr.0, body_start_of (record_of file.now offset) + file.entry.ref_ptr.1) }
 {
     match record_at(file, offset) {
-        Record::Found {
-            kind: _,
-            start,
-            length,
-        } => &file[start..start + length],
-        Record::Refused(_) => &file[0..0],
+        Ok(record) => &file[record.start..record.start + record.length],
+        Err(_) => &file[0..0],
     }
 }
 

@@ -25,19 +25,9 @@ pub fn in_turn(turn: Turn, kind: u8) -> bool
 {
     match turn {
         Turn::Start => kind == HEADER_KIND,
-        Turn::Header => {
-            if kind == MATRIX_KIND {
-                return true;
-            }
-            kind == SLICE_KIND
-        }
+        Turn::Header => kind == MATRIX_KIND || kind == SLICE_KIND,
         Turn::Slice => kind == MACROBLOCK_KIND,
-        Turn::Macroblock => {
-            if kind == SLICE_KIND {
-                return true;
-            }
-            kind == MACROBLOCK_KIND
-        }
+        Turn::Macroblock => kind == SLICE_KIND || kind == MACROBLOCK_KIND,
         Turn::Complete => false,
     }
 }
@@ -46,14 +36,10 @@ pub fn in_turn(turn: Turn, kind: u8) -> bool
 pub fn turn_after(kind: u8, complete: bool) -> Turn
     ensures { result ≡ turn_after kind complete }
 {
-    if kind == SLICE_KIND {
-        return Turn::Slice;
+    match kind {
+        SLICE_KIND => Turn::Slice,
+        MACROBLOCK_KIND if complete => Turn::Complete,
+        MACROBLOCK_KIND => Turn::Macroblock,
+        _ => Turn::Header,
     }
-    if kind != MACROBLOCK_KIND {
-        return Turn::Header;
-    }
-    if complete {
-        return Turn::Complete;
-    }
-    Turn::Macroblock
 }

@@ -1,7 +1,7 @@
 // Fields written into a lent buffer at an offset. Bytes past the end of the buffer are dropped; the offset goes on.
-ghost use Rattle.std.specs.Prelude.{◌≡◌, [], ◌∷◌, ◌+◌, ◌^◌, leb};
+ghost use Rattle.std.specs.Prelude.{◌≡◌, [], ◌∷◌, ◌+◌, leb};
 ghost use Rattle.format3_writer.specs.Written.{written, saturating_add};
-ghost use Rattle.format3_writer.specs.Bytes.{complement, big_endian_bytes, signed_big_endian_bytes};
+ghost use Rattle.format3_writer.specs.Bytes.{big_endian_bytes, signed_big_endian_bytes};
 
 // An offset past the end of every buffer: no buffer is that long.
 const MAX_OFFSET: usize = 1 << 63;
@@ -10,20 +10,15 @@ const MAX_OFFSET: usize = 1 << 63;
 pub(crate) fn has_room(length: usize, at: usize, bytes: usize) -> bool
     ensures { result ≡ leb (at + bytes) length }
 {
-    if length < bytes {
-        return false;
-    }
-    at <= length - bytes
+    bytes <= length && at <= length - bytes
 }
 
 // The offset this many bytes on, at most `MAX_OFFSET`, so that offsets never overflow.
+#[tactic(auto, unfolding(crate::specs::Written::saturating_add))]
 pub fn saturating_add(at: usize, bytes: usize) -> usize
     ensures { result ≡ saturating_add at bytes }
 {
-    if has_room(MAX_OFFSET, at, bytes) {
-        return at + bytes;
-    }
-    MAX_OFFSET
+    at.saturating_add(bytes).min(MAX_OFFSET)
 }
 
 // Writes one byte.
@@ -37,21 +32,15 @@ pub fn write_u8(buffer: &mut [u8], at: usize, byte: u8)
 }
 
 // Writes several bytes in order.
+#[tactic(auto, using(crate::proofs::Laws::Written::written_past))]
 pub fn write_bytes(buffer: &mut [u8], at: usize, bytes: &[u8])
     ensures { buffer.new ≡ written at bytes.now buffer.old }
 {
     if buffer.len() <= at {
         return;
     }
-    let room = buffer.len() - at;
-    let mut k: usize = 0;
-    while k < bytes.len() {
-        if room <= k {
-            return;
-        }
-        buffer[at + k] = bytes[k];
-        k += 1;
-    }
+    let fitting = bytes.len().min(buffer.len() - at);
+    buffer[at..at + fitting].copy_from_slice(&bytes[..fitting]);
 }
 
 // Writes an unsigned 16-bit number, big-endian.
@@ -59,37 +48,19 @@ pub fn write_bytes(buffer: &mut [u8], at: usize, bytes: &[u8])
 fn write_u16(buffer: &mut [u8], at: usize, value: u16)
     ensures { buffer.new ≡ written at (big_endian_bytes value) buffer.old }
 {
-    let high = (value / 256 % 256) as u8;
-    let low = (value % 256) as u8;
+    let [high, low] = value.to_be_bytes();
     if has_room(buffer.len(), at, 2) {
         buffer[at] = high;
         buffer[at + 1] = low;
         return;
     }
-    let bytes = [high, low];
-    write_bytes(buffer, at, &bytes);
-}
-
-// A signed 16-bit number in two's complement.
-pub(crate) fn complement_two_bytes(value: i16) -> u16
-    ensures { result ≡ complement (2 ^ 15) value }
-{
-    let raised = value as i32 + 65536;
-    let wrapped = raised as u32 % 65536;
-    wrapped as u16
-}
-
-// A signed byte in two's complement: the low byte of the 16-bit form.
-pub(crate) fn complement_byte(value: i8) -> u8
-    ensures { result ≡ complement (2 ^ 7) value }
-{
-    let word = complement_two_bytes(value as i16);
-    (word % 256) as u8
+    write_bytes(buffer, at, &[high, low]);
 }
 
 // Writes a signed 16-bit number, big-endian.
+#[tactic(auto, using(crate::proofs::Laws::Bytes::word_cast))]
 pub fn write_i16(buffer: &mut [u8], at: usize, value: i16)
     ensures { buffer.new ≡ written at (signed_big_endian_bytes value) buffer.old }
 {
-    write_u16(buffer, at, complement_two_bytes(value));
+    write_u16(buffer, at, value.cast_unsigned());
 }

@@ -16,10 +16,8 @@ const SLICE_SIZE: u8 = 4;
 pub fn write_record_head(buffer: &mut [u8], at: usize, size: u16, kind: u8)
     ensures { buffer.new ≡ written at (record_head size kind) buffer.old }
 {
-    let high = (size / 256 % 256) as u8;
-    let low = (size % 256) as u8;
-    let bytes = [high, low, kind];
-    fields::write_bytes(buffer, at, &bytes);
+    let [high, low] = size.to_be_bytes();
+    fields::write_bytes(buffer, at, &[high, low, kind]);
 }
 
 // Writes a slice's whole record.
@@ -27,8 +25,7 @@ pub fn write_record_head(buffer: &mut [u8], at: usize, size: u16, kind: u8)
 pub fn write_slice_record(buffer: &mut [u8], at: usize, scale: u8, start: u16)
     ensures { buffer.new ≡ written at (slice_record scale start) buffer.old }
 {
-    let high = (start / 256 % 256) as u8;
-    let low = (start % 256) as u8;
+    let [high, low] = start.to_be_bytes();
     let bytes = [0, SLICE_SIZE, record::SLICE_KIND, scale, high, low];
     fields::write_bytes(buffer, at, &bytes);
 }
@@ -45,41 +42,34 @@ pub fn write_macroblock_head(
     ensures value { result ≡ length (head_bytes macroblock_type increment scale) }
     ensures buffer_after { buffer.new ≡ written at (head_bytes macroblock_type increment scale) buffer.old }
 {
-    let high = (increment / 256 % 256) as u8;
-    let low = (increment % 256) as u8;
+    let [high, low] = increment.to_be_bytes();
     if macroblock_type::has_part(macroblock_type, SCALE_GIVEN) {
-        let bytes = [macroblock_type, high, low, scale];
-        fields::write_bytes(buffer, at, &bytes);
+        fields::write_bytes(buffer, at, &[macroblock_type, high, low, scale]);
         return 4;
     }
-    let bytes = [macroblock_type, high, low];
-    fields::write_bytes(buffer, at, &bytes);
+    fields::write_bytes(buffer, at, &[macroblock_type, high, low]);
     3
 }
 
 // Writes a motion code and its residual, for one component of a vector.
-#[tactic(auto, unfolding(crate::specs::Records::vector_code_bytes))]
+#[tactic(auto, using(crate::proofs::Laws::Bytes::byte_cast), unfolding(crate::specs::Records::vector_code_bytes))]
 pub fn write_vector_code(buffer: &mut [u8], at: usize, code: i8, residual: u8)
     ensures { buffer.new ≡ written at (vector_code_bytes code residual) buffer.old }
 {
-    let bytes = [fields::complement_byte(code), residual];
-    fields::write_bytes(buffer, at, &bytes);
+    fields::write_bytes(buffer, at, &[code.cast_unsigned(), residual]);
 }
 
 // Writes a run and a level.
-#[tactic(auto, unfolding(crate::specs::Records::pair_bytes, crate::specs::Bytes::big_endian_bytes))]
+#[tactic(auto, using(crate::proofs::Laws::Bytes::word_cast, crate::proofs::Laws::Written::written_three), unfolding(crate::specs::Records::pair_bytes, crate::specs::Bytes::big_endian_bytes))]
 pub fn write_pair(buffer: &mut [u8], at: usize, run: u8, level: i16)
     ensures { buffer.new ≡ written at (pair_bytes run level) buffer.old }
 {
-    let value = fields::complement_two_bytes(level);
-    let high = (value / 256 % 256) as u8;
-    let low = (value % 256) as u8;
+    let [high, low] = level.to_be_bytes();
     if fields::has_room(buffer.len(), at, 3) {
         buffer[at] = run;
         buffer[at + 1] = high;
         buffer[at + 2] = low;
         return;
     }
-    let bytes = [run, high, low];
-    fields::write_bytes(buffer, at, &bytes);
+    fields::write_bytes(buffer, at, &[run, high, low]);
 }

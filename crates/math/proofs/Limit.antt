@@ -1,17 +1,21 @@
 -- Laws of limiting (clamping), of ranges and of signs. Assumes nothing.
 use Prim.Native.Nat.{ℕ, zero, suc, zero-le, suc-le-suc}
-use mathlib.Core.Bool.{Bool, true, false, cond}
+use mathlib.Core.Bool.{Bool, true, false, not, cond, ◌&&◌}
 use mathlib.Core.List.{List, [], ◌∷◌}
-use mathlib.Core.Path.{◌≡◌, refl, sym, ◌∙◌, subst}
+use mathlib.Core.Path.{◌≡◌, refl, sym, ap, ◌∙◌, subst}
 use native.Mathlib.Omega.{arith}
 use borrow.Author.Tests.{lt-ltb, le-ltb}
 use lib.Dec.{T}
 use lib.IntN.{ℤ, pos, negsuc, neg_ℤ, ◌-ℤ◌, ◌*ℤ◌, +ℤ_idl, zero-*ℤ}
 use lib.ListN.{set}
 use lib.Signed.{lt_z, ◌≤ℤ◌, ≤ℤ_refl}
+use Rattle.std.proofs.Common.{Less, Equal, Greater}
+use Rattle.std.specs.Ordering.{is_le, int_cmp}
+use Rattle.std.specs.Int.{int_min, int_max, int_signum}
 use Rattle.math.proofs.Bound.{abs-parts, abs-le, within-literal, within-cond}
 use Rattle.math.proofs.Compare.{tests}
 use Rattle.math.proofs.Difference.{le_of, of_le}
+use Rattle.math.proofs.Test.{refuted}
 use Rattle.math.proofs.Solve.{solve-by, constant, ◌:*◌, ◌:-◌, X0}
 use Rattle.math.specs.Bound.{Within, AllWithin, Between, AllBetween, at}
 use Rattle.math.specs.Limit.{limited, in_range, sign_of}
@@ -84,3 +88,35 @@ set-between {low} {high} {l} {z} i r b = record { all = go l i r.all }
     go (x ∷ l) zero r (suc k) = r (suc k)
     go (x ∷ l) (suc i) r zero = r zero
     go (x ∷ l) (suc i) r (suc k) = go l i (λ j. r (suc j)) k
+
+-- the library's `clamp` is limiting
+pub clamp-limited : (low high z : ℤ) → low ≤ℤ high → int_max low (int_min z high) ≡ limited low high z
+clamp-limited low high z o = go (lt_z high z) refl
+  where
+    go : (t : Bool) → lt_z high z ≡ t → cond (lt_z (cond t high z) low) low (cond t high z) ≡ cond (lt_z z low) low (cond t high z)
+    go true e = rw (refuted {b = lt_z high low} (λ p. omega (arith, tests, of_le o)), refuted {b = lt_z z low} (λ p. omega (arith, tests, of_le o)))
+    go false e = refl
+
+-- and its `signum` is the sign
+pub signum-is : (z : ℤ) → int_signum z ≡ sign_of z
+signum-is (pos zero) = refl
+signum-is (pos (suc n)) = rw (le-ltb (suc n) 0 zero-le, lt-ltb 0 (suc n) (suc-le-suc zero-le)) (ap pos (omega arith))
+signum-is (negsuc n) = refl
+
+-- the library's `contains` of a range low..=high is the range's test
+pub contains-is : (low high z : ℤ) → is_le (int_cmp low z) && is_le (int_cmp z high) ≡ in_range low high z
+contains-is low high z = rw (is_le-compared low z, is_le-compared z high) (both (lt_z z low) (lt_z high z))
+  where
+    compared : (x y : ℤ) (s : Bool) → lt_z x y ≡ s → (t : Bool) → lt_z y x ≡ t → is_le (cond s Less (cond t Greater Equal)) ≡ not t
+    compared x y true p true q = absurd (omega (arith, tests))
+    compared x y true p false q = refl
+    compared x y false p true q = refl
+    compared x y false p false q = refl
+
+    is_le-compared : (x y : ℤ) → is_le (int_cmp x y) ≡ not (lt_z y x)
+    is_le-compared x y = compared x y _ refl _ refl
+
+    both : (s t : Bool) → not s && not t ≡ cond s false (cond t false true)
+    both true t = refl
+    both false true = refl
+    both false false = refl

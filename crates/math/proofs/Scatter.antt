@@ -1,12 +1,15 @@
 -- Laws of `scatter`: one more store, indices that no store writes, and the value a store leaves. Assumes nothing.
-use mathlib.Core.Path.{◌≡◌, refl, ap, ◌∙◌}
-use mathlib.Core.List.{List}
-use Prim.Native.Nat.{ℕ, zero, suc, ◌+◌, ◌<◌}
-use native.Mathlib.Decide.{ℕ_discrete}
+use mathlib.Core.Path.{◌≡◌, refl, sym, ap, ◌∙◌}
+use mathlib.Core.List.{List, ◌++◌}
+use Prim.Native.Nat.{ℕ, zero, suc, ◌+◌, ◌-◌, ◌≤◌, ◌<◌}
+use native.Mathlib.Decide.{ℕ_discrete, dec_lt}
 use native.Mathlib.Numerals.{add-one}
 use native.Mathlib.Omega.{arith}
-use lib.ListN.{length, get_or, set, length-set}
-use lib.Seq.{get_or-set_same, get_or-set_other}
+use lib.ListN.{length, get_or, set, take, drop, length-set}
+use lib.Seq.{ext_get_or, get_or-set_same, get_or-set_other}
+use borrow.Rule.Slice.PartMut.{put_mid, post_of}
+use Rattle.std.proofs.lemmas.List.{length-take-le, length-take, get_or-append_right, get_or-take, get_or-drop}
+use Rattle.std.proofs.Math.ListN.{length-append, length-drop, get_or-append}
 use Rattle.math.specs.Scatter.{scatter}
 
 module _ {A : Type 0} (index : ℕ → ℕ) (value : ℕ → A) where
@@ -55,3 +58,31 @@ pub scatter-ext : {A : Type 0} (index : ℕ → ℕ) (f g : ℕ → A) (n : ℕ)
 unfolding scatter
 scatter-ext index f g zero l h = refl
 scatter-ext index f g (suc n) l h = λ i. set (scatter-ext index f g n l (λ k b. h k (omega arith)) i) (index n) (h n (omega arith) i)
+
+-- the elements of a list written over a part of another are stored one by one
+pub part-stored : {A : Type 0} (d : A) (a k : ℕ) (xs ys : List A) → length ys ≡ k → a + k ≤ length xs → put_mid a k xs ys ≡ scatter (λ j. a + j) (λ j. get_or ys j d) k xs
+part-stored {A} d a k xs ys long fit = ext_get_or d (put_mid a k xs ys) (scatter (λ j. a + j) value k xs) (same-length ∙ sym (scatter-length (λ j. a + j) value k xs)) (λ i h. element i (dec_lt i a) (dec_lt i (a + k)))
+  where
+    value : ℕ → A
+    value j = get_or ys j d
+
+    front : length (take a xs) ≡ a
+    front = length-take-le a xs (omega arith)
+
+    same-length : length (put_mid a k xs ys) ≡ length xs
+    same-length = simp (length-append, length-take, length-drop) (omega arith)
+
+    element : (i : ℕ) → Dec (i < a) → Dec (i < a + k) → get_or (put_mid a k xs ys) i d ≡ get_or (scatter (λ j. a + j) value k xs) i d
+    element i (yes before) within =
+        get_or-append (take a xs) (ys ++ post_of a k xs) d i (omega (arith, front)) ∙ get_or-take a xs i d before
+        ∙ sym (scatter-other (λ j. a + j) value k xs i d (λ j b e. omega arith))
+    element i (no past) (yes within) =
+        let index : a + (i - a) ≡ i = omega arith in
+        get_or-append_right (take a xs) (ys ++ post_of a k xs) a i d front (omega arith) ∙ get_or-append ys (post_of a k xs) d (i - a) (omega (arith, long))
+        ∙ sym (rw index at (scatter-at (λ j. a + j) value k xs (i - a) d (omega arith) (omega arith) (λ j b c e. omega arith)))
+    element i (no past) (no beyond) =
+        let index : a + (k + (i - a - k)) ≡ i = omega arith in
+        get_or-append_right (take a xs) (ys ++ post_of a k xs) a i d front (omega arith)
+        ∙ get_or-append_right ys (post_of a k xs) k (i - a) d long (omega arith)
+        ∙ get_or-drop k (drop a xs) (i - a - k) d ∙ get_or-drop a xs (k + (i - a - k)) d ∙ ap (λ (j : ℕ). get_or xs j d) index
+        ∙ sym (scatter-other (λ j. a + j) value k xs i d (λ j b e. omega arith))

@@ -64,3 +64,10 @@ module _ {A : Type 0} where
   pub filled-all : {n : ℕ} {f : ℕ → A} {d : A} {k : ℕ} {l : List A} → Filled n f d k l → n ≤ k → l ≡ tab n f
   filled-all {n} {f} {d} {k} {l} p h = ext_get_or d l (tab n f) (p.long ∙ sym (tab-length n f))
       (λ j b. p.stored j (omega (arith, p.long)) ∙ sym (tab-at n f j d (omega (arith, p.long))))
+
+  -- one more element stored: what holds of each element stored so far holds of it too
+  pub stored_more : (P : ℕ → A → Type 0) (d : A) {v : A} (l : List A) {n : ℕ} → n < length l → ((k : ℕ) → k < n → P k (get_or l k d)) → P n v → (k : ℕ) → k < n + 1 → P k (get_or (set l n v) k d)
+  stored_more P d {v} l {n} fit before here k b = elim (ℕ_discrete k n) [
+    | yes e ↦ subst (λ (j : ℕ). P j (get_or (set l n v) j d)) (sym e) (subst (P n) (sym (get_or-set_same l n v d fit)) here)
+    | no ne ↦ subst (P k) (sym (get_or-set_other l n k v d ne)) (before k (omega arith))
+  ]

@@ -1,10 +1,11 @@
 -- The sum of a list's first elements, as a loop adds them up, and bounds on a sum. Assumes nothing.
-use mathlib.Core.Path.{◌≡◌, refl, ap, ◌∙◌}
+use mathlib.Core.Path.{◌≡◌, refl, sym, ap, ◌∙◌}
 use mathlib.Core.List.{List, [], ◌∷◌, ◌++◌}
 use Prim.Native.Nat.{ℕ, zero, suc, ◌+◌, ◌*◌, ◌<◌, ◌≤◌}
 use native.Mathlib.Numerals.{add-one}
 use native.Mathlib.Omega.{arith}
 use lib.ListN.{length, get_or, take}
+use Rattle.std.specs.Prelude.{fold, sum}
 use Rattle.math.specs.Tab.{tab}
 use Rattle.math.proofs.Tab.{tab-more}
 use Rattle.math.specs.Total.{total}
@@ -39,3 +40,12 @@ total-tab-more n f = ap total (tab-more n f) ∙ total-append (tab n f) (f n ∷
 pub total-tab-most : (n b : ℕ) (f : ℕ → ℕ) → ((k : ℕ) → k < n → f k ≤ b) → total (tab n f) ≤ b * n
 total-tab-most zero b f h = omega (arith, total-tab-none f)
 total-tab-most (suc n) b f h = rw (← add-one) (omega (arith, total-tab-more n f, total-tab-most n b f (λ k low. h k (omega arith)), h n (omega arith)))
+
+-- the library's sum, which adds from the front, is the total
+sum-on : (l : List ℕ) (a : ℕ) → fold (λ (sum x : ℕ). sum + x) a l ≡ a + total l
+unfolding total
+sum-on [] a = omega arith
+sum-on (first ∷ rest) a = sum-on rest (a + first) ∙ omega arith
+
+pub total-is-sum : (l : List ℕ) → total l ≡ sum l
+total-is-sum l = sym (sum-on l 0 ∙ omega arith)

@@ -6,6 +6,7 @@ use native.Mathlib.Nat.{mul-suc, add_comm, mod-lt, mod-eq_of_lt, div-one, zero-d
 use native.Mathlib.Omega.{arith}
 use lib.ListN.{length, drop, get_or, length-append, get_or-append}
 use lib.Seq.{drop-append-add, drop-drop, drop-nil, drop_at, take_at, get_or-drop}
+use Rattle.std.specs.Int.{w32, from_be_bytes}
 use Rattle.mpeg1_bits.specs.Bits.{bits_of, bits, leading_number}
 use Rattle.mpeg1_bits.proofs.Number.{Binary, none, binary-append, bits-binary, bits-length, number-nil, number-take, number-split, number-bits, bit-of}
 
@@ -43,6 +44,10 @@ number-byte m (x ∷ l) h =
 -- four bytes from an index on as one number, with zeros past the end
 abbrev pub four : List ℕ → ℕ → ℕ
 four l i = 16777216 * get_or l i 0 + 65536 * get_or l (i + 1) 0 + 256 * get_or l (i + 2) 0 + get_or l (i + 3) 0
+
+-- as four bytes, most significant first
+pub from-bytes : (a b c d : ℕ) → from_be_bytes w32 (a ∷ b ∷ c ∷ d ∷ []) ≡ 16777216 * a + 65536 * b + 256 * c + d
+from-bytes a b c d = omega arith
 
 module _ (l : List ℕ) (small : (i : ℕ) → get_or l i 0 < 256) where
   from_byte : (m i j : ℕ) → i + 1 ≡ j → leading_number (8 + m) (bits (drop i l)) ≡ get_or l i 0 * 2 ^ m + leading_number m (bits (drop j l))

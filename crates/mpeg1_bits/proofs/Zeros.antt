@@ -2,7 +2,7 @@
 use mathlib.Core.Path.{◌≡◌, refl, ap, ap₂, ◌∙◌, sym}
 use mathlib.Core.Bool.{Bool, true, false, ◌&&◌}
 use mathlib.Core.List.{List, [], ◌∷◌, ◌++◌}
-use Prim.Native.Nat.{ℕ, zero, suc, ◌+◌, ◌*◌, ◌-◌, ◌%◌, ◌^◌, ◌<◌, ◌≤◌}
+use Prim.Native.Nat.{ℕ, zero, suc, ◌+◌, ◌*◌, ◌-◌, ◌%◌, ◌^◌, ◌<◌, ◌≤◌, zero-le}
 use native.Mathlib.Nat.{div-one, mod-eq_of_lt}
 use native.Mathlib.Numerals.{add-one}
 use native.Mathlib.Omega.{arith}
@@ -11,6 +11,8 @@ use lib.ListN.{length, take, drop, get_or, length-drop, drop_of_length-le}
 use lib.Pow.{pow_pos}
 use lib.Seq.{drop-cons, drop-append-le, drop-drop, take-append_seam}
 use borrow.Author.Tests.{eqb-true, eq-eqb, ne_eqb}
+use Rattle.std.specs.Bool.{MatchBool}
+use Rattle.std.specs.List.{AllWithin, HoldsAt}
 use Rattle.mpeg1_bits.specs.declared.BitPosition.{BitPosition}
 use Rattle.mpeg1_bits.specs.Bits.{bits, bits_of, leading_number, all_zeros, bits_from, bit_offset}
 use Rattle.mpeg1_bits.proofs.Number.{number-bits, number-split, bits-length}
@@ -66,20 +68,31 @@ no_bits = refl
 byte-zeros : (x : ℕ) → x < 256 → all_zeros (bits_of 8 x) ≡ eqb x 0
 byte-zeros x h = same_bool (all_zeros (bits_of 8 x)) (eqb x 0) (λ e. eq-eqb x 0 (sym (number-bits 8 0 x ∙ ap (λ (n : ℕ). n % 256) (div-one x) ∙ mod-eq_of_lt h) ∙ zeros-number 8 (bits_of 8 x) e)) (λ e. rw (eqb-true x 0 e) no_bits)
 
--- checking one byte, then the rest
-zero-byte : (l : List ℕ) (i : ℕ) → i < length l → get_or l i 0 < 256 → all_zeros (bits (drop i l)) ≡ eqb (get_or l i 0) 0 && all_zeros (bits (drop (i + 1) l))
-unfolding bits
-zero-byte l i h s = rw (drop-cons l i 0 h) (zeros-append (bits_of 8 (get_or l i 0)) (bits (drop (suc i) l)) ∙ ap₂ ◌&&◌ (byte-zeros (get_or l i 0) s) (ap (λ (n : ℕ). all_zeros (bits (drop n l))) (sym (add-one i))))
-
-pub zero_more : (l : List ℕ) (i : ℕ) → i < length l → get_or l i 0 < 256 → get_or l i 0 ≡ 0 → all_zeros (bits (drop i l)) ≡ all_zeros (bits (drop (i + 1) l))
-zero_more l i h s e = zero-byte l i h s ∙ rw (eq-eqb (get_or l i 0) 0 e)
-
-pub zero-none : (l : List ℕ) (i : ℕ) → i < length l → get_or l i 0 < 256 → (get_or l i 0 ≡ 0 → ⊥) → all_zeros (bits (drop i l)) ≡ false
-zero-none l i h s e = zero-byte l i h s ∙ rw (ne_eqb (get_or l i 0) 0 e)
-
-pub zero-end : (l : List ℕ) (i : ℕ) → length l ≤ i → all_zeros (bits (drop i l)) ≡ true
+-- all bytes are zero exactly if their bits are
+zero_each : (l : List ℕ) → ((k : ℕ) → k < length l → get_or l k 0 ≡ 0) → all_zeros (bits l) ≡ true
 unfolding bits all_zeros
-zero-end l i h = rw (drop_of_length-le l h)
+zero_each [] h = refl
+zero_each (x ∷ l) h =
+    zeros-append (bits_of 8 x) (bits l)
+    ∙ rw (h 0 (omega arith), no_bits) (zero_each l (λ k p. h (suc k) (omega (arith, p))))
+
+zero-none : (l : List ℕ) (k : ℕ) → k < length l → ((i : ℕ) → get_or l i 0 < 256) → (get_or l k 0 ≡ 0 → ⊥) → all_zeros (bits l) ≡ false
+unfolding bits
+zero-none [] k h small e = absurd (omega arith)
+zero-none (x ∷ l) zero h small e = zeros-append (bits_of 8 x) (bits l) ∙ rw (byte-zeros x (small 0), ne_eqb x 0 e) refl
+zero-none (x ∷ l) (suc k) h small e =
+    zeros-append (bits_of 8 x) (bits l)
+    ∙ ap (λ (t : Bool). all_zeros (bits_of 8 x) && t) (zero-none l k (omega (arith, h)) (λ i. small (suc i)) e)
+    ∙ and-false (all_zeros (bits_of 8 x))
+  where
+    and-false : (p : Bool) → p && false ≡ false
+    and-false true = refl
+    and-false false = refl
+
+-- `decided` says whether they are
+pub zeros-decided : (l : List ℕ) (decided : Bool) → ((i : ℕ) → get_or l i 0 < 256) → MatchBool decided (AllWithin (λ x. x ≡ 0) l 0 (length l)) ((k : ℕ) × (k < length l) × HoldsAt (λ x. x ≡ 0 → ⊥) l k) → decided ≡ all_zeros (bits l)
+zeros-decided l true small h = sym (zero_each l (λ k p. h k 0 zero-le p))
+zeros-decided l false small h = sym (zero-none l h.0 h.1 small (h.2 0))
 
 -- ---- the same for the bits from a position on
 pub not_zeros : (l : List ℕ) (p : BitPosition) → (leading_number 32 (bits_from l p) ≡ 0 → ⊥) → all_zeros (bits_from l p) ≡ false

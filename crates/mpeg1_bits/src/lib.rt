@@ -21,23 +21,11 @@ pub struct Window {
     pub count: usize,
 }
 
-// The byte at index `byte + i`, or 0 past the end.
-fn byte_or_zero(bytes: &[u8], byte: usize, i: usize) -> u8
-    requires { byte ≤ length bytes.now }
-    ensures { result ≡ get_or bytes.now (byte + i) 0 }
+// The byte at an index, or 0 past the end.
+fn byte_or_zero(bytes: &[u8], index: usize) -> u8
+    ensures { result ≡ get_or bytes.now index 0 }
 {
-    let left = bytes.len() - byte;
-    if i < left {
-        return bytes[byte + i];
-    }
-    0
-}
-
-// Four bytes as one number, big-endian.
-fn join(a: u8, b: u8, c: u8, d: u8) -> u32
-    ensures { result ≡ 2 ^ 24 * a + 2 ^ 16 * b + 2 ^ 8 * c + d }
-{
-    16777216 * (a as u32) + 65536 * (b as u32) + 256 * (c as u32) + d as u32
+    bytes.get(index).copied().unwrap_or(0)
 }
 
 // The 32 bits from bit `bit` on, of the 40 bits in `high` and `low`.
@@ -45,7 +33,7 @@ fn shifted(high: u32, low: u8, bit: usize) -> u32
     requires { bit < 8 }
     ensures { result ≡ (256 * high + low) / 2 ^ (8 - bit) % 2 ^ 32 }
 {
-    let forty = 256 * (high as u64) + low as u64;
+    let forty = 256 * u64::from(high) + u64::from(low);
     let down = 8 - bit;
     let bits = (forty >> down) % 4294967296;
     bits as u32
@@ -58,11 +46,11 @@ fn last_bits(bytes: &[u8], at: BitPosition) -> Window
 {
     let byte = at.byte;
     let left = bytes.len() - byte;
-    let first = byte_or_zero(bytes, byte, 0);
-    let second = byte_or_zero(bytes, byte, 1);
-    let third = byte_or_zero(bytes, byte, 2);
-    let fourth = byte_or_zero(bytes, byte, 3);
-    let high = join(first, second, third, fourth);
+    let first = byte_or_zero(bytes, byte);
+    let second = byte_or_zero(bytes, byte + 1);
+    let third = byte_or_zero(bytes, byte + 2);
+    let fourth = byte_or_zero(bytes, byte + 3);
+    let high = u32::from_be_bytes([first, second, third, fourth]);
     Window {
         bits: shifted(high, 0, at.bit),
         count: 8 * left - at.bit,
@@ -77,12 +65,12 @@ pub fn peek(bytes: &[u8], at: BitPosition) -> Window
     let byte = at.byte;
     let left = bytes.len() - byte;
     if 4 < left {
-        let high = join(
+        let high = u32::from_be_bytes([
             bytes[byte],
             bytes[byte + 1],
             bytes[byte + 2],
             bytes[byte + 3],
-        );
+        ]);
         return Window {
             bits: shifted(high, bytes[byte + 4], at.bit),
             count: 32,
@@ -103,19 +91,11 @@ pub fn skip(at: BitPosition, n: usize) -> BitPosition
     }
 }
 
-// Whether all bytes from an index on are zero.
-fn zero_bytes(bytes: &[u8], from: usize) -> bool
-    requires { from ≤ length bytes.now }
-    ensures { result ≡ all_zeros (bits (drop from bytes.now)) }
+// Whether all bytes are zero.
+fn zero_bytes(bytes: &[u8]) -> bool
+    ensures { result ≡ all_zeros (bits bytes.now) }
 {
-    let mut i = from;
-    while i < bytes.len() {
-        if bytes[i] != 0 {
-            return false;
-        }
-        i += 1;
-    }
-    true
+    bytes.iter().all(|byte| *byte == 0)
 }
 
 // Whether all bits left, if any, are zeros. If the next 32 are, so is the rest of the current byte, and only whole bytes remain to be tested.
@@ -131,5 +111,5 @@ pub fn only_zeros_left(bytes: &[u8], at: BitPosition) -> bool
     if bytes.len() <= byte {
         return true;
     }
-    zero_bytes(bytes, byte + 1)
+    zero_bytes(&bytes[byte + 1..])
 }

@@ -1,5 +1,4 @@
 pub mod Writing
-pub mod Answers
 pub mod Lengths
 pub mod Pairs
 pub mod Few

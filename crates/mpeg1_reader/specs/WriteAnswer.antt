@@ -1,20 +1,20 @@
 -- What a function returns, and leaves in the buffer, when it reads a part of a slice and writes the part's bytes.
-use Rattle.std.specs.Prelude.{List, ◌++◌, ◌≡◌, ℕ, ◌+◌, ◌*◌, length}
-use Rattle.symbols.specs.Parsed.{parsed, refused, All}
+use Rattle.std.specs.Prelude.{List, ◌++◌, ◌≡◌, ℕ, ◌+◌, ◌*◌, length, Result}
+use Rattle.symbols.specs.Parsed.{All}
 use Rattle.symbols.specs.declared.vector_codes.VectorCode.{VectorCode}
 use Rattle.symbols.specs.declared.vector_codes.Vectors.{Vectors}
 use Rattle.format3_writer.specs.Written.{written, max_offset}
 use Rattle.format3_writer.specs.Records.{vector_code_bytes, vectors_bytes, pattern_and_blocks_bytes}
-use Rattle.mpeg1_slice.specs.Read.{Read, stop}
+use Rattle.mpeg1_slice.specs.declared.refused.RefusedAt.{RefusedAt}
+use Rattle.mpeg1_slice.specs.Read.{Read}
+use Rattle.mpeg1_slice.specs.Answers.{answer_with}
 use Rattle.mpeg1_slice.specs.Macroblock.{HeadFields, PatternAndBlocks, VectorsAndBlocks}
-use Rattle.mpeg1_reader.specs.declared.write_answer.WriteAnswer.{WriteAnswer}
-use Rattle.mpeg1_reader.specs.declared.write_answer.WriteAnswer.TheVariants.{Done, Refused}
-use Rattle.mpeg1_reader.specs.declared.head.MacroblockHeadAnswer.{MacroblockHeadAnswer}
+use Rattle.mpeg1_reader.specs.declared.write_answer.Written.{Written}
+use Rattle.mpeg1_reader.specs.declared.head.MacroblockHead.{MacroblockHead}
 
 -- the position after the part and how many bytes it takes, or the refusal and where it happened
-abbrev pub write_answer : {A : Type 0} → (A → List ℕ) → Read A → WriteAnswer
-write_answer bytes (parsed a p) = Done p (length (bytes a))
-write_answer bytes (refused (stop refusal p)) = Refused refusal p
+abbrev pub write_answer : {A : Type 0} → (A → List ℕ) → Read A → Result Written RefusedAt
+write_answer bytes = answer_with λ a p. record { at = p; size = length (bytes a) }
 
 -- if the part is read, its bytes are in the buffer from `offset` on. If it is refused, this says nothing about the buffer
 abbrev pub WrittenAt : {A : Type 0} → (A → List ℕ) → ℕ → List ℕ → List ℕ → Read A → Type 0
@@ -62,6 +62,5 @@ pattern_and_blocks_field_bytes type pattern_and_blocks = pattern_and_blocks_byte
 abbrev pub vectors_and_blocks_bytes : ℕ → VectorsAndBlocks → List ℕ
 vectors_and_blocks_bytes type rest = vectors_field_bytes type rest.vectors ++ pattern_and_blocks_field_bytes type rest.pattern_and_blocks
 
-abbrev pub macroblock_head_answer : Read HeadFields → MacroblockHeadAnswer
-macroblock_head_answer (parsed head p) = MacroblockHeadAnswer.Read head.macroblock_type head.scale p
-macroblock_head_answer (refused (stop refusal p)) = MacroblockHeadAnswer.Refused refusal p
+abbrev pub macroblock_head_answer : Read HeadFields → Result MacroblockHead RefusedAt
+macroblock_head_answer = answer_with λ head p. record { macroblock_type = head.macroblock_type; scale = head.scale; at = p }

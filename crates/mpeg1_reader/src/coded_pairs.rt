@@ -2,27 +2,26 @@
 ghost use Rattle.std.specs.Prelude.{◌≡◌, ◌≤◌};
 ghost use Rattle.format3_writer.specs.Records.{levels_bytes};
 ghost use Rattle.mpeg1_bits.specs.Requires.{InBytes};
-ghost use Rattle.mpeg1_tables.specs.Table.{code_table};
 ghost use Rattle.mpeg1_slice.specs.Blocks.{pairs_at};
 ghost use Rattle.mpeg1_reader.specs.WriteAnswer.{write_answer, WrittenAt, max_pairs_offset};
 
-use crate::write_answer::WriteAnswer;
+use crate::write_answer::Written;
 use format3_writer::{fields, records};
 use mpeg1_bits::BitPosition;
 use mpeg1_slice::coefficient;
-use mpeg1_slice::coefficient::NextPair;
-use mpeg1_tables::table::TABLE_LENGTH;
+use mpeg1_slice::refused::RefusedAt;
+use mpeg1_tables::table::CodeTable;
 use symbols::pair;
 
 pub(crate) fn write_pairs(
-    codes: &[u16; TABLE_LENGTH],
+    table: &CodeTable,
     bytes: &[u8],
     from: BitPosition,
     intra: bool,
     buffer: &mut [u8],
     offset: usize,
-) -> WriteAnswer
-    requires { (codes.now ≡ code_table) × InBytes bytes.now from × (offset ≤ max_pairs_offset) }
+) -> Result<Written, RefusedAt>
+    requires { InBytes bytes.now from × (offset ≤ max_pairs_offset) }
     ensures value { result ≡ write_answer levels_bytes (pairs_at intra bytes.now from) }
     ensures written_at { WrittenAt levels_bytes offset buffer.old buffer.new (pairs_at intra bytes.now from) }
 {
@@ -32,23 +31,19 @@ pub(crate) fn write_pairs(
     let mut count: u8 = 0;
     let mut end = offset + 1;
     loop {
-        match coefficient::read_next_pair(codes, bytes, at, first, next) {
-            NextPair::Refused(refusal, refused) => {
-                return WriteAnswer::Refused(refusal, refused);
-            }
-            NextPair::End(after) => {
-                fields::write_u8(buffer, offset, count);
-                let size = end - offset;
-                return WriteAnswer::Done(after, size);
-            }
-            NextPair::Pair(run, level, after) => {
-                records::write_pair(buffer, end, run, level);
-                at = after;
-                first = false;
-                next = next + run as usize + 1;
-                count += 1;
-                end += 3;
-            }
-        }
+        let (found, after) = coefficient::read_next_pair(table, bytes, at, first, next)?;
+        let Some(pair) = found else {
+            fields::write_u8(buffer, offset, count);
+            return Ok(Written {
+                at: after,
+                size: end - offset,
+            });
+        };
+        records::write_pair(buffer, end, pair.run, pair.level);
+        at = after;
+        first = false;
+        next = next + usize::from(pair.run) + 1;
+        count += 1;
+        end += 3;
     }
 }

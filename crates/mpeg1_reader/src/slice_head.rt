@@ -4,31 +4,27 @@ ghost use Rattle.mpeg1_slice.specs.Slice.{slice_head_at, first_bit};
 ghost use Rattle.mpeg1_reader.specs.RecordOffsets.{slice_head_answer};
 
 use mpeg1_bits::BitPosition;
-use mpeg1_slice::element::SyntaxElement;
-use mpeg1_slice::extra::ExtraAnswer;
+use mpeg1_slice::refused::RefusedAt;
 use mpeg1_slice::{element, extra};
-use refusals::Refusal;
 
+// The row and the scale of a slice, and the position after its head.
 #[derive(Clone, Copy)]
-pub enum SliceHeadAnswer {
-    Read(u8, u8, BitPosition),
-    Refused(Refusal, BitPosition),
+pub struct SliceHead {
+    pub row: u8,
+    pub scale: u8,
+    pub at: BitPosition,
 }
 
 #[tactic(auto, unfolding(mpeg1_slice::specs::Slice::slice_head_at))]
-pub(crate) fn read_slice_head(bytes: &[u8], height: u8) -> SliceHeadAnswer
+pub(crate) fn read_slice_head(bytes: &[u8], height: u8) -> Result<SliceHead, RefusedAt>
     ensures { result ≡ slice_head_answer (slice_head_at height bytes.now first_bit) }
 {
-    match element::next_start(bytes, height) {
-        SyntaxElement::Refused(refusal, refused) => SliceHeadAnswer::Refused(refusal, refused),
-        SyntaxElement::Value(row, next) => match element::next_field(bytes, next, 5) {
-            SyntaxElement::Refused(refusal, refused) => SliceHeadAnswer::Refused(refusal, refused),
-            SyntaxElement::Value(scale, after) => match extra::skip_extra(bytes, after) {
-                ExtraAnswer::Refused(refusal, refused) => SliceHeadAnswer::Refused(
-                    refusal, refused,
-                ),
-                ExtraAnswer::To(end) => SliceHeadAnswer::Read(row as u8, scale as u8, end),
-            },
-        },
-    }
+    let (row, after_start) = element::next_start(bytes, height)?;
+    let (scale, after_scale) = element::next_field(bytes, after_start, 5)?;
+    let at = extra::skip_extra(bytes, after_scale)?;
+    Ok(SliceHead {
+        row: row as u8,
+        scale: scale as u8,
+        at,
+    })
 }

@@ -1,14 +1,14 @@
 // Reads an address increment: skips stuffing and adds up escapes.
 ghost use Rattle.std.specs.Prelude.{◌≡◌};
 ghost use Rattle.mpeg1_bits.specs.Requires.{InBytes};
-ghost use Rattle.mpeg1_tables.specs.Table.{code_table};
 ghost use Rattle.mpeg1_slice.specs.Increment.{escape_increment, first_code_at, amount_of, after_escape, increment_at};
-ghost use Rattle.mpeg1_slice.specs.Answers.{element_answer};
+ghost use Rattle.mpeg1_slice.specs.Answers.{answer};
 
 use crate::element;
-use crate::element::SyntaxElement;
+use crate::refused::RefusedAt;
 use mpeg1_bits::BitPosition;
-use mpeg1_tables::table::TABLE_LENGTH;
+use mpeg1_tables::table::CodeTable;
+use mpeg1_tables::word_list::WordList;
 use refusals::Refusal;
 use symbols::size::PictureSize;
 
@@ -23,23 +23,21 @@ const ESCAPE_INCREMENT: u16 = 33;
 const MAX_INCREMENT: u16 = PictureSize::MAX_MACROBLOCKS as u16;
 
 // The first code that isn't stuffing.
-fn after_stuffing(codes: &[u16; TABLE_LENGTH], bytes: &[u8], from: BitPosition) -> SyntaxElement
-    requires { (codes.now ≡ code_table) × InBytes bytes.now from }
-    ensures { result ≡ element_answer (first_code_at bytes.now from) }
+fn after_stuffing(
+    table: &CodeTable,
+    bytes: &[u8],
+    from: BitPosition,
+) -> Result<(u16, BitPosition), RefusedAt>
+    requires { InBytes bytes.now from }
+    ensures { result ≡ answer (first_code_at bytes.now from) }
 {
     let mut at = from;
     loop {
-        match element::next_increment(codes, bytes, at) {
-            SyntaxElement::Refused(refusal, position) => {
-                return SyntaxElement::Refused(refusal, position);
-            }
-            SyntaxElement::Value(value, next) => {
-                if value != STUFFING {
-                    return SyntaxElement::Value(value, next);
-                }
-                at = next;
-            }
+        let (value, next) = element::next_word(table, WordList::Increments, bytes, at)?;
+        if value != STUFFING {
+            return Ok((value, next));
         }
+        at = next;
     }
 }
 
@@ -54,48 +52,45 @@ fn amount(value: u16) -> u16
 }
 
 // The increment, once a first escape has been read.
-fn after_escape(codes: &[u16; TABLE_LENGTH], bytes: &[u8], from: BitPosition) -> SyntaxElement
-    requires { (codes.now ≡ code_table) × InBytes bytes.now from }
-    ensures { result ≡ element_answer (after_escape 12 escape_increment bytes.now from) }
+fn after_escape(
+    table: &CodeTable,
+    bytes: &[u8],
+    from: BitPosition,
+) -> Result<(u16, BitPosition), RefusedAt>
+    requires { InBytes bytes.now from }
+    ensures { result ≡ answer (after_escape 12 escape_increment bytes.now from) }
 {
     let mut at = from;
-    let mut sum: u16 = ESCAPE_INCREMENT;
+    let mut sum = ESCAPE_INCREMENT;
     loop {
-        match element::next_after_escape(codes, bytes, at) {
-            SyntaxElement::Refused(refusal, position) => {
-                return SyntaxElement::Refused(refusal, position);
-            }
-            SyntaxElement::Value(value, next) => {
-                let more = amount(value);
-                if MAX_INCREMENT - sum < more {
-                    return SyntaxElement::Refused(Refusal::SliceCode, at);
-                }
-                sum += more;
-                if value != INCREMENT_ESCAPE {
-                    return SyntaxElement::Value(sum, next);
-                }
-                at = next;
-            }
+        let (value, next) = element::next_word(table, WordList::IncrementsAfterEscape, bytes, at)?;
+        let more = amount(value);
+        if MAX_INCREMENT - sum < more {
+            return Err(RefusedAt {
+                refusal: Refusal::SliceCode,
+                at,
+            });
         }
+        sum += more;
+        if value != INCREMENT_ESCAPE {
+            return Ok((sum, next));
+        }
+        at = next;
     }
 }
 
 #[tactic(auto, unfolding(crate::specs::Increment::increment_at))]
 pub fn read_address_increment(
-    codes: &[u16; TABLE_LENGTH],
+    table: &CodeTable,
     bytes: &[u8],
     at: BitPosition,
-) -> SyntaxElement
-    requires { (codes.now ≡ code_table) × InBytes bytes.now at }
-    ensures { result ≡ element_answer (increment_at bytes.now at) }
+) -> Result<(u16, BitPosition), RefusedAt>
+    requires { InBytes bytes.now at }
+    ensures { result ≡ answer (increment_at bytes.now at) }
 {
-    match after_stuffing(codes, bytes, at) {
-        SyntaxElement::Refused(refusal, position) => SyntaxElement::Refused(refusal, position),
-        SyntaxElement::Value(value, next) => {
-            if value == INCREMENT_ESCAPE {
-                return after_escape(codes, bytes, next);
-            }
-            SyntaxElement::Value(value, next)
-        }
+    let (value, next) = after_stuffing(table, bytes, at)?;
+    if value == INCREMENT_ESCAPE {
+        return after_escape(table, bytes, next);
     }
+    Ok((value, next))
 }

@@ -6,4 +6,5 @@ pub mod difference;
 pub mod element;
 pub mod extra;
 pub mod increment;
+pub mod refused;
 pub mod vectors;

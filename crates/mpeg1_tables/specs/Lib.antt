@@ -1,4 +1,5 @@
 pub mod Code
 pub mod AnnexB
 pub mod Table
+pub mod WordList
 pub mod Rule

@@ -1,8 +1,9 @@
 -- Checks the word lists for slips in transcription: no word is a prefix of another, and the gaps listed below are gaps.
 -- A gap is a word that begins no code, although all of it but its last bit does.
-use Rattle.std.specs.Prelude.{Bool, true, false, not, ◌&&◌, List, [], ◌∷◌, ℕ, ◌-◌, ◌/◌}
+use Rattle.std.specs.Prelude.{Bool, true, false, not, ◌&&◌, List, [], ◌∷◌, ℕ, ◌-◌, ◌/◌, Result, Ok, Err}
 use Rattle.mpeg1_tables.specs.declared.code.Code.{Code}
-use Rattle.mpeg1_tables.specs.declared.code.Code.TheVariants.{Value, NoCode, Truncated}
+use Rattle.mpeg1_tables.specs.declared.code.CodeError.{CodeError}
+use Rattle.mpeg1_tables.specs.declared.code.CodeError.TheVariants.{NoCode, Truncated}
 use Rattle.mpeg1_tables.specs.Code.{Word, digits_of, is_prefix, code_of}
 use Rattle.mpeg1_tables.specs.AnnexB.{increments, increments_after_escape, intra_types, predicted_types, bidirectional_types, patterns, motion_codes, luminance_sizes, chrominance_sizes, first_coefficients, next_coefficients, large_positive, large_negative}
 
@@ -16,15 +17,15 @@ unfoldable pub prefix_free : List Word → Bool
 prefix_free [] = true
 prefix_free (w ∷ words) = apart_from w.bits words && prefix_free words
 
-abbrev pub is_no_code : Code → Bool
-is_no_code (Value v n) = false
-is_no_code NoCode = true
-is_no_code Truncated = false
+abbrev pub is_no_code : Result Code CodeError → Bool
+is_no_code (Ok code) = false
+is_no_code (Err NoCode) = true
+is_no_code (Err Truncated) = false
 
-abbrev pub is_truncated : Code → Bool
-is_truncated (Value v n) = false
-is_truncated NoCode = false
-is_truncated Truncated = true
+abbrev pub is_truncated : Result Code CodeError → Bool
+is_truncated (Ok code) = false
+is_truncated (Err NoCode) = false
+is_truncated (Err Truncated) = true
 
 -- a gap, by its length and its digits
 pub record LeftOut : Type 0 where

@@ -1,11 +1,12 @@
 -- The code table: for each word list, the code that each run of eight bits gives, possibly after some zeros.
-use Rattle.std.specs.Prelude.{List, [], ◌∷◌, cond, ℕ, ◌+◌, ◌*◌, ◌/◌, ◌%◌, eqb, get_or}
+use Rattle.std.specs.Prelude.{List, [], ◌∷◌, cond, ℕ, ◌+◌, ◌*◌, ◌/◌, ◌%◌, eqb, get_or, Result, Ok, Err}
 use Rattle.math.specs.Joined.{joined}
 use Rattle.math.specs.Tab.{tab}
 use Rattle.mpeg1_bits.specs.Bits.{bits_of}
 use Rattle.mpeg1_tables.specs.declared.code.Code.{Code}
-use Rattle.mpeg1_tables.specs.declared.code.Code.TheVariants.{Value, NoCode, Truncated}
-use Rattle.mpeg1_tables.specs.Code.{Word, code_of}
+use Rattle.mpeg1_tables.specs.declared.code.CodeError.{CodeError}
+use Rattle.mpeg1_tables.specs.declared.code.CodeError.TheVariants.{NoCode, Truncated}
+use Rattle.mpeg1_tables.specs.Code.{Word, found, code_of}
 use Rattle.mpeg1_tables.specs.AnnexB.{increments, increments_after_escape, intra_types, predicted_types, bidirectional_types, patterns, motion_codes, luminance_sizes, chrominance_sizes, next_coefficients}
 
 -- a row of the table: its words, and how many zeros the bits start with
@@ -40,13 +41,13 @@ abbrev pub table_row_at : ℕ → TableRow
 table_row_at r = get_or table_rows r (table_row 0 [])
 
 -- a code as one number: 32 × value + length; 0 for no code, 31 for truncated
-unfoldable pub packed : Code → ℕ
-packed (Value v n) = 32 * v + n
-packed NoCode = 0
-packed Truncated = 31
+unfoldable pub packed : Result Code CodeError → ℕ
+packed (Ok code) = 32 * code.value + code.length
+packed (Err NoCode) = 0
+packed (Err Truncated) = 31
 
-unfoldable pub unpacked_of : ℕ → Code
-unpacked_of e = cond (eqb (e % 32) 0) NoCode (cond (eqb (e % 32) 31) Truncated (Value (e / 32) (e % 32)))
+unfoldable pub unpacked_of : ℕ → Result Code CodeError
+unpacked_of e = cond (eqb (e % 32) 0) (Err NoCode) (cond (eqb (e % 32) 31) (Err Truncated) (found (e / 32) (e % 32)))
 
 -- a row's entry for the n-bit number v after its zeros
 unfoldable pub entry_of : TableRow → ℕ → ℕ → ℕ

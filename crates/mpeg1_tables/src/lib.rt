@@ -4,3 +4,4 @@
 pub mod code;
 mod entries;
 pub mod table;
+pub mod word_list;

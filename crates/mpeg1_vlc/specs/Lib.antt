@@ -3,3 +3,4 @@ pub mod LookUp
 pub mod SliceStart
 pub mod Difference
 pub mod Coefficient
+pub mod Large

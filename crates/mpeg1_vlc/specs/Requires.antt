@@ -1,5 +1,5 @@
 -- What the code of this crate relies on; no rule of document 01.
-use Rattle.std.specs.Prelude.{◌≡◌, List, [], ◌∷◌, ℕ, zero, suc, ◌-◌, ◌/◌, ◌^◌, ◌<◌, ◌≤◌}
+use Rattle.std.specs.Prelude.{◌≡◌, ℕ, zero, suc, ◌-◌, ◌/◌, ◌^◌, ◌<◌, ◌≤◌}
 use Rattle.mpeg1_bits.specs.declared.Window.{Window}
 use Rattle.mpeg1_tables.specs.Table.{table_row_at}
 use Rattle.mpeg1_tables.specs.AnnexB.{coefficient_escape}
@@ -17,10 +17,6 @@ pub record LookUpFits (r zeros : ℕ) (next : Window) : Type 0 where
   pub enough : fewest_bits zeros ≤ next.count
   pub most : next.count ≤ 32
   pub low : next.bits / 2 ^ (24 - zeros) < 256
-
--- the lowest of the 128 numbers that a large level's second eight bits can be: for a negative level, for a positive one
-abbrev pub lowest_large : List ℕ
-lowest_large = 1 ∷ 128 ∷ []
 
 -- the bounds on a coefficient's word that was looked up
 pub record WordIn (value n : ℕ) (next : Window) : Type 0 where

@@ -8,11 +8,11 @@ pub const MAX_REEL_BYTES: usize = 16384;
 // The size of a length field.
 const LENGTH_BYTES: usize = 4;
 
-// What is at an offset of a reel: where a file lies in it, or a cut.
+// Where a file lies in a reel.
 #[derive(Clone, Copy)]
-pub enum Part {
-    File { start: usize, length: usize },
-    Cut,
+pub struct Part {
+    pub start: usize,
+    pub length: usize,
 }
 
 // Whether a reel of this length is too long.
@@ -27,28 +27,24 @@ fn file_length_at(reel: &[u8], at: usize) -> usize
     requires { at + 4 ≤ length reel.now }
     ensures { result ≡ file_length_at reel.now at }
 {
-    let first = reel[at] as usize;
-    let second = reel[at + 1] as usize;
-    let third = reel[at + 2] as usize;
-    let fourth = reel[at + 3] as usize;
-    ((first * 256 + second) * 256 + third) * 256 + fourth
+    u32::from_be_bytes([reel[at], reel[at + 1], reel[at + 2], reel[at + 3]]) as usize
 }
 
-// The file whose length field is at an offset, or `Cut` if the reel ends within either.
+// The file whose length field is at an offset, if the reel doesn't end within either.
 #[tactic(auto, unfolding(crate::specs::Part::part_at))]
-pub fn part_at(reel: &[u8], at: usize) -> Part
+pub fn part_at(reel: &[u8], at: usize) -> Option<Part>
     ensures { result ≡ part_at reel.now at }
 {
     if reel.len() < LENGTH_BYTES {
-        return Part::Cut;
+        return None;
     }
     if reel.len() - LENGTH_BYTES < at {
-        return Part::Cut;
+        return None;
     }
     let start = at + LENGTH_BYTES;
     let length = file_length_at(reel, at);
     if reel.len() - start < length {
-        return Part::Cut;
+        return None;
     }
-    Part::File { start, length }
+    Some(Part { start, length })
 }

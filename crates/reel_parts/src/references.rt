@@ -3,7 +3,7 @@ ghost use Rattle.std.specs.Prelude.{◌≡◌, length, take};
 ghost use Rattle.format3_writer.specs.Written.{written};
 ghost use Rattle.reel_parts.specs.References.{forward_for, backward_for};
 
-use format3_header::file_start::FileStart;
+use format3_header::file_start::{FileStart, RefusedAt};
 use symbols::header::{B_PICTURE, P_PICTURE};
 
 // The lengths of the kept references (the frame store), each at the start of its own buffer; 0 if there is none.
@@ -24,10 +24,15 @@ pub fn first(bytes: &[u8], n: usize) -> &[u8]
 }
 
 // The forward reference for a file that starts like this; empty for an I picture.
-pub fn forward_for<'a>(start: FileStart, kept: Kept, older: &'a [u8], newer: &'a [u8]) -> &'a [u8]
+pub fn forward_for<'a>(
+    start: Result<FileStart, RefusedAt>,
+    kept: Kept,
+    older: &'a [u8],
+    newer: &'a [u8],
+) -> &'a [u8]
     ensures { result.now ≡ forward_for start (take kept.older older.now) (take kept.newer newer.now) }
 {
-    let FileStart::HeaderRead(header, _) = start else {
+    let Ok(FileStart { header, .. }) = start else {
         return &older[0..0];
     };
     let coding_type = header.coding_type;
@@ -41,10 +46,10 @@ pub fn forward_for<'a>(start: FileStart, kept: Kept, older: &'a [u8], newer: &'a
 }
 
 // The backward reference for a file that starts like this; empty unless it is a B picture.
-pub fn backward_for(start: FileStart, kept: Kept, newer: &[u8]) -> &[u8]
+pub fn backward_for(start: Result<FileStart, RefusedAt>, kept: Kept, newer: &[u8]) -> &[u8]
     ensures { result.now ≡ backward_for start (take kept.newer newer.now) }
 {
-    let FileStart::HeaderRead(header, _) = start else {
+    let Ok(FileStart { header, .. }) = start else {
         return &newer[0..0];
     };
     if header.coding_type == B_PICTURE {

@@ -8,10 +8,12 @@ use lib.Dec.{eqb}
 use lib.ListN.{length, take, drop, replicate, length-append, length-take, length-drop, length-replicate}
 use lib.Seq.{take-append_seam}
 use borrow.Author.Tests.{eqb-true}
-use Rattle.refusals.specs.Refusal.{accepted}
+use Rattle.refusals.specs.Refusal.{accepted, number_in}
 use Rattle.symbols.specs.Header.{type_b}
 use Rattle.format3_header.specs.FileStart.{first_header}
+use Rattle.std.specs.Prelude.{Option, Some, None, Result, Ok, Err}
 use Rattle.format3_header.specs.declared.file_start.FileStart.{FileStart}
+use Rattle.format3_header.specs.declared.file_start.RefusedAt.{RefusedAt}
 use Rattle.format3_writer.specs.Written.{written}
 use Rattle.format3_writer.proofs.Laws.Written.{written-length, written_back}
 use Rattle.format3_picture.specs.Picture.{Picture, answer_of}
@@ -24,10 +26,10 @@ use Rattle.reel_parts.proofs.PartLaws.{inside, no-parts, one-file, one-cut}
 use Rattle.reel_player.specs.Items.{Item, picture, cut, Carried, lent_bytes, picture_into, picture_from, bytes_of, carried_from, carried_after, items_from}
 use Rattle.reel_player.specs.Requires.{KeptWithin}
 use Rattle.reel_player.specs.Next.{AfterNext, held_in, kept_of, played_as, output_after, next_of}
-use Rattle.reel_player.specs.declared.play.Next.{Next}
+use Rattle.reel_player.specs.declared.play.NextPicture.{NextPicture}
 use Rattle.reel_player.specs.declared.play.Played.{Played}
 use Rattle.reel_player.specs.declared.play.ReelPosition.{ReelPosition}
-use Rattle.reel_player.proofs.PlayLaws.{lent-within, lent-part, made_alike}
+use Rattle.reel_player.proofs.PlayLaws.{lent-within, lent-part, made_alike, numbered}
 
 -- ---- references written to the start of both buffers can be read back from there
 module _ (carried : Carried) (older newer : List ℕ) (fits : KeptWithin (kept_of carried) older newer) where
@@ -47,7 +49,7 @@ pub record Buffers (older newer output : List ℕ) : Type 0 where
   pub output-long : length output ≡ 15360
 
 module _ (file : List ℕ) (kept : Kept) (older newer output : List ℕ) (long : Buffers older newer output) where
-  abbrev start : FileStart
+  abbrev start : Result FileStart RefusedAt
   start = first_header file
 
   abbrev made : Picture
@@ -69,11 +71,11 @@ module _ (file : List ℕ) (kept : Kept) (older newer output : List ℕ) (long :
       same : KeptWithin (kept_of (held_in kept older newer)) older newer
       same = record { older-fits = older-short; newer-fits = newer-short }
 
-      from : (x : FileStart) → KeptWithin (kept_of (carried_from x made.output (held_in kept older newer))) older newer
-      from (FileStart.Refused refusal place) = same
-      from (FileStart.HeaderRead h end) = type (eqb h.coding_type type_b) refl
+      from : (x : Result FileStart RefusedAt) → KeptWithin (kept_of (carried_from x made.output (held_in kept older newer))) older newer
+      from (Err refused) = same
+      from (Ok read) = type (eqb read.header.coding_type type_b) refl
         where
-          type : (b : Bool) → eqb h.coding_type type_b ≡ b → KeptWithin (kept_of (carried_from (FileStart.HeaderRead h end) made.output (held_in kept older newer))) older newer
+          type : (b : Bool) → eqb read.header.coding_type type_b ≡ b → KeptWithin (kept_of (carried_from (Ok read) made.output (held_in kept older newer))) older newer
           type true e = rw e same
           type false e = rw e (record { older-fits = omega (arith, newer-short, long.older-long, long.newer-long); newer-fits = omega (arith, made-fits, long.newer-long) })
 
@@ -91,7 +93,7 @@ module _ (file : List ℕ) (kept : Kept) (older newer output : List ℕ) (long :
 
       go : (b : Bool) → eqb made.number accepted ≡ b → take (length (bytes_of made)) (output_after file kept older newer output) ≡ bytes_of made
       go true e =
-          let number = ap (λ (a : Answer). a.number) alike.answer ∙ eqb-true made.number accepted e in
+          let number = numbered start file (held_in kept older newer) _ ∙ (ap (λ (a : Answer). number_in a.verdict) alike.answer ∙ (sym (numbered start file (held_in kept older newer) _) ∙ eqb-true made.number accepted e)) in
           rw (e, alike.bytes number) (take-append_seam made.output (drop (lent_bytes start) output))
       go false e = rw e
 
@@ -124,35 +126,34 @@ module _ (n : ℕ) (reel : List ℕ) (position : ReelPosition) (older newer outp
     pub within : KeptWithin next.kept after.older after.newer
     pub buffers : Buffers after.older after.newer after.output
 
-  pub next-cut : after.next ≡ Next.Cut → items_left (suc n) reel position older newer ≡ cut position.at ∷ []
+  pub next-cut : after.next ≡ None → items_left (suc n) reel position older newer ≡ cut position.at ∷ []
   unfolding next_of items_from
   next-cut e = go (part_at reel position.at) refl
     where
-      go : (p : Part) → part_at reel position.at ≡ p → items_left (suc n) reel position older newer ≡ cut position.at ∷ []
-      go Part.Cut f = rw (one-cut n reel position.at h f)
-      go (Part.File start size) f = let is = rw f at e in let z : ◌≡◌ {A = ℕ} 0 1 = cc in absurd (omega arith)
+      go : (p : Option Part) → part_at reel position.at ≡ p → items_left (suc n) reel position older newer ≡ cut position.at ∷ []
+      go None f = rw (one-cut n reel position.at h f)
+      go (Some part) f = let is = rw f at e in let z : ◌≡◌ {A = ℕ} 0 1 = cc in absurd (omega arith)
 
-  pub next-picture : {played : Played} {size : ℕ} {next : ReelPosition} → after.next ≡ Next.Picture played size next → PictureNext played size next
+  pub next-picture : {next : NextPicture} → after.next ≡ Some next → PictureNext next.played next.length next.position
   unfolding next_of played_as items_from
-  next-picture {played} {size} {next} e = go (part_at reel position.at) refl
+  next-picture {next} e = go (part_at reel position.at) refl
     where
-      go : (p : Part) → part_at reel position.at ≡ p → PictureNext played size next
-      go Part.Cut f = let is = rw f at e in let z : ◌≡◌ {A = ℕ} 0 1 = cc in absurd (omega arith)
-      go (Part.File start m) f =
-          let file = take m (drop start reel) in
+      go : (p : Option Part) → part_at reel position.at ≡ p → PictureNext next.played next.length next.position
+      go None f = let is = rw f at e in let z : ◌≡◌ {A = ℕ} 0 1 = cc in absurd (omega arith)
+      go (Some part) f =
+          let file = take part.length (drop part.start reel) in
           let made = picture_from file (held_in position.kept older newer) in
           let carried = carried_after (first_header file) made (held_in position.kept older newer) in
           let found = rw f at e in
           let one : Played = record { number = position.pictures + 1; start = first_header file; answer = answer_of made } in
-          let a : one ≡ played = cc in
-          let b : ◌≡◌ {A = ℕ} (length (bytes_of made)) size = cc in
-          let c : ◌≡◌ {A = ReelPosition} (record { at = start + m; pictures = position.pictures + 1; kept = kept_of carried }) next = cc in
+          let on : ReelPosition = record { at = part.start + part.length; pictures = position.pictures + 1; kept = kept_of carried } in
+          let is : ◌≡◌ {A = NextPicture} (record { played = one; length = length (bytes_of made); position = on }) next = cc in
           let bytes = bytes-lie file position.kept older newer output long in
           let fits = carried-fits file position.kept older newer output long in
           let held = carried-held carried older newer fits in
-          let within = (inside reel position.at).fits start m f in
-          rw (← a, ← b, ← c) (record {
-            items = rw (one-file n reel position.at h f, f) (λ i. picture one (sym bytes i) ∷ items_from (position.pictures + 1 + 1) (sym held i) (parts_from n reel (start + m)));
+          let within = (inside reel position.at).fits part f in
+          rw (← is) (record {
+            items = rw (one-file n reel position.at h f, f) (λ i. picture one (sym bytes i) ∷ items_from (position.pictures + 1 + 1) (sym held i) (parts_from n reel (part.start + part.length)));
             moved = omega (arith, within.0);
             inside = within.1;
             counted = refl;

@@ -1,11 +1,12 @@
 -- The items of a reel: its pictures in order, and where it is cut (document 01, "The program `panel` reads a reel").
-use Rattle.std.specs.Prelude.{cond, List, [], ◌∷◌, ℕ, ◌+◌, ◌*◌, eqb, leb, replicate}
+use Rattle.std.specs.Prelude.{cond, List, [], ◌∷◌, ℕ, ◌+◌, ◌*◌, eqb, leb, replicate, Result, Ok, Err}
 use Rattle.refusals.specs.Refusal.{accepted}
 use Rattle.symbols.specs.Header.{type_b}
 use Rattle.symbols.specs.Size.{macroblock_count, picture_bytes}
 use Rattle.decode_idct.specs.Transform.{inverse_transform}
 use Rattle.format3_header.specs.FileStart.{first_header}
 use Rattle.format3_header.specs.declared.file_start.FileStart.{FileStart}
+use Rattle.format3_header.specs.declared.file_start.RefusedAt.{RefusedAt}
 use Rattle.format3_picture.specs.Picture.{Picture, answer_of, picture_of}
 use Rattle.reel_parts.specs.Part.{ReelPart, parts_of}
 use Rattle.reel_parts.specs.Part as Part
@@ -23,7 +24,7 @@ pub record Carried : Type 0 where
   pub newer : List ℕ
 
 -- the picture that a file gives, with these references, when it is written into this output
-unfoldable pub picture_into : FileStart → List ℕ → Carried → List ℕ → Picture
+unfoldable pub picture_into : Result FileStart RefusedAt → List ℕ → Carried → List ℕ → Picture
 picture_into start file carried output =
     picture_of inverse_transform file (forward_for start carried.older carried.newer) (backward_for start carried.newer) output
 
@@ -35,9 +36,9 @@ max_lent_macroblocks = 40
 abbrev pub max_lent_bytes : ℕ
 max_lent_bytes = 384 * max_lent_macroblocks
 
-abbrev pub lent_bytes : FileStart → ℕ
-lent_bytes (FileStart.HeaderRead h end) = cond (leb (macroblock_count h.size) max_lent_macroblocks) (picture_bytes h.size) 0
-lent_bytes (FileStart.Refused refusal place) = 0
+abbrev pub lent_bytes : Result FileStart RefusedAt → ℕ
+lent_bytes (Ok start) = cond (leb (macroblock_count start.header.size) max_lent_macroblocks) (picture_bytes start.header.size) 0
+lent_bytes (Err refused) = 0
 
 -- the picture that a file gives. Neither its answer nor its accepted bytes depend on what the output held (`picture-alone`), so zeros will do
 abbrev pub picture_from : List ℕ → Carried → Picture
@@ -48,12 +49,12 @@ abbrev pub bytes_of : Picture → List ℕ
 bytes_of made = cond (eqb made.number accepted) made.output []
 
 -- "the last accepted I or P": the references after an accepted picture
-abbrev pub carried_from : FileStart → List ℕ → Carried → Carried
-carried_from (FileStart.HeaderRead h end) latest carried = cond (eqb h.coding_type type_b) carried (record { older = carried.newer; newer = latest })
-carried_from (FileStart.Refused refusal place) latest carried = carried
+abbrev pub carried_from : Result FileStart RefusedAt → List ℕ → Carried → Carried
+carried_from (Ok start) latest carried = cond (eqb start.header.coding_type type_b) carried (record { older = carried.newer; newer = latest })
+carried_from (Err refused) latest carried = carried
 
 -- the references after any picture: a refused one leaves them as they are
-abbrev pub carried_after : FileStart → Picture → Carried → Carried
+abbrev pub carried_after : Result FileStart RefusedAt → Picture → Carried → Carried
 carried_after start made carried = cond (eqb made.number accepted) (carried_from start made.output carried) carried
 
 -- the items of these parts of a reel, counting pictures from this number

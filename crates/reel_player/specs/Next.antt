@@ -1,14 +1,15 @@
 -- What `play_next` returns and leaves in its buffers, in terms of `Items`.
-use Rattle.std.specs.Prelude.{List, ◌++◌, ℕ, ◌+◌, length, take, drop}
+use Rattle.std.specs.Prelude.{List, ◌++◌, ℕ, ◌+◌, length, take, drop, Option, Some, None, Result}
 use Rattle.format3_header.specs.FileStart.{first_header}
 use Rattle.format3_header.specs.declared.file_start.FileStart.{FileStart}
+use Rattle.format3_header.specs.declared.file_start.RefusedAt.{RefusedAt}
 use Rattle.format3_writer.specs.Written.{written}
 use Rattle.format3_picture.specs.Picture.{Picture, answer_of}
 use Rattle.reel_parts.specs.Part.{part_at}
 use Rattle.reel_parts.specs.declared.part.Part.{Part}
 use Rattle.reel_parts.specs.declared.references.Kept.{Kept}
 use Rattle.reel_player.specs.Items.{Carried, lent_bytes, picture_into, picture_from, bytes_of, carried_after}
-use Rattle.reel_player.specs.declared.play.Next.{Next}
+use Rattle.reel_player.specs.declared.play.NextPicture.{NextPicture}
 use Rattle.reel_player.specs.declared.play.PlayedFile.{PlayedFile}
 use Rattle.reel_player.specs.declared.play.ReelPosition.{ReelPosition}
 
@@ -30,7 +31,7 @@ pub record AfterPicture : Type 0 where
   pub older : List ℕ
   pub newer : List ℕ
 
-unfoldable pub played_as : ℕ → FileStart → Picture → Kept → List ℕ → List ℕ → AfterPicture
+unfoldable pub played_as : ℕ → Result FileStart RefusedAt → Picture → Kept → List ℕ → List ℕ → AfterPicture
 played_as number start made kept older newer =
     let after = carried_after start made (held_in kept older newer) in
     record {
@@ -44,7 +45,7 @@ played_as number start made kept older newer =
     }
 
 -- a picture written into a lent output, and a picture found in a reel
-abbrev pub played_into : ℕ → FileStart → List ℕ → Kept → List ℕ → List ℕ → List ℕ → AfterPicture
+abbrev pub played_into : ℕ → Result FileStart RefusedAt → List ℕ → Kept → List ℕ → List ℕ → List ℕ → AfterPicture
 played_into number start file kept older newer output = played_as number start (picture_into start file (held_in kept older newer) output) kept older newer
 
 abbrev pub played_file : ℕ → List ℕ → Kept → List ℕ → List ℕ → AfterPicture
@@ -58,7 +59,7 @@ output_after file kept older newer output =
 
 -- what `play_next` returns, and the three buffers afterwards
 pub record AfterNext : Type 0 where
-  pub next : Next
+  pub next : Option NextPicture
   pub older : List ℕ
   pub newer : List ℕ
   pub output : List ℕ
@@ -66,14 +67,18 @@ pub record AfterNext : Type 0 where
 unfoldable pub next_of : List ℕ → ReelPosition → List ℕ → List ℕ → List ℕ → AfterNext
 next_of reel position older newer output = go (part_at reel position.at)
   where
-    go : Part → AfterNext
-    go Part.Cut = record { next = Next.Cut; older = older; newer = newer; output = output }
-    go (Part.File start n) =
+    go : Option Part → AfterNext
+    go None = record { next = None; older = older; newer = newer; output = output }
+    go (Some part) =
         let number = position.pictures + 1 in
-        let file = take n (drop start reel) in
+        let file = take part.length (drop part.start reel) in
         let after = played_file number file position.kept older newer in
         record {
-          next = Next.Picture after.shows.played after.shows.length (record { at = start + n; pictures = number; kept = after.shows.kept });
+          next = Some (record {
+            played = after.shows.played;
+            length = after.shows.length;
+            position = record { at = part.start + part.length; pictures = number; kept = after.shows.kept };
+          });
           older = after.older;
           newer = after.newer;
           output = output_after file position.kept older newer output;

@@ -7,10 +7,9 @@ ghost use Rattle.reel_player.specs.Requires.{StartWithin, KeptWithin};
 ghost use Rattle.reel_player.specs.Next.{reel_start, held_in, kept_of, played_into, played_file, output_after, next_of};
 
 use format3_header::file_start;
-use format3_header::file_start::FileStart;
+use format3_header::file_start::{FileStart, RefusedAt};
 use format3_picture::reader;
 use format3_picture::reader::Answer;
-use reel_parts::part::Part;
 use reel_parts::references::Kept;
 use reel_parts::{part, references};
 use symbols::header::B_PICTURE;
@@ -28,7 +27,7 @@ pub struct Played {
     // Counted from 1.
     pub number: usize,
     // Its header, or why the file has no legal one.
-    pub start: FileStart,
+    pub start: Result<FileStart, RefusedAt>,
     pub answer: Answer,
 }
 
@@ -48,17 +47,12 @@ pub struct ReelPosition {
     pub kept: Kept,
 }
 
-// What comes next in a reel.
+// The next picture of a reel, how many bytes it has at the output's start (0 if refused), and where to read on.
 #[derive(Clone, Copy)]
-pub enum Next {
-    // A picture, how many bytes it has at the output's start (0 if refused), and where to read on.
-    Picture {
-        played: Played,
-        length: usize,
-        position: ReelPosition,
-    },
-    // The reel ends within a length field or a file.
-    Cut,
+pub struct NextPicture {
+    pub played: Played,
+    pub length: usize,
+    pub position: ReelPosition,
 }
 
 // The reel's start, with no references.
@@ -73,11 +67,11 @@ pub fn reel_start() -> ReelPosition
 }
 
 // How many bytes of output to lend: the picture's size, or 0 if it is too large or has no legal header.
-fn lent_bytes(start: FileStart) -> usize
+fn lent_bytes(start: Result<FileStart, RefusedAt>) -> usize
     requires { StartWithin start }
     ensures { result ≡ lent_bytes start }
 {
-    let FileStart::HeaderRead(header, _) = start else {
+    let Ok(FileStart { header, .. }) = start else {
         return 0;
     };
     let size = header.size;
@@ -90,7 +84,7 @@ fn lent_bytes(start: FileStart) -> usize
 // Reconstructs a file's picture, using the kept references that its type calls for.
 #[tactic(auto, unfolding(crate::specs::Items::picture_into))]
 fn make<'a>(
-    start: FileStart,
+    start: Result<FileStart, RefusedAt>,
     file: &[u8],
     kept: Kept,
     older: &'a [u8],
@@ -112,13 +106,19 @@ fn make<'a>(
 }
 
 // Keeps an accepted picture as a reference, if its type is I or P.
-fn carry(start: FileStart, picture: &[u8], kept: Kept, older: &mut [u8], newer: &mut [u8]) -> Kept
+fn carry(
+    start: Result<FileStart, RefusedAt>,
+    picture: &[u8],
+    kept: Kept,
+    older: &mut [u8],
+    newer: &mut [u8],
+) -> Kept
     requires { KeptWithin kept older.old newer.old }
     ensures value { result ≡ kept_of (carried_from start picture.now (held_in kept older.old newer.old)) }
     ensures older_after { older.new ≡ written 0 (carried_from start picture.now (held_in kept older.old newer.old)).older older.old }
     ensures newer_after { newer.new ≡ written 0 (carried_from start picture.now (held_in kept older.old newer.old)).newer newer.old }
 {
-    let FileStart::HeaderRead(header, _) = start else {
+    let Ok(FileStart { header, .. }) = start else {
         return kept;
     };
     if header.coding_type == B_PICTURE {
@@ -131,7 +131,7 @@ fn carry(start: FileStart, picture: &[u8], kept: Kept, older: &mut [u8], newer: 
 #[tactic(auto, unfolding(crate::specs::Next::played_as))]
 fn play_into(
     number: usize,
-    start: FileStart,
+    start: Result<FileStart, RefusedAt>,
     file: &[u8],
     kept: Kept,
     older: &mut [u8],
@@ -150,7 +150,7 @@ fn play_into(
         start,
         answer,
     };
-    if answer.number != refusals::ACCEPTED {
+    if answer.verdict.is_err() {
         return PlayedFile {
             played,
             length: 0,
@@ -187,7 +187,7 @@ fn play_file(
     play_into(number, start, file, kept, older, newer, &mut output[..lent])
 }
 
-// Plays the reel's next picture, or returns `Cut` if the reel is cut there. The first two buffers hold the references;
+// Plays the reel's next picture; `None` if the reel ends within its length field or its file. The first two buffers hold the references;
 // the picture goes into the third.
 #[tactic(auto, unfolding(crate::specs::Next::next_of))]
 pub fn play_next(
@@ -196,7 +196,7 @@ pub fn play_next(
     older: &mut [u8; PICTURE_BYTES],
     newer: &mut [u8; PICTURE_BYTES],
     output: &mut [u8; PICTURE_BYTES],
-) -> Next
+) -> Option<NextPicture>
     requires pictures_le_at { position.pictures ≤ position.at }
     requires kept_within { KeptWithin position.kept older.old newer.old }
     ensures value { result ≡ (next_of reel.now position older.old newer.old output.old).next }
@@ -204,28 +204,24 @@ pub fn play_next(
     ensures newer_after { newer.new ≡ (next_of reel.now position older.old newer.old output.old).newer }
     ensures output_after { output.new ≡ (next_of reel.now position older.old newer.old output.old).output }
 {
-    let Part::File { start, length } = part::part_at(reel, position.at) else {
-        return Next::Cut;
-    };
+    let part = part::part_at(reel, position.at)?;
     let number = position.pictures + 1;
-    let end = start + length;
+    let end = part.start + part.length;
     let file = play_file(
         number,
-        &reel[start..end],
+        &reel[part.start..end],
         position.kept,
         older,
         newer,
         output,
     );
-    let played = file.played;
-    let kept = file.kept;
-    Next::Picture {
-        played,
+    Some(NextPicture {
+        played: file.played,
         length: file.length,
         position: ReelPosition {
             at: end,
             pictures: number,
-            kept,
+            kept: file.kept,
         },
-    }
+    })
 }

@@ -8,8 +8,8 @@ use Rattle.math.specs.Joined.{joined}
 use Rattle.format3_writer.specs.Written.{written}
 use Rattle.reel_player.specs.Items.{picture, cut}
 use Rattle.reel_player.specs.Next.{AfterNext, reel_start, next_of}
-use Rattle.reel_player.specs.declared.play.Next.{Next}
-use Rattle.reel_player.specs.declared.play.Played.{Played}
+use Rattle.std.specs.Prelude.{Some, None}
+use Rattle.reel_player.specs.declared.play.NextPicture.{NextPicture}
 use Rattle.reel_player.specs.declared.play.ReelPosition.{ReelPosition}
 use Rattle.reel_player.proofs.ItemLaws.{Buffers, items_left, none_left, next-cut, next-picture}
 use Rattle.text_writer.proofs.PutLaws.{Put, put, put_rest}
@@ -55,7 +55,7 @@ module _ (reel start : List ℕ) (position : ReelPosition) (older newer text : L
     after = next_of reel position older newer output
 
     -- a cut reel: its line completes the report
-    pub printed-cut : after.next ≡ Next.Cut → {end' : ℕ} {text' : List ℕ} → Put end (line_text (cut position.at)) text end' text' → (end' ≡ length (lines_of reel)) × (text' ≡ written 0 (lines_of reel) start)
+    pub printed-cut : after.next ≡ None → {end' : ℕ} {text' : List ℕ} → Put end (line_text (cut position.at)) text end' text' → (end' ≡ length (lines_of reel)) × (text' ≡ written 0 (lines_of reel) start)
     unfolding joined
     printed-cut e {end'} {text'} line = go p.fuel p.enough p.left
       where
@@ -65,13 +65,13 @@ module _ (reel start : List ℕ) (position : ReelPosition) (older newer text : L
         go (suc n) enough left = nothing_left (put_rest (rw (next-cut n reel position older newer output h long e) at left) line)
 
     -- one more line keeps the invariant
-    pub printed-more : {played : Played} {size : ℕ} {next : ReelPosition} → after.next ≡ Next.Picture played size next → {end' : ℕ} {text' : List ℕ} → end' ≤ end + 149
-        → Put end (line_text (picture played (take size after.output))) text end' text' → Printed reel start next after.older after.newer text' end'
+    pub printed-more : {next : NextPicture} → after.next ≡ Some next → {end' : ℕ} {text' : List ℕ} → end' ≤ end + 149
+        → Put end (line_text (picture next.played (take next.length after.output))) text end' text' → Printed reel start next.position after.older after.newer text' end'
     unfolding joined
-    printed-more {played} {size} {next} e {end'} {text'} short line = go p.fuel p.enough p.left
+    printed-more {next} e {end'} {text'} short line = go p.fuel p.enough p.left
       where
         go : (n : ℕ) → length reel - position.at ≤ n → Put end (joined line_text (items_left n reel position older newer)) text (length (lines_of reel)) (written 0 (lines_of reel) start)
-            → Printed reel start next after.older after.newer text' end'
+            → Printed reel start next.position after.older after.newer text' end'
         go zero enough left = absurd (omega arith)
         go (suc n) enough left =
             let one = next-picture n reel position older newer output h long e in

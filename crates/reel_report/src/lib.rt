@@ -12,7 +12,6 @@ ghost use Rattle.reel_report.specs.Report.{lines_of, report_of};
 
 use reel_parts::{part, references};
 use reel_player::play;
-use reel_player::play::Next;
 
 // The buffer needed for the longest reel that is played: a line for every 4 bytes, the least that a picture takes, and one for `cut`.
 pub const REPORT_BYTES: usize = line::LINE_BYTES * (part::MAX_REEL_BYTES / 4 + 1);
@@ -31,16 +30,12 @@ fn put_lines(reel: &[u8], text: &mut [u8]) -> usize
     let mut end = 0usize;
     while position.at < reel.len() {
         let next = play::play_next(reel, position, &mut older, &mut newer, &mut output);
-        let Next::Picture {
-            played,
-            length,
-            position: after,
-        } = next
-        else {
+        let Some(picture) = next else {
             return line::put_cut(text, end, position.at);
         };
-        end = line::put_picture(text, end, played, references::first(&output, length));
-        position = after;
+        let pels = references::first(&output, picture.length);
+        end = line::put_picture(text, end, picture.played, pels);
+        position = picture.position;
     }
     end
 }

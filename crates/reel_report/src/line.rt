@@ -6,7 +6,7 @@ ghost use Rattle.reel_report.specs.Text.{three_fields_bytes, line_bytes, cut_byt
 
 use crate::planes;
 use crate::planes::Sums;
-use format3_header::file_start::FileStart;
+use format3_header::file_start::{FileStart, RefusedAt};
 use format3_picture::reader::Answer;
 use reel_player::play::Played;
 use symbols::header::{I_PICTURE, P_PICTURE};
@@ -19,10 +19,10 @@ const THREE_FIELDS_BYTES: usize = 3 * text_writer::FIELD_BYTES;
 pub(crate) const LINE_BYTES: usize = text_writer::FIELD_BYTES + 2 + 2 * THREE_FIELDS_BYTES;
 
 // The letter of a picture's type, or `?` if its file has no legal header.
-fn letter_of(start: FileStart) -> u8
+fn letter_of(start: Result<FileStart, RefusedAt>) -> u8
     ensures { result ≡ letter_of start }
 {
-    let FileStart::HeaderRead(header, _) = start else {
+    let Ok(FileStart { header, .. }) = start else {
         return b'?';
     };
     if header.coding_type == I_PICTURE {
@@ -41,7 +41,12 @@ fn put_answer(buffer: &mut [u8], at: usize, answer: Answer) -> usize
     ensures upper_bound { result ≤ at + three_fields_bytes }
     ensures buffer_after { buffer.new ≡ written at (answer_text answer) buffer.old }
 {
-    let number = text_writer::put_field(buffer, at, answer.number as u64, SPACE);
+    let number = text_writer::put_field(
+        buffer,
+        at,
+        u64::from(refusals::number(&answer.verdict)),
+        SPACE,
+    );
     let place = text_writer::put_field(buffer, number, answer.place as u64, SPACE);
     text_writer::put_field(buffer, place, answer.made as u64, SPACE)
 }
@@ -66,7 +71,7 @@ fn put_planes(buffer: &mut [u8], at: usize, answer: Answer, bytes: &[u8]) -> usi
     ensures upper_bound { result ≤ at + three_fields_bytes }
     ensures buffer_after { buffer.new ≡ written at (planes_text answer bytes.now) buffer.old }
 {
-    if answer.number != refusals::ACCEPTED {
+    if answer.verdict.is_err() {
         return text_writer::put_bytes(buffer, at, b"- - -\n");
     }
     put_sums(buffer, at, planes::sums_of(bytes))

@@ -1,6 +1,5 @@
 // Adds up the bytes of each plane of a picture.
-ghost use Rattle.std.specs.Prelude.{◌≡◌, ◌≤◌, length};
-ghost use Rattle.math.specs.Total.{total};
+ghost use Rattle.std.specs.Prelude.{◌≡◌, ◌≤◌, length, sum};
 ghost use Rattle.reel_player.specs.Items.{max_lent_bytes};
 ghost use Rattle.reel_report.specs.Planes.{sums_of};
 
@@ -20,16 +19,9 @@ pub struct Sums {
 
 fn sum(pels: &[u8]) -> u64
     requires { length pels.now ≤ max_lent_bytes }
-    ensures { result ≡ total pels.now }
+    ensures { result ≡ sum pels.now }
 {
-    let mut sum = 0u64;
-    let mut k = 0usize;
-    while k < pels.len() {
-        let pel = pels[k] as u64;
-        sum += pel;
-        k += 1;
-    }
-    sum
+    pels.iter().map(|&pel| u64::from(pel)).sum()
 }
 
 // The sums of the three planes of a picture.

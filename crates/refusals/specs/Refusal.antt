@@ -1,5 +1,5 @@
 -- The refusals and their numbers (document 01, "Refusals by who can cause them", and the requests of document 02); no other definition holds one.
-use Rattle.std.specs.Prelude.{ℕ}
+use Rattle.std.specs.Prelude.{ℕ, Result, Ok, Err}
 use Rattle.refusals.specs.declared.Refusal.{Refusal}
 use Rattle.refusals.specs.declared.Refusal.TheVariants.{
   FileEmpty,
@@ -92,3 +92,13 @@ number_of RecordsLength = 26
 number_of MacroblockLimit = 27
 -- request No. 12, writing a vector: "33 when no pair reaches the wanted vector, or past or f_code is out of range"
 number_of VectorUnreachable = 33
+
+-- the number of an answer: 0 if there is a value, and otherwise that of the refusal
+abbrev pub number_in : {A : Type 0} → Result A Refusal → ℕ
+number_in (Ok value) = accepted
+number_in (Err refusal) = number_of refusal
+
+-- the value in an answer, and this one if it is refused
+abbrev pub value_in : {A : Type 0} → A → Result A Refusal → A
+value_in other (Ok value) = value
+value_in other (Err refusal) = other

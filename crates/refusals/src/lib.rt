@@ -2,81 +2,64 @@
 #![tactic(auto)]
 
 ghost use Rattle.std.specs.Prelude.{◌≡◌};
-ghost use Rattle.refusals.specs.Refusal.{number_of};
+ghost use Rattle.refusals.specs.Refusal.{number_of, number_in};
 
-// Why something is refused, grouped by who can cause it.
-#[derive(Clone, Copy)]
+// Why something is refused, grouped by who can cause it, and the number that an answer gives for it.
+#[derive(Clone, Copy, Debug, PartialEq, Eq)]
 pub enum Refusal {
     // Caused by the writer of the file.
-    FileEmpty,
-    Version,
-    RecordCut,
-    RecordKind,
-    OutOfTurn,
-    BodyLength,
-    FileEnds,
+    FileEmpty = 1,
+    Version = 2,
+    RecordCut = 3,
+    RecordKind = 4,
+    OutOfTurn = 5,
+    BodyLength = 6,
+    FileEnds = 7,
     // Caused by the encoder.
-    Header,
-    Matrix,
-    QuantizerScale,
-    SliceStart,
-    MacroblockType,
-    AddressIncrement,
-    VectorCode,
-    Pattern,
-    Coefficient,
-    DcCoefficient,
-    ForwardVectorOutside,
-    BackwardVectorOutside,
+    Header = 8,
+    Matrix = 9,
+    QuantizerScale = 10,
+    SliceStart = 11,
+    MacroblockType = 12,
+    AddressIncrement = 13,
+    VectorCode = 14,
+    Pattern = 15,
+    Coefficient = 16,
+    DcCoefficient = 17,
+    ForwardVectorOutside = 18,
+    BackwardVectorOutside = 23,
     // Caused by the encoder, or by the caller, who chooses the reader.
-    MacroblockLimit,
+    MacroblockLimit = 27,
     // Caused by the caller.
-    OutputLength,
-    ForwardLength,
-    BackwardLength,
-    NumberOutOfRange,
-    VectorUnreachable,
+    OutputLength = 19,
+    ForwardLength = 20,
+    BackwardLength = 21,
+    NumberOutOfRange = 22,
+    VectorUnreachable = 33,
     // From a raw slice: the first two caused by the writer of the slice, the last by the caller.
-    SliceCode,
-    SliceCut,
-    RecordsLength,
+    SliceCode = 24,
+    SliceCut = 25,
+    RecordsLength = 26,
 }
 
 // The number of an acceptance.
 pub const ACCEPTED: u32 = 0;
 
-// The number that an answer gives for a refusal.
-pub fn number(refusal: Refusal) -> u32
-    ensures { result ≡ number_of refusal }
+impl Refusal {
+    // The number that an answer gives for a refusal.
+    pub fn number(self) -> u32
+        ensures { result ≡ number_of self }
+    {
+        self as u32
+    }
+}
+
+// The number of an answer: 0, or that of its refusal.
+pub fn number<T>(answer: &Result<T, Refusal>) -> u32
+    ensures { result ≡ number_in answer.now }
 {
-    match refusal {
-        Refusal::FileEmpty => 1,
-        Refusal::Version => 2,
-        Refusal::RecordCut => 3,
-        Refusal::RecordKind => 4,
-        Refusal::OutOfTurn => 5,
-        Refusal::BodyLength => 6,
-        Refusal::FileEnds => 7,
-        Refusal::Header => 8,
-        Refusal::Matrix => 9,
-        Refusal::QuantizerScale => 10,
-        Refusal::SliceStart => 11,
-        Refusal::MacroblockType => 12,
-        Refusal::AddressIncrement => 13,
-        Refusal::VectorCode => 14,
-        Refusal::Pattern => 15,
-        Refusal::Coefficient => 16,
-        Refusal::DcCoefficient => 17,
-        Refusal::ForwardVectorOutside => 18,
-        Refusal::BackwardVectorOutside => 23,
-        Refusal::MacroblockLimit => 27,
-        Refusal::OutputLength => 19,
-        Refusal::ForwardLength => 20,
-        Refusal::BackwardLength => 21,
-        Refusal::NumberOutOfRange => 22,
-        Refusal::VectorUnreachable => 33,
-        Refusal::SliceCode => 24,
-        Refusal::SliceCut => 25,
-        Refusal::RecordsLength => 26,
+    match answer {
+        Ok(_) => ACCEPTED,
+        Err(refusal) => refusal.number(),
     }
 }

@@ -1,15 +1,10 @@
--- Laws of parsing: what holds for every parsed value, and how the code's readers follow a parser's steps. Assumes nothing.
-use mathlib.Core.Path.{◌≡◌, refl, sym, ap, subst, ◌∙◌}
+-- Laws of parsing: what holds for every parsed value. Assumes nothing.
+use mathlib.Core.Path.{◌≡◌, refl, sym, ap, subst}
 use mathlib.Core.Bool.{Bool, true, false, cond}
 use mathlib.Core.List.{List, [], ◌++◌, append_assoc}
-use Prim.Native.Nat.{ℕ, ◌+◌}
-use native.Mathlib.Omega.{arith}
-use lib.ListN.{drop, length-drop}
-use lib.Seq.{drop-drop}
-use Rattle.refusals.specs.declared.Refusal.{Refusal}
 use Rattle.symbols.specs.Guard.{require◌else◌then◌}
 pub use Rattle.symbols.specs.Parsed.{All, here, none}
-use Rattle.symbols.specs.Parsed.{Result, Parsed, parsed, refused, Parser, bind, ◌then◌, give, refuse, value, stopped, ParsesAs}
+use Rattle.symbols.specs.Parsed.{Result, parsed, refused, bind, give, refuse}
 
 module _ {Left Reason A : Type 0} {P : A → Left → Type 0} where
   pub all_then : {B : Type 0} {Q : B → Left → Type 0} {x : Result Left Reason B} {f : B → Left → Result Left Reason A}
@@ -62,43 +57,3 @@ module _ {Left Reason A : Type 0} where
   pub after-after : (a b : List A) (x : Result Left Reason (List A)) → after a (after b x) ≡ after (a ++ b) x
   after-after a b (parsed more left) = ap (λ (l : List A). parsed l left) (sym (append_assoc a b more))
   after-after a b (refused reason) = refl
-
--- ---- two readers in sequence
-module _ {A B : Type 0} (p : Parser A) (f : A → Parser B) (part : List ℕ) where
-  pub first_stops : {refusal : Refusal} → ParsesAs p part (stopped refusal) → ParsesAs (p then f) part (stopped refusal)
-  first_stops e = rw e
-
-  module _ {a : A} {n : ℕ} (first : ParsesAs p part (value a n)) where
-    pub second-stops : {refusal : Refusal} → ParsesAs (f a) (drop n part) (stopped refusal) → ParsesAs (p then f) part (stopped refusal)
-    second-stops e = rw first.0 e
-
-    pub second-finds : {b : B} {m : ℕ} → ParsesAs (f a) (drop n part) (value b m) → ParsesAs (p then f) part (value b (n + m))
-    second-finds {b} {m} second =
-        (rw (first.0, ← drop-drop m n part) second.0, omega (arith, first.1, second.1, length-drop n part))
-
--- a function of the last reader's value
-pub last-finds : {A B : Type 0} (p : Parser A) (g : A → B) (part : List ℕ) {a : A} {n : ℕ} → ParsesAs p part (value a n) → ParsesAs (p then λ x. give (g x)) part (value (g a) n)
-last-finds p g part found = (rw found.0, found.1)
-
--- ---- a value computed from a parsed one: which one that was
-pub record MadeOf {A B : Type 0} (p : Parser A) (g : A → B) (part : List ℕ) (b : B) (n : ℕ) : Type 0 where
-  pub source : A
-  pub found : ParsesAs p part (value source n)
-  pub is : g source ≡ b
-
-module _ {A B : Type 0} (p : Parser A) (g : A → B) (part : List ℕ) where
-  pub made_of : {b : B} {n : ℕ} → ParsesAs (p then λ x. give (g x)) part (value b n) → MadeOf p g part b n
-  made_of {b} {n} found = go (p part) refl found.0
-    where
-      go : (x : Parsed A) → p part ≡ x → bind x (λ a. give (g a)) ≡ parsed b (drop n part) → MadeOf p g part b n
-      go (parsed a rest) e same =
-          let left : rest ≡ drop n part = cc in
-          record { source = a; found = (e ∙ ap (parsed a) left, found.1); is = cc }
-      go (refused refusal) e same = absurd (let z : ◌≡◌ {A = ℕ} 0 1 = cc in omega arith)
-
-  pub stopped-before : {refusal : Refusal} → ParsesAs (p then λ x. give (g x)) part (stopped refusal) → ParsesAs p part (stopped refusal)
-  stopped-before {refusal} found = go (p part) refl found
-    where
-      go : (x : Parsed A) → p part ≡ x → bind x (λ a. give (g a)) ≡ refused refusal → p part ≡ refused refusal
-      go (parsed a rest) e same = absurd (let z : ◌≡◌ {A = ℕ} 0 1 = cc in omega arith)
-      go (refused other) e same = let q : other ≡ refusal = cc in e ∙ ap refused q

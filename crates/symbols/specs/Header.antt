@@ -1,11 +1,9 @@
 -- The header of a picture, and which of its numbers are legal (document 01, kind 1, and refusal 8).
-use Rattle.std.specs.Prelude.{Bool, true, false, ◌&&◌, ℕ, leb, eqb}
-use Rattle.refusals.specs.declared.Refusal.TheVariants as Refusal
+use Rattle.std.specs.Prelude.{Bool, true, false, ◌&&◌, ℕ, leb, eqb, Result, Ok, Err}
+use Rattle.refusals.specs.declared.Refusal.{Refusal}
 use Rattle.symbols.specs.declared.header.HeaderFields.{HeaderFields}
 use Rattle.symbols.specs.declared.header.VectorCoding.{VectorCoding}
 use Rattle.symbols.specs.declared.header.Header.{Header}
-use Rattle.symbols.specs.declared.header.HeaderAnswer.{HeaderAnswer}
-use Rattle.symbols.specs.declared.header.HeaderAnswer.TheVariants.{Legal, Refused}
 use Rattle.symbols.specs.Guard.{require◌else◌then◌}
 use Rattle.symbols.specs.Size.{legal_size}
 
@@ -53,5 +51,5 @@ header_value f = record {
   backward = vector_coding_of f.full_pel_backward f.backward_f_code;
 }
 
-unfoldable pub header_with : HeaderFields → HeaderAnswer
-header_with f = require legal_header f else Refused Refusal.Header then Legal (header_value f)
+unfoldable pub header_with : HeaderFields → Result Header Refusal
+header_with f = require legal_header f else Err Refusal.Header then Ok (header_value f)

@@ -1,5 +1,5 @@
--- What parsing bytes or bits gives, how parsers are chained, and what the code's readers answer.
-use Rattle.std.specs.Prelude.{Bool, cond, List, ◌≡◌, ℕ, ◌≤◌, length, drop}
+-- What parsing bytes or bits gives, and how parsers are chained.
+use Rattle.std.specs.Prelude.{Bool, cond, List, ℕ}
 use Rattle.refusals.specs.declared.Refusal.{Refusal}
 
 -- a value and the input left after it, or the reason why there is none
@@ -40,13 +40,3 @@ Parsed A = Result (List ℕ) Refusal A
 -- a parser takes the bytes that are left
 abbrev pub Parser : Type 0 → Type 0
 Parser A = List ℕ → Parsed A
-
--- what a reader of a slice of bytes answers: a value and the offset where it ends, or a refusal
-pub data ReadResult (A : Type 0) : Type 0 where
-  value : A → ℕ → ReadResult A
-  stopped : Refusal → ReadResult A
-
--- the answer matches the parser: the same value, ending at this offset inside the part, or the same refusal
-abbrev pub ParsesAs : {A : Type 0} → Parser A → List ℕ → ReadResult A → Type 0
-ParsesAs p part (value a end) = (p part ≡ parsed a (drop end part)) × (end ≤ length part)
-ParsesAs p part (stopped refusal) = p part ≡ refused refusal

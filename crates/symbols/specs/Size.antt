@@ -1,8 +1,6 @@
 -- The picture's size in macroblocks (document 01, "The picture and its size").
-use Rattle.std.specs.Prelude.{Bool, ◌&&◌, ℕ, ◌*◌, ◌/◌, ◌%◌, leb}
+use Rattle.std.specs.Prelude.{Bool, ◌&&◌, ℕ, ◌*◌, ◌/◌, ◌%◌, leb, Option, Some, None}
 use Rattle.symbols.specs.declared.size.PictureSize.{PictureSize}
-use Rattle.symbols.specs.declared.size.NewSize.{NewSize}
-use Rattle.symbols.specs.declared.size.NewSize.TheVariants.{Fits, Beyond}
 use Rattle.symbols.specs.Guard.{require◌else◌then◌}
 
 -- "at most 48 macroblocks wide, 36 high, 396 in all, and at least 1 by 1"
@@ -18,8 +16,8 @@ max_macroblocks = 396
 unfoldable pub legal_size : ℕ → ℕ → Bool
 legal_size width height = leb 1 width && leb width max_width && leb 1 height && leb height max_height && leb (width * height) max_macroblocks
 
-unfoldable pub size_of : ℕ → ℕ → NewSize
-size_of width height = require legal_size width height else Beyond then Fits (record { width = width; height = height })
+unfoldable pub size_of : ℕ → ℕ → Option PictureSize
+size_of width height = require legal_size width height else None then Some (record { width = width; height = height })
 
 -- N, the count of macroblocks
 abbrev pub macroblock_count : PictureSize → ℕ
@@ -33,8 +31,8 @@ max_macroblocks_small = 99
 abbrev pub within_limit : ℕ → PictureSize → Bool
 within_limit limit s = leb (macroblock_count s) limit
 
-unfoldable pub size_within : ℕ → PictureSize → NewSize
-size_within limit s = require within_limit limit s else Beyond then Fits s
+unfoldable pub size_within : ℕ → PictureSize → Option PictureSize
+size_within limit s = require within_limit limit s else None then Some s
 
 -- "With N macroblocks it is 384 × N bytes": 256 of Y, 64 of Cb and 64 of Cr for each macroblock
 abbrev pub picture_bytes : PictureSize → ℕ

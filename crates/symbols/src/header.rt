@@ -2,7 +2,7 @@
 ghost use Rattle.std.specs.Prelude.{◌≡◌};
 ghost use Rattle.symbols.specs.Header.{uses_forward, uses_backward, legal_coding, legal_codings, header_with};
 
-use crate::size::{NewSize, PictureSize};
+use crate::size::PictureSize;
 use refusals::Refusal;
 
 // Picture coding types.
@@ -41,12 +41,6 @@ pub struct Header {
     pub backward: VectorCoding,
 }
 
-#[derive(Clone, Copy)]
-pub enum HeaderAnswer {
-    Legal(Header),
-    Refused(Refusal),
-}
-
 // Whether a picture of this type uses forward vectors.
 pub fn uses_forward(coding: u8) -> bool
     ensures { result ≡ uses_forward coding }
@@ -66,18 +60,9 @@ fn legal_coding(used: bool, flag: u8, code: u8) -> bool
     ensures { result ≡ legal_coding used flag code }
 {
     if used {
-        if 1 < flag {
-            return false;
-        }
-        if code < 1 {
-            return false;
-        }
-        return code <= MAX_F_CODE;
+        return flag <= 1 && (1..=MAX_F_CODE).contains(&code);
     }
-    if flag != 0 {
-        return false;
-    }
-    code == 0
+    flag == 0 && code == 0
 }
 
 // Whether the type is legal, and both directions are coded as the type requires.
@@ -86,10 +71,7 @@ fn legal_codings(fields: HeaderFields) -> bool
     ensures { result ≡ legal_codings fields }
 {
     let coding_type = fields.coding_type;
-    if coding_type < I_PICTURE {
-        return false;
-    }
-    if B_PICTURE < coding_type {
+    if !(I_PICTURE..=B_PICTURE).contains(&coding_type) {
         return false;
     }
     let forward = legal_coding(
@@ -97,28 +79,26 @@ fn legal_codings(fields: HeaderFields) -> bool
         fields.full_pel_forward,
         fields.forward_f_code,
     );
-    if !forward {
-        return false;
-    }
-    legal_coding(
+    let backward = legal_coding(
         uses_backward(coding_type),
         fields.full_pel_backward,
         fields.backward_f_code,
-    )
+    );
+    forward && backward
 }
 
 // The header with these numbers, if they are legal.
-#[tactic(auto, unfolding(crate::specs::Header::header_with, crate::specs::Header::legal_header))]
-pub fn header_with(fields: HeaderFields) -> HeaderAnswer
+#[tactic(auto, using(crate::proofs::Guard::guards, crate::proofs::Laws::Size::made, crate::proofs::Laws::Size::not_made), unfolding(crate::specs::Header::header_with, crate::specs::Header::legal_header))]
+pub fn header_with(fields: HeaderFields) -> Result<Header, Refusal>
     ensures { result ≡ header_with fields }
 {
-    let NewSize::Fits(size) = PictureSize::new(fields.width as usize, fields.height as usize) else {
-        return HeaderAnswer::Refused(Refusal::Header);
+    let Some(size) = PictureSize::new(usize::from(fields.width), usize::from(fields.height)) else {
+        return Err(Refusal::Header);
     };
     if !legal_codings(fields) {
-        return HeaderAnswer::Refused(Refusal::Header);
+        return Err(Refusal::Header);
     }
-    HeaderAnswer::Legal(Header {
+    Ok(Header {
         size,
         coding_type: fields.coding_type,
         forward: VectorCoding {

@@ -39,14 +39,10 @@ pub fn legal_type(coding: u8, macroblock_type: u8) -> bool
     if 31 < macroblock_type {
         return false;
     }
-    if coding == I_PICTURE {
-        let types = I_TYPES >> macroblock_type;
-        return types % 2 == 1;
-    }
-    if coding == P_PICTURE {
-        let types = P_TYPES >> macroblock_type;
-        return types % 2 == 1;
-    }
-    let types = B_TYPES >> macroblock_type;
-    types % 2 == 1
+    let types = match coding {
+        I_PICTURE => I_TYPES,
+        P_PICTURE => P_TYPES,
+        _ => B_TYPES,
+    };
+    (types >> macroblock_type) % 2 == 1
 }

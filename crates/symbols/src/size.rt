@@ -9,12 +9,6 @@ pub struct PictureSize {
     pub height: usize,
 }
 
-#[derive(Clone, Copy)]
-pub enum NewSize {
-    Fits(PictureSize),
-    Beyond,
-}
-
 impl PictureSize {
     pub const MAX_WIDTH: usize = 48;
 
@@ -27,35 +21,29 @@ impl PictureSize {
     pub const MAX_MACROBLOCKS_SMALL: usize = 99;
 
     // The size, if it is at least 1 by 1 and within the limits.
-    #[tactic(auto, unfolding(crate::specs::Size::size_of, crate::specs::Size::legal_size, crate::specs::Size::size_within))]
-    pub fn new(width: usize, height: usize) -> NewSize
+    #[tactic(auto, using(crate::proofs::Guard::guards), unfolding(crate::specs::Size::size_of, crate::specs::Size::legal_size, crate::specs::Size::size_within))]
+    pub fn new(width: usize, height: usize) -> Option<PictureSize>
         ensures { result ≡ size_of width height }
     {
-        if width < 1 {
-            return NewSize::Beyond;
+        if !(1..=Self::MAX_WIDTH).contains(&width) {
+            return None;
         }
-        if Self::MAX_WIDTH < width {
-            return NewSize::Beyond;
-        }
-        if height < 1 {
-            return NewSize::Beyond;
-        }
-        if Self::MAX_HEIGHT < height {
-            return NewSize::Beyond;
+        if !(1..=Self::MAX_HEIGHT).contains(&height) {
+            return None;
         }
         PictureSize { width, height }.within(Self::MAX_MACROBLOCKS)
     }
 
     // The size, if it has at most `limit` macroblocks.
-    #[tactic(auto, unfolding(crate::specs::Size::size_within))]
-    pub fn within(self, limit: usize) -> NewSize
+    #[tactic(auto, using(crate::proofs::Guard::guards), unfolding(crate::specs::Size::size_within))]
+    pub fn within(self, limit: usize) -> Option<PictureSize>
         requires { SizeWithin (max_width * max_height) self }
         ensures { result ≡ size_within limit self }
     {
         if limit < self.width * self.height {
-            return NewSize::Beyond;
+            return None;
         }
-        NewSize::Fits(self)
+        Some(self)
     }
 
     // The count of macroblocks.

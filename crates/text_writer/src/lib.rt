@@ -1,7 +1,7 @@
 // Writes text into a lent buffer, field by field.
 #![tactic(auto)]
 
-ghost use Rattle.std.specs.Prelude.{◌≡◌, ◌+◌, ◌≤◌, nat_abs, length};
+ghost use Rattle.std.specs.Prelude.{◌≡◌, ◌+◌, ◌≤◌, length};
 ghost use Rattle.format3_writer.specs.Written.{written};
 ghost use Rattle.text_writer.specs.Number.{field, signed_field};
 
@@ -39,24 +39,13 @@ pub fn put_field(text: &mut [u8], at: usize, number: u64, after: u8) -> usize
     put_bytes(text, end, &[after])
 }
 
-// The absolute value of a number.
-fn absolute(number: i32) -> u64
-    ensures { result ≡ nat_abs number }
-{
-    let wide = number as i64;
-    if wide < 0 {
-        return (-wide) as u64;
-    }
-    wide as u64
-}
-
 // Writes a number that may be negative, in decimal, and the byte after it, and returns where they end.
 pub fn put_signed_field(text: &mut [u8], at: usize, number: i32, after: u8) -> usize
     requires { at + length (signed_field number after) ≤ length text.old }
     ensures value { result ≡ at + length (signed_field number after) }
     ensures text_after { text.new ≡ written at (signed_field number after) text.old }
 {
-    let size = absolute(number);
+    let size = u64::from(number.unsigned_abs());
     if number < 0 {
         let sign_end = put_bytes(text, at, b"-");
         return put_field(text, sign_end, size, after);

@@ -1,5 +1,6 @@
 -- Demand 1: each theorem cites its law. Assumes nothing.
 use Rattle.refusals.proofs.Laws.{numbers-differ, never-accepted}
+use Rattle.format3_picture.proofs.PictureLaws.{number-given}
 use Rattle.theorems_picture.proofs.Demand1 as Laws1
 use Rattle.theorems_picture.proofs.Demand2 as Laws2
 use Rattle.theorems_picture.proofs.Worked as Files
@@ -12,7 +13,9 @@ pub work-or-refusal : WorkOrRefusal
 work-or-refusal = Laws2.accepted-or-refused
 
 pub refusal-given : RefusalGiven
-refusal-given = Laws2.refusal-given
+refusal-given limit transform file forward backward output refusal place before a =
+    let given = Laws2.refusal-given limit transform file forward backward output refusal place before a in
+    (given, number-given limit transform file forward backward output given)
 
 pub number-listed : NumberListed
 number-listed = Laws1.number-listed

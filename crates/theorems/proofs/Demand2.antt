@@ -1,12 +1,14 @@
 -- Demand 2: each theorem cites its law. Assumes nothing.
 use mathlib.Core.List.{List}
 use mathlib.Core.Logic.{◌⊎◌, inl, inr}
+use mathlib.Core.Path.{refl, sym, ◌∙◌}
 use Prim.Native.Nat.{ℕ, ◌≤◌}
 use native.Mathlib.Omega.{arith}
 use Rattle.refusals.specs.Refusal.{number_of}
 use Rattle.refusals.specs.declared.Refusal.{Refusal}
 use Rattle.decode_macroblock.specs.Macroblock.{MadeMacroblock}
 use Rattle.format3_picture.proofs.Alone.{picture-alone}
+use Rattle.format3_picture.proofs.PictureLaws.{number-given}
 use Rattle.theorems_picture.proofs.Demand1.{symbols-own, before-of-symbols}
 use Rattle.theorems_picture.proofs.Demand2 as Laws
 use Rattle.theorems_picture.proofs.Worked.{two-slices-header-read, two-slices-symbols}
@@ -37,6 +39,7 @@ accepted-is-reconstruction limit transform file forward backward output number =
       end = a.end;
       header_read = a.header_read;
       answer = a.answer;
+      number = number;
       reached = a.reached;
       passing = a.passing;
       none_left = a.none_left;
@@ -48,7 +51,9 @@ accepted-is-reconstruction limit transform file forward backward output number =
     }
 
 pub same_answer : SameAnswer
-same_answer limit transform file forward backward first second long = (picture-alone limit transform file forward backward first second long).answer
+same_answer limit transform file forward backward first second long =
+    let same = (picture-alone limit transform file forward backward first second long).answer in
+    (same, number-given limit transform file forward backward first same ∙ sym (number-given limit transform file forward backward second refl))
 
 pub same_bytes : SameBytes
 same_bytes limit transform file forward backward first second long = (picture-alone limit transform file forward backward first second long).bytes

@@ -17,7 +17,7 @@ use Rattle.format3_records.specs.Field.{byte, two_bytes}
 use Rattle.format3_records.specs.Record.{record_length_at, kind_at, record_of}
 use Rattle.format3_header.specs.Header.{header_of}
 use Rattle.format3_header.specs.Lengths.{lent_lengths, caller_verdict}
-use Rattle.format3_header.specs.FileStart.{first_header, file_start_of}
+use Rattle.format3_header.specs.FileStart.{first_record, first_header, file_start_of}
 use Rattle.format3_picture.specs.Picture.{Picture}
 use Rattle.format3_picture.proofs.PictureLaws.{no_header}
 use Rattle.format3_picture.proofs.StartLaws.{header_read}
@@ -80,7 +80,7 @@ facts-within limit s bounded size = record {
 }
 
 pub worked : WorkedLimits
-unfolding require◌else◌then◌ byte two_bytes record_length_at kind_at record_of legal_size size_of size_within legal_codings legal_header header_with header_of lent_lengths caller_verdict first_header file_start_of
+unfolding require◌else◌then◌ byte two_bytes record_length_at kind_at record_of legal_size size_of size_within legal_codings legal_header header_with header_of lent_lengths caller_verdict first_record first_header file_start_of
 worked = record {
   ninety-nine = refl;
   hundred = refl;

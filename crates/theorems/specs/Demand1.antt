@@ -10,7 +10,7 @@
 -- `Applies` (crates/theorems_picture/specs/Applies.antt) says which refusal applies to a file, at which place (a byte
 -- offset), and which macroblocks the records before it made. `owner_of` is the address of the macroblock that a byte belongs to, and
 -- `byte_of` is the macroblock's value for the byte (crates/decode_macroblock/specs).
-use Rattle.std.specs.Prelude.{List, ◌⊎◌, ◌≡◌, ℕ, ◌≤◌, ◌<◌, ℤ, length, get_or}
+use Rattle.std.specs.Prelude.{List, ◌⊎◌, ◌≡◌, ℕ, ◌≤◌, ◌<◌, ℤ, length, get_or, Ok}
 use Rattle.math.specs.Each.{Each}
 use Rattle.refusals.specs.Refusal.{accepted, number_of}
 use Rattle.refusals.specs.declared.Refusal.{Refusal}
@@ -22,7 +22,6 @@ use Rattle.decode_macroblock.specs.Compensation.{references}
 use Rattle.decode_macroblock.specs.Macroblock.{MadeMacroblock, InOrder}
 use Rattle.decode_macroblock.specs.Owner.{owner_of}
 use Rattle.decode_macroblock.specs.Rows.{rows_of}
-use Rattle.format3_header.specs.declared.file_start.FileStart.TheVariants.{HeaderRead}
 use Rattle.format3_picture.specs.Picture.{refused_at, picture_within, answer_of}
 use Rattle.theorems_picture.specs.Applies.{file_start, Applies, AppliesTo}
 use Rattle.theorems_picture.specs.Worked.{cases, answers, expectations}
@@ -45,7 +44,8 @@ abbrev pub RefusalGiven : Type 0
 RefusalGiven =
     (limit : ℕ) (transform : List ℤ → ℕ → ℤ) (file forward backward output : List ℕ) (refusal : Refusal) (place : ℕ) (before : List MadeMacroblock)
     → Applies limit file forward backward output refusal place before
-    → answer_of (picture_within limit transform file forward backward output) ≡ refused_at refusal place (length before) (rows_of before)
+    → (answer_of (picture_within limit transform file forward backward output) ≡ refused_at refusal place (length before) (rows_of before))
+    × ((picture_within limit transform file forward backward output).number ≡ number_of refusal)
 
 -- a reader's numbers are 0, document 01's refusals 1 to 21, 23, and 27 if its limit is below 396; two refusals never share a number, and none has
 -- that of acceptance
@@ -68,13 +68,13 @@ pub record RefusedPicture (limit : ℕ) (transform : List ℤ → ℕ → ℤ) (
   pub order : InOrder 0 before (length before)
   -- each byte of one of them is that macroblock's: prediction plus residue, limited
   pub held :
-      (h : Header) (end : ℕ) → file_start limit file forward backward output ≡ HeaderRead h end
+      (h : Header) (end : ℕ) → file_start limit file forward backward output ≡ Ok (record { header = h; end = end })
       → Each (λ m. (i : ℕ) → i < length output → owner_of h.size i ≡ m.address
       → get_or (picture_within limit transform file forward backward output).output i 0 ≡ byte_of transform (references forward backward) h.size m i) before
   -- a byte that belongs to none of them is unchanged; if the file's start is refused, there is no header, and every byte is unchanged
   pub others :
       (i : ℕ) → i < length output
-      → ((h : Header) (end : ℕ) → file_start limit file forward backward output ≡ HeaderRead h end → length before ≤ owner_of h.size i)
+      → ((h : Header) (end : ℕ) → file_start limit file forward backward output ≡ Ok (record { header = h; end = end }) → length before ≤ owner_of h.size i)
       → get_or (picture_within limit transform file forward backward output).output i 0 ≡ get_or output i 0
 
 abbrev pub RefusedHolds : Type 0
@@ -87,7 +87,7 @@ RefusedHolds =
 pub record Missing (limit : ℕ) (transform : List ℤ → ℕ → ℤ) (file forward backward output : List ℕ) : Type 0 where
   pub at-end : (picture_within limit transform file forward backward output).place ≡ length file
   pub fewer :
-      (h : Header) (end : ℕ) → file_start limit file forward backward output ≡ HeaderRead h end
+      (h : Header) (end : ℕ) → file_start limit file forward backward output ≡ Ok (record { header = h; end = end })
       → (picture_within limit transform file forward backward output).made < macroblock_count h.size
 
 abbrev pub SevenMissing : Type 0

@@ -7,7 +7,7 @@
 -- transform. `symbols_of` has the symbols and matrices that a file's records give, and `reconstruction`
 -- (crates/format3_picture/specs/Reconstruction.antt) is what clause 2.4.4 makes of them: no byte of the file occurs in it. Requests have added two
 -- refusals to the readers: No. 1 has added 23 (Request1.antt), and No. 4 has added 27 (Request4.antt).
-use Rattle.std.specs.Prelude.{List, [], ◌↔◌, ◌⊎◌, ◌≡◌, ℕ, ◌≤◌, ◌<◌, ℤ, length, get_or, replicate}
+use Rattle.std.specs.Prelude.{List, [], ◌↔◌, ◌⊎◌, ◌≡◌, ℕ, ◌≤◌, ◌<◌, ℤ, length, get_or, replicate, Ok}
 use Rattle.math.specs.Each.{Each}
 use Rattle.refusals.specs.Refusal.{accepted, number_of}
 use Rattle.refusals.specs.declared.Refusal.{Refusal}
@@ -19,7 +19,6 @@ use Rattle.decode_macroblock.specs.Compensation.{references}
 use Rattle.decode_macroblock.specs.Macroblock.{MadeMacroblock, InOrder}
 use Rattle.decode_macroblock.specs.Owner.{owner_of}
 use Rattle.decode_macroblock.specs.Rows.{rows_of}
-use Rattle.format3_header.specs.declared.file_start.FileStart.TheVariants.{HeaderRead}
 use Rattle.format3_picture.specs.Picture.{symbols_of, picture_within, answer_of}
 use Rattle.format3_picture.specs.Reconstruction.{macroblocks_of, reconstruction}
 use Rattle.theorems_picture.specs.Applies.{Reached, Passing, file_start, Applies}
@@ -49,11 +48,12 @@ pub record AcceptedPicture (limit : ℕ) (transform : List ℤ → ℕ → ℤ) 
   -- the file has a header, which ends at this offset
   pub header : Header
   pub end : ℕ
-  pub header_read : file_start limit file forward backward output ≡ HeaderRead header end
+  pub header_read : file_start limit file forward backward output ≡ Ok (record { header = header; end = end })
   -- "Accepted is 0, file length, N", and the rows of all macroblocks (document 02, No. 6)
   pub answer :
       answer_of (picture_within limit transform file forward backward output)
-      ≡ record { number = accepted; place = length file; made = macroblock_count header.size; rows = rows_of (macroblocks_of header (symbols_of file header end)) }
+      ≡ record { verdict = Ok tt; place = length file; made = macroblock_count header.size; rows = rows_of (macroblocks_of header (symbols_of file header end)) }
+  pub number : (picture_within limit transform file forward backward output).number ≡ accepted
   -- every record passes, up to the file's end, and the macroblocks that the records make are those of the symbols
   pub reached : Reached
   pub passing : Passing file header end reached
@@ -81,7 +81,8 @@ AcceptedIsReconstruction =
 abbrev pub SameAnswer : Type 0
 SameAnswer =
     (limit : ℕ) (transform : List ℤ → ℕ → ℤ) (file forward backward first second : List ℕ) → length first ≡ length second
-    → answer_of (picture_within limit transform file forward backward first) ≡ answer_of (picture_within limit transform file forward backward second)
+    → (answer_of (picture_within limit transform file forward backward first) ≡ answer_of (picture_within limit transform file forward backward second))
+    × ((picture_within limit transform file forward backward first).number ≡ (picture_within limit transform file forward backward second).number)
 
 abbrev pub SameBytes : Type 0
 SameBytes =
@@ -93,16 +94,16 @@ SameBytes =
 -- of the records before the refused one, and the macroblocks of those records are the macroblocks of the symbols
 abbrev pub OutputOfSymbols : Type 0
 OutputOfSymbols =
-    (limit : ℕ) (transform : List ℤ → ℕ → ℤ) (file forward backward output : List ℕ) (h : Header) (end : ℕ) → file_start limit file forward backward output ≡ HeaderRead h end
+    (limit : ℕ) (transform : List ℤ → ℕ → ℤ) (file forward backward output : List ℕ) (h : Header) (end : ℕ) → file_start limit file forward backward output ≡ Ok (record { header = h; end = end })
     → (picture_within limit transform file forward backward output).output ≡ reconstruction transform (references forward backward) h (symbols_of file h end) output
 
 abbrev pub RefusedMakesSymbols : Type 0
 RefusedMakesSymbols =
-    (limit : ℕ) (file forward backward output : List ℕ) (h : Header) (end : ℕ) → file_start limit file forward backward output ≡ HeaderRead h end
+    (limit : ℕ) (file forward backward output : List ℕ) (h : Header) (end : ℕ) → file_start limit file forward backward output ≡ Ok (record { header = h; end = end })
     → (refusal : Refusal) (place : ℕ) (before : List MadeMacroblock) → Applies limit file forward backward output refusal place before
     → before ≡ macroblocks_of h (symbols_of file h end)
 
 -- A file worked to its symbols: two slices of one macroblock each, and a record that is cut
 pub record WorkedSymbols : Type 0 where
-  pub header_read : file_start max_macroblocks two_slices [] [] (replicate 768 7) ≡ HeaderRead two_wide 11
+  pub header_read : file_start max_macroblocks two_slices [] [] (replicate 768 7) ≡ Ok (record { header = two_wide; end = 11 })
   pub symbols : symbols_of two_slices two_wide 11 ≡ two_slices_symbols

@@ -6,7 +6,7 @@
 -- `CoefficientsInRange`, `BetweenEnds`, `exact_sum` and `LiesWithin` (crates/theorems_accuracy/specs/ExactSum.antt) express the words of
 -- the demand; its sixty-four places are the raster indices of a block. That no step overflows needs no theorem: the checker accepts no
 -- function with an operation that may overflow.
-use Rattle.std.specs.Prelude.{true, List, ◌≡◌, ℕ, ◌+◌, ◌/◌, ◌%◌, ◌^◌, ◌≤◌, ◌<◌, ℤ, pos, negsuc, ◌+ℤ◌, ◌-ℤ◌, ◌*ℤ◌, replicate, ◌<ℤ◌}
+use Rattle.std.specs.Prelude.{true, List, ◌≡◌, ℕ, ◌+◌, ◌/◌, ◌%◌, ◌^◌, ◌≤◌, ◌<◌, ℤ, pos, negsuc, ◌+ℤ◌, ◌-ℤ◌, ◌*ℤ◌, replicate, ◌<ℤ◌, Ok}
 use Rattle.math.specs.Each.{Each}
 use Rattle.math.specs.Bound.{Within, at}
 use Rattle.refusals.specs.Refusal.{accepted}
@@ -16,7 +16,6 @@ use Rattle.decode_idct.specs.Answer.{transform_number, transform_residues}
 use Rattle.decode_idct.specs.Factors.{cosine_at}
 use Rattle.decode_idct.specs.Transform.{inverse_transform, limited_residue, dc_alone}
 use Rattle.decode_macroblock.specs.Block.{coefficients_at}
-use Rattle.format3_header.specs.declared.file_start.FileStart.TheVariants.{HeaderRead}
 use Rattle.format3_picture.specs.Picture.{symbols_of}
 use Rattle.format3_picture.specs.Reconstruction.{macroblocks_of}
 use Rattle.theorems_accuracy.specs.Cosines.{Cosines, HeldBetween}
@@ -48,7 +47,7 @@ pub record HypothesesMet : Type 0 where
 -- every coded block of a picture, accepted or refused, meets the first hypothesis: its coefficients are in range
 abbrev pub BlocksMeetDemand3 : Type 0
 BlocksMeetDemand3 =
-    (limit : ℕ) (file forward backward output : List ℕ) (h : Header) (end : ℕ) → file_start limit file forward backward output ≡ HeaderRead h end
+    (limit : ℕ) (file forward backward output : List ℕ) (h : Header) (end : ℕ) → file_start limit file forward backward output ≡ Ok (record { header = h; end = end })
     → Each (λ m. (block : ℕ) → is_coded m.pattern block ≡ true → CoefficientsInRange (coefficients_at m.coefficients block)) (macroblocks_of h (symbols_of file h end))
 
 -- "A transform of zeros misses the 9/16 at DC 2040" (document 01, "Reviewer's checklist"): demand 3 covers that block, and 0 is near the

@@ -15,8 +15,7 @@ use Rattle.symbols.specs.Header.{type_i, type_b}
 use Rattle.symbols.specs.Size.{max_width, max_height, max_macroblocks, picture_bytes}
 use Rattle.symbols.specs.declared.slice.SliceHeader.{SliceHeader}
 use Rattle.symbols.specs.Macroblock.{Macroblock}
-use Rattle.format3_header.specs.FileStart.{first_header, file_header_of}
-use Rattle.format3_header.specs.declared.file_start.FileHeader.{FileHeader}
+use Rattle.format3_header.specs.FileStart.{FileHeaderNumbers, first_header, file_header_of}
 use Rattle.format3_macroblock.specs.Slice.{slice_of}
 use Rattle.format3_macroblock.specs.declared.macroblock.MacroblockContext.{MacroblockContext}
 use Rattle.format3_macroblock.specs.Macroblock.{macroblock_of}
@@ -60,7 +59,7 @@ pub record WorkedRecords : Type 0 where
   pub read_back : macroblock_of predicted_context worked_body ≡ parsed worked []
 
 -- A file's start and the picture of the same file from a reader with a limit, with any references and output
-pub record HeaderAsRead (limit : ℕ) (told : FileHeader) (picture : Picture) (output : List ℕ) : Type 0 where
+pub record HeaderAsRead (limit : ℕ) (told : FileHeaderNumbers) (picture : Picture) (output : List ℕ) : Type 0 where
   -- the start is accepted, or refused by 1 to 8
   pub number-at-most-8 : told.number ≤ 8
   -- if it is refused, the picture is refused by the same number, nothing is made, and the output is what it was

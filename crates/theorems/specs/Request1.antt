@@ -5,14 +5,13 @@
 -- record is refused for a vector: its macroblocks are tested one by one, the skipped ones in address order and then its own, each forward and then
 -- backward, and the first that doesn't fit decides. `picture_refusing` is the definition of `picture_within` with any refusal for a backward misfit
 -- (crates/format3_picture/specs/Picture.antt): with 18, it is the reader as document 01 has it.
-use Rattle.std.specs.Prelude.{List, ◌↔◌, ◌≡◌, ℕ, ℤ}
+use Rattle.std.specs.Prelude.{List, ◌↔◌, ◌≡◌, ℕ, ℤ, Ok}
 use Rattle.refusals.specs.Refusal.{accepted, number_of}
 use Rattle.refusals.specs.declared.Refusal.{Refusal}
 use Rattle.refusals.specs.declared.Refusal.TheVariants.{ForwardVectorOutside, BackwardVectorOutside}
 use Rattle.symbols.specs.Header.{type_b}
 use Rattle.symbols.specs.Size.{max_macroblocks}
 use Rattle.symbols.specs.declared.header.Header.{Header}
-use Rattle.format3_header.specs.declared.file_start.FileStart.TheVariants.{HeaderRead}
 use Rattle.format3_picture.specs.Picture.{picture_within, picture_refusing}
 use Rattle.theorems_picture.specs.Applies.{file_start}
 use Rattle.theorems_picture.specs.Misfit.{VectorRefused}
@@ -33,7 +32,7 @@ BackwardIs23 =
 -- 23 is never given for an I or P picture
 abbrev pub BackwardOnlyInB : Type 0
 BackwardOnlyInB =
-    (limit : ℕ) (transform : List ℤ → ℕ → ℤ) (file forward backward output : List ℕ) (h : Header) (end : ℕ) → file_start limit file forward backward output ≡ HeaderRead h end
+    (limit : ℕ) (transform : List ℤ → ℕ → ℤ) (file forward backward output : List ℕ) (h : Header) (end : ℕ) → file_start limit file forward backward output ≡ Ok (record { header = h; end = end })
     → (picture_within limit transform file forward backward output).number ≡ number_of BackwardVectorOutside
     → h.coding_type ≡ type_b
 

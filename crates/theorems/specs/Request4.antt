@@ -6,7 +6,7 @@
 -- contract of `reconstruct` has it with 396 (`picture_of`), that of `reconstruct_small` with 99. Demands 1 and 2 and the theorems of the other
 -- requests hold for any limit, and so for both readers. `BeyondLimit` (crates/theorems_picture/specs/Limit.antt) says that a file's header is legal
 -- and has more macroblocks than a limit.
-use Rattle.std.specs.Prelude.{List, ◌↔◌, ◌≡◌, ℕ, ◌+◌, ◌*◌, ◌^◌, ◌≤◌, ◌<◌, ℤ, length}
+use Rattle.std.specs.Prelude.{List, ◌↔◌, ◌≡◌, ℕ, ◌+◌, ◌*◌, ◌^◌, ◌≤◌, ◌<◌, ℤ, length, Err, None, Ok, Some}
 use Rattle.refusals.specs.Refusal.{number_of}
 use Rattle.refusals.specs.declared.Refusal.TheVariants.{Header as HeaderField, MacroblockLimit, OutputLength}
 use Rattle.symbols.specs.Header.{type_i, type_p}
@@ -28,12 +28,10 @@ use Rattle.symbols.specs.Size.{
 }
 use Rattle.symbols.specs.declared.header.Header.{Header}
 use Rattle.symbols.specs.declared.size.PictureSize.{PictureSize}
-use Rattle.symbols.specs.declared.size.NewSize.TheVariants.{Fits, Beyond}
 use Rattle.decode_macroblock.specs.Location.{macroblock_position, block_location}
 use Rattle.decode_macroblock.specs.Owner.{owner_of}
 use Rattle.decode_macroblock.specs.Requires.{BlockInside}
 use Rattle.format3_header.specs.FileStart.{file_start_of}
-use Rattle.format3_header.specs.declared.file_start.FileStart.TheVariants.{HeaderRead, Refused}
 use Rattle.format3_picture.specs.Picture.{refused_at, with_output, picture_within, picture_of}
 use Rattle.theorems_picture.specs.Applies.{file_start}
 use Rattle.theorems_picture.specs.Limit.{BeyondLimit}
@@ -79,15 +77,15 @@ pub record FitsMemory (limit : ℕ) (size : PictureSize) (forward backward outpu
 
 abbrev pub MemoryEnough : Type 0
 MemoryEnough =
-    (limit : ℕ) (file forward backward output : List ℕ) (h : Header) (end : ℕ) → file_start limit file forward backward output ≡ HeaderRead h end
+    (limit : ℕ) (file forward backward output : List ℕ) (h : Header) (end : ℕ) → file_start limit file forward backward output ≡ Ok (record { header = h; end = end })
     → FitsMemory limit h.size forward backward output
 
 -- the constructors of sizes refuse those beyond the limits: `PictureSize::new` beyond the format's; `PictureSize::within` beyond a given one, for a
 -- size of at least 1 by 1 and at most 48 × 36 macroblocks
 pub record ConstructedWithin : Type 0 where
-  pub new : (width height : ℕ) (s : PictureSize) → size_of width height ≡ Fits s
+  pub new : (width height : ℕ) (s : PictureSize) → size_of width height ≡ Some s
       → (1 ≤ s.width) × (s.width ≤ max_width) × (1 ≤ s.height) × (s.height ≤ max_height) × (macroblock_count s ≤ max_macroblocks)
-  pub within : (limit : ℕ) (given s : PictureSize) → SizeWithin (max_width * max_height) given → size_within limit given ≡ Fits s → SizeWithin limit s
+  pub within : (limit : ℕ) (given s : PictureSize) → SizeWithin (max_width * max_height) given → size_within limit given ≡ Some s → SizeWithin limit s
 
 -- "The facts about picture size are shown for any limit up to 396"
 pub record SizeFacts (limit : ℕ) (s : PictureSize) : Type 0 where
@@ -115,24 +113,24 @@ FactsWithin = (limit : ℕ) (s : PictureSize) → limit ≤ max_macroblocks → 
 -- whole files; and sizes
 pub record WorkedLimits : Type 0 where
   -- 99 macroblocks pass, with 384 × 99 bytes; 100 pass only at 396
-  pub ninety-nine : file_start_of max_macroblocks_small (sized_file 11 9 type_i 0) 38016 0 0 ≡ HeaderRead (intra_header 11 9) 11
-  pub hundred : file_start_of max_macroblocks_small (sized_file 10 10 type_i 0) 38400 0 0 ≡ Refused MacroblockLimit 1
-  pub hundred-at-396 : file_start_of max_macroblocks (sized_file 10 10 type_i 0) 38400 0 0 ≡ HeaderRead (intra_header 10 10) 11
+  pub ninety-nine : file_start_of max_macroblocks_small (sized_file 11 9 type_i 0) 38016 0 0 ≡ Ok (record { header = intra_header 11 9; end = 11 })
+  pub hundred : file_start_of max_macroblocks_small (sized_file 10 10 type_i 0) 38400 0 0 ≡ Err (record { refusal = MacroblockLimit; place = 1 })
+  pub hundred-at-396 : file_start_of max_macroblocks (sized_file 10 10 type_i 0) 38400 0 0 ≡ Ok (record { header = intra_header 10 10; end = 11 })
   -- before 19, whatever was lent
-  pub wrong-lengths : file_start_of max_macroblocks_small (sized_file 10 10 type_i 0) 0 1 2 ≡ Refused MacroblockLimit 1
-  pub wrong-lengths-at-396 : file_start_of max_macroblocks (sized_file 10 10 type_i 0) 0 1 2 ≡ Refused OutputLength 1
+  pub wrong-lengths : file_start_of max_macroblocks_small (sized_file 10 10 type_i 0) 0 1 2 ≡ Err (record { refusal = MacroblockLimit; place = 1 })
+  pub wrong-lengths-at-396 : file_start_of max_macroblocks (sized_file 10 10 type_i 0) 0 1 2 ≡ Err (record { refusal = OutputLength; place = 1 })
   -- after 8: a size beyond the format's limits, and an f_code of 0 in a P picture
-  pub too_large : file_start_of max_macroblocks_small (sized_file 48 9 type_i 0) 0 0 0 ≡ Refused HeaderField 1
-  pub no-f-code : file_start_of max_macroblocks_small (sized_file 10 10 type_p 0) 0 0 0 ≡ Refused HeaderField 1
+  pub too_large : file_start_of max_macroblocks_small (sized_file 48 9 type_i 0) 0 0 0 ≡ Err (record { refusal = HeaderField; place = 1 })
+  pub no-f-code : file_start_of max_macroblocks_small (sized_file 10 10 type_p 0) 0 0 0 ≡ Err (record { refusal = HeaderField; place = 1 })
   -- the files of demand 1 have the same answers with 99; files of 2 macroblocks have them with a limit of 2, and 27 with 1
   pub small-files : answers_within max_macroblocks_small cases ≡ expectations cases
   pub at-limit : answers_within 2 row_cases ≡ expectations row_cases
   pub beyond-limit : answers_within 1 row_cases ≡ expectations_beyond row_cases
   -- sizes that the constructors make or refuse
-  pub made : size_of 11 9 ≡ Fits (record { width = 11; height = 9 })
-  pub not_made : size_of 48 9 ≡ Beyond
-  pub within : size_within max_macroblocks_small (record { width = 11; height = 9 }) ≡ Fits (record { width = 11; height = 9 })
-  pub not_within : size_within max_macroblocks_small (record { width = 10; height = 10 }) ≡ Beyond
+  pub made : size_of 11 9 ≡ Some (record { width = 11; height = 9 })
+  pub not_made : size_of 48 9 ≡ None
+  pub within : size_within max_macroblocks_small (record { width = 11; height = 9 }) ≡ Some (record { width = 11; height = 9 })
+  pub not_within : size_within max_macroblocks_small (record { width = 10; height = 10 }) ≡ None
   -- a size within 99: its length, and the column and row of its last address
   pub size : SizeWithin max_macroblocks_small (record { width = 11; height = 9 })
   pub bytes : picture_bytes (record { width = 11; height = 9 }) ≡ 38016

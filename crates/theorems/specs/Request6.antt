@@ -6,7 +6,7 @@
 -- (`macroblock_rows`), a record (`plan_applied`), and the readers (`picture_within`, field `rows`). The definitions of the residues and of the picture's
 -- bytes do not mention it, and no refusal depends on it. The reader of a block's pairs marks each coefficient that is not 0 (`Marked`, in the crate
 -- decode_coefficients); the transform works the rows that have a mark, and counts them.
-use Rattle.std.specs.Prelude.{true, List, ◌∷◌, ◌++◌, ◌≡◌, ℕ, ◌-◌, ◌*◌, ◌≤◌, ℤ, pos, negsuc, length, replicate}
+use Rattle.std.specs.Prelude.{true, List, ◌∷◌, ◌++◌, ◌≡◌, ℕ, ◌-◌, ◌*◌, ◌≤◌, ℤ, pos, negsuc, length, replicate, Ok, Err}
 use Rattle.math.specs.Test.{count_below}
 use Rattle.refusals.specs.Refusal.{number_of}
 use Rattle.refusals.specs.declared.Refusal.{Refusal}
@@ -20,7 +20,6 @@ use Rattle.decode_idct.specs.Answer.{transform_number, transform_rows}
 use Rattle.decode_macroblock.specs.declared.compensation.Motion.{Motion}
 use Rattle.decode_macroblock.specs.Macroblock.{MadeMacroblock, predicted_only_from}
 use Rattle.decode_macroblock.specs.Rows.{macroblock_rows, rows_of}
-use Rattle.format3_header.specs.declared.file_start.FileStart.TheVariants as FileStart
 use Rattle.format3_picture.specs.Picture.{picture_within, symbols_of}
 use Rattle.format3_picture.specs.Reconstruction.{macroblocks_of}
 use Rattle.theorems_picture.specs.Applies.{Reached, Passing, file_start, Applies}
@@ -65,12 +64,12 @@ pub record NoneIfNotCoded : Type 0 where
 
 -- "the total over the macroblocks made"
 pub record TotalOverMade (limit : ℕ) (transform : List ℤ → ℕ → ℤ) (file forward backward output : List ℕ) : Type 0 where
-  pub sum : (h : Header) (end : ℕ) → file_start limit file forward backward output ≡ FileStart.HeaderRead h end → SumOverRecords limit transform file forward backward output h end
+  pub sum : (h : Header) (end : ℕ) → file_start limit file forward backward output ≡ Ok (record { header = h; end = end }) → SumOverRecords limit transform file forward backward output h end
   -- "On a refused picture it is the total over the macroblocks made": those that the records before the refused one made
   pub refused : (refusal : Refusal) (place : ℕ) (before : List MadeMacroblock) → Applies limit file forward backward output refusal place before
       → (picture_within limit transform file forward backward output).rows ≡ rows_of before
   -- none is made before a header is accepted
-  pub no_header : (refusal : Refusal) (place : ℕ) → file_start limit file forward backward output ≡ FileStart.Refused refusal place
+  pub no_header : (refusal : Refusal) (place : ℕ) → file_start limit file forward backward output ≡ Err (record { refusal = refusal; place = place })
       → (picture_within limit transform file forward backward output).rows ≡ 0
   pub most : (picture_within limit transform file forward backward output).rows ≤ 48 * (picture_within limit transform file forward backward output).made
 

@@ -1,10 +1,10 @@
 -- Sentences of document 01 that follow from its rules: "Coefficients" and "Vectors and prediction".
-use Rattle.std.specs.Prelude.{Bool, true, ◌≡◌, ℕ, ◌+◌, ◌*◌, ◌/◌, ◌%◌, ◌≤◌, ◌<◌, ℤ, pos, negsuc, ◌+ℤ◌, ◌≤ℤ◌}
+use Rattle.std.specs.Prelude.{Bool, true, ◌≡◌, List, ℕ, ◌+◌, ◌*◌, ◌/◌, ◌%◌, ◌≤◌, ◌<◌, ℤ, pos, negsuc, ◌+ℤ◌, ◌≤ℤ◌}
 use Rattle.math.specs.Bound.{Between}
 use Rattle.decode_coefficients.specs.Scaling.{coefficient_of}
 use Rattle.decode_vectors.specs.Vector.{f_of, vector_of, past_in_range, vector_entry_in_range, whole_pels, odd_bit, chroma_vector}
 use Rattle.decode_prediction.specs.Fit.{signed_coordinate, half_pel_coordinate, vector_fits}
-use Rattle.decode_prediction.specs.Prediction.{mean_of}
+use Rattle.decode_prediction.specs.Prediction.{mean_of, copied_pels, prediction}
 
 -- "A level of 0 gives 0"
 abbrev pub ZeroGivesZero : Type 0
@@ -41,3 +41,7 @@ pub record Nearest (n sum mean : ℕ) : Type 0 where
 
 abbrev pub MeansNearest : Type 0
 MeansNearest = (n sum : ℕ) → 0 < n → Nearest n sum (mean_of n sum)
+
+-- "Luma takes the floor of half and the odd bit": where both odd bits are 0, at whole pels, a prediction is a copy
+abbrev pub WholePelsCopied : Type 0
+WholePelsCopied = (plane : List ℕ) (stride px py : ℕ) → px % 2 + py % 2 ≡ 0 → copied_pels 8 plane stride px py ≡ prediction plane stride px py

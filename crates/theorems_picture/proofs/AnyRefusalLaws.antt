@@ -4,24 +4,24 @@ use mathlib.Core.List.{List}
 use mathlib.Core.Path.{◌≡◌, refl}
 use Prim.Native.Nat.{ℕ, zero, suc, ◌+◌}
 use native.Mathlib.Omega.{arith}
-use lib.Dec.{T, leb}
+use lib.Dec.{leb}
 use lib.IntN.{ℤ}
 use lib.ListN.{length}
-use Rattle.refusals.specs.Refusal.{accepted, number_of}
+use Rattle.std.specs.Prelude.{Result, Ok, Err, ⊤}
+use Rattle.refusals.specs.Refusal.{accepted, number_of, number_in}
 use Rattle.refusals.specs.declared.Refusal.{Refusal}
-use Rattle.refusals.specs.declared.Refusal.TheVariants.{FileEnds, ForwardVectorOutside, BackwardVectorOutside}
+use Rattle.refusals.specs.declared.Refusal.TheVariants.{ForwardVectorOutside, BackwardVectorOutside}
 use Rattle.refusals.proofs.Laws.{never-accepted}
 use Rattle.symbols.specs.declared.header.Header.{Header}
 use Rattle.decode_coefficients.specs.Matrices.{default_matrices}
 use Rattle.decode_coefficients.specs.declared.matrices.Matrices.{Matrices}
 use Rattle.decode_macroblock.specs.Compensation.{references}
-use Rattle.decode_macroblock.specs.declared.fit.Fit.{Fit}
-use Rattle.decode_macroblock.specs.declared.fit.Fit.TheVariants.{Fits, Forward, Backward}
-use Rattle.format3_records.specs.declared.verdict.Verdict.{Verdict}
-use Rattle.format3_records.specs.declared.verdict.Verdict.TheVariants.{Passed, Refused}
+use Rattle.decode_macroblock.specs.declared.fit.Direction.{Direction}
+use Rattle.decode_macroblock.specs.declared.fit.Direction.TheVariants.{Forward, Backward}
 use Rattle.format3_header.specs.declared.file_start.FileStart.{FileStart}
+use Rattle.format3_header.specs.declared.file_start.RefusedAt.{RefusedAt}
 use Rattle.format3_picture.specs.MacroblockRecord.{refused_record, record_fit, plan_applied_refusing}
-use Rattle.format3_picture.specs.Picture.{Picture, is_complete, Answered, refused_at, end_answer, answered_by, followed, records_from, records_from_refusing, symbols_in, with_output, picture_within, picture_refusing}
+use Rattle.format3_picture.specs.Picture.{Picture, is_complete, end_verdict, Answered, refused_at, end_answer, answered_by, followed, records_from, records_from_refusing, symbols_in, with_output, picture_within, picture_refusing}
 use Rattle.format3_picture.specs.Reconstruction.{plan_for, reconstruction}
 use Rattle.format3_picture.specs.State.{start_state}
 use Rattle.format3_picture.specs.Step.{RecordStep, step_at, step_at_refusing}
@@ -32,13 +32,15 @@ use Rattle.theorems_picture.proofs.DecidingLaws.{NotByVector, MacroblockRead, st
 use Rattle.theorems_picture.proofs.FileStartLaws.{StartListed, start-listed}
 
 -- ---- a verdict that no vector causes is not 23
-abbrev NotBackward : Verdict → Type 0
-NotBackward Passed = T true
-NotBackward (Refused refusal) = number_of refusal ≡ number_of BackwardVectorOutside → ⊥
+abbrev NotBackward : Result ⊤ Refusal → Type 0
+NotBackward v = number_in v ≡ number_of BackwardVectorOutside → ⊥
 
-not-backward : (v : Verdict) → NotByVector v → NotBackward v
-not-backward Passed t = tt
-not-backward (Refused refusal) t = λ e. omega (arith, t.is-listed)
+accepted-not-backward : NotBackward (Ok tt)
+accepted-not-backward e = omega (arith, e)
+
+not-backward : (v : Result ⊤ Refusal) → NotByVector v → NotBackward v
+not-backward (Ok passed) t = accepted-not-backward
+not-backward (Err refusal) t = λ e. omega (arith, t.is-listed)
 
 module _ (other : Refusal) where
   -- ---- a record: the same step, or a backward misfit with the one refusal and the other
@@ -52,11 +54,11 @@ module _ (other : Refusal) where
     unfolding plan_applied_refusing
     vectors-alike x = go (record_fit s.header.size (plan_for s.header s.next s.slice x.symbols)) refl
       where
-        go : (f : Fit) → record_fit s.header.size (plan_for s.header s.next s.slice x.symbols) ≡ f
+        go : (f : Result ⊤ Direction) → record_fit s.header.size (plan_for s.header s.next s.slice x.symbols) ≡ f
             → StepAlike s (step_by_vectors file at s q BackwardVectorOutside x) (step_by_vectors file at s q other x)
-        go Fits e = rw e (same _ tt)
-        go Forward e = rw e (same (record { applied = refused_record ForwardVectorOutside s; matrices = q; end = x.start + x.count }) (λ n. omega arith))
-        go Backward e = rw e (differ q (x.start + x.count))
+        go (Ok fits) e = rw e (same _ accepted-not-backward)
+        go (Err Forward) e = rw e (same (record { applied = refused_record ForwardVectorOutside s; matrices = q; end = x.start + x.count }) (λ n. omega arith))
+        go (Err Backward) e = rw e (differ q (x.start + x.count))
 
     step-alike : StepAlike s (step_at file at s q) (step_at_refusing other file at s q)
     step-alike = go (decided-by file at s q)
@@ -67,7 +69,7 @@ module _ (other : Refusal) where
 
   -- ---- the records from an offset on
   data AnsweredAlike : Answered → Answered → Type 0 where
-    same : (a : Answered) → (a.answer.number ≡ number_of BackwardVectorOutside → ⊥) → AnsweredAlike a a
+    same : (a : Answered) → NotBackward a.answer.verdict → AnsweredAlike a a
     differ : (place made rows : ℕ) (g : Gathered)
         → AnsweredAlike (record { answer = refused_at BackwardVectorOutside place made rows; gathered = g }) (record { answer = refused_at other place made rows; gathered = g })
 
@@ -79,7 +81,7 @@ module _ (other : Refusal) where
   end-alike : (n : ℕ) (s : PictureState) (q : Matrices) → AnsweredAlike (answered_by (end_answer n s) q) (answered_by (end_answer n s) q)
   end-alike n s q = same _ (go (is_complete s.turn))
     where
-      go : (complete : Bool) → cond complete accepted (number_of FileEnds) ≡ number_of BackwardVectorOutside → ⊥
+      go : (complete : Bool) → NotBackward (end_verdict complete)
       go true e = omega arith
       go false e = omega arith
 
@@ -91,10 +93,10 @@ module _ (other : Refusal) where
       (followed u.applied.verdict (λ refusal. answered_by (refused_at refusal at s.made s.rows) q) symbol (y u))
   follow-alike at s q symbol (same t not) x y later = go t.applied.verdict not (later t)
     where
-      go : (v : Verdict) → NotBackward v → AnsweredAlike (x t) (y t)
+      go : (v : Result ⊤ Refusal) → NotBackward v → AnsweredAlike (x t) (y t)
           → AnsweredAlike (followed v (λ refusal. answered_by (refused_at refusal at s.made s.rows) q) symbol (x t)) (followed v (λ refusal. answered_by (refused_at refusal at s.made s.rows) q) symbol (y t))
-      go Passed n rest = front-alike symbol rest
-      go (Refused refusal) n rest = same _ n
+      go (Ok passed) n rest = front-alike symbol rest
+      go (Err refusal) n rest = same _ n
   follow-alike at s q symbol (differ after end) x y later = differ at s.made s.rows (none_gathered q)
 
   records-alike : (file : List ℕ) (n at : ℕ) (s : PictureState) (q : Matrices) → AnsweredAlike (records_from file n at s q) (records_from_refusing other file n at s q)
@@ -129,9 +131,9 @@ module _ (other : Refusal) where
     unfolding picture_refusing
     picture-alike = go (file_start limit file forward backward output) refl (start-listed limit file (length output) (length forward) (length backward))
       where
-        go : (x : FileStart) → file_start limit file forward backward output ≡ x → StartListed limit file (file_start limit file forward backward output) → PictureAlike (picture_within limit transform file forward backward output) (picture_refusing other limit transform file forward backward output)
-        go (FileStart.Refused refusal place) e l = let few = rw e at l in rw e (same (with_output (refused_at refusal place 0 0) output) few.not-backward)
-        go (FileStart.HeaderRead h end) e l = rw e (drawn-alike h (records-alike file (length file) end (start_state h) default_matrices))
+        go : (x : Result FileStart RefusedAt) → file_start limit file forward backward output ≡ x → StartListed limit file (file_start limit file forward backward output) → PictureAlike (picture_within limit transform file forward backward output) (picture_refusing other limit transform file forward backward output)
+        go (Err stop) e l = let few = rw e at l in rw e (same (with_output (refused_at stop.refusal stop.place 0 0) output) few.not-backward)
+        go (Ok start) e l = rw e (drawn-alike start.header (records-alike file (length file) start.end (start_state start.header) default_matrices))
 
   -- ---- what that means for each part
   pub counted-alike : {p o : Picture} → PictureAlike p o → p.number ≡ number_of BackwardVectorOutside → o.number ≡ number_of other

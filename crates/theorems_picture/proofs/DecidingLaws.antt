@@ -7,6 +7,7 @@ use Prim.Native.Nat.{ℕ, ◌+◌}
 use native.Mathlib.Omega.{arith}
 use lib.Dec.{T, eqb, eqb→eq}
 use lib.ListN.{take, drop}
+use Rattle.std.specs.Prelude.{Result, Ok, Err, ⊤}
 use Rattle.refusals.specs.declared.Refusal.{Refusal}
 use Rattle.refusals.specs.declared.Refusal.TheVariants.{OutOfTurn, ForwardVectorOutside, BackwardVectorOutside}
 use Rattle.symbols.specs.Guard.{require◌else◌then◌}
@@ -20,14 +21,12 @@ use Rattle.symbols.proofs.Parsed.{All, here, none, all_then, all_any}
 use Rattle.symbols.proofs.Refusals.{OfReading, refused-by}
 use Rattle.decode_coefficients.specs.Dc.{starting_dc_pasts}
 use Rattle.decode_coefficients.specs.declared.matrices.Matrices.{Matrices}
-use Rattle.decode_macroblock.specs.declared.fit.Fit.{Fit}
-use Rattle.decode_macroblock.specs.declared.fit.Fit.TheVariants.{Fits, Forward, Backward}
+use Rattle.decode_macroblock.specs.declared.fit.Direction.{Direction}
+use Rattle.decode_macroblock.specs.declared.fit.Direction.TheVariants.{Forward, Backward}
 use Rattle.format3_records.specs.Record.{matrix_kind, slice_kind, macroblock_kind, record_of}
 use Rattle.format3_records.specs.Turn.{in_turn}
 use Rattle.format3_records.specs.declared.record.Record.{Record}
 use Rattle.format3_records.specs.declared.turn.Turn.{Turn}
-use Rattle.format3_records.specs.declared.verdict.Verdict.{Verdict}
-use Rattle.format3_records.specs.declared.verdict.Verdict.TheVariants.{Passed, Refused}
 use Rattle.format3_matrices.specs.Matrix.{matrix_verdict}
 use Rattle.format3_macroblock.specs.Blocks.{six_blocks_of}
 use Rattle.format3_macroblock.specs.Slice.{slice_of}
@@ -42,18 +41,18 @@ use Rattle.theorems_picture.proofs.FileStartLaws.{NeitherEndNorVector, neither, 
 use Rattle.theorems_picture.proofs.RefusalLaws.{of-slice, of-macroblock, VerdictOf, of-matrix, FoundOf, of-found}
 
 -- ---- verdicts that no vector causes
-abbrev pub NotByVector : Verdict → Type 0
-NotByVector Passed = T true
-NotByVector (Refused refusal) = NeitherEndNorVector refusal
+abbrev pub NotByVector : Result ⊤ Refusal → Type 0
+NotByVector (Ok passed) = T true
+NotByVector (Err refusal) = NeitherEndNorVector refusal
 
 module _ (s : PictureState) where
   matrix-reads : (body : List ℕ) → NotByVector (matrix_applied s body).verdict
   unfolding matrix_applied
   matrix-reads body = go (matrix_verdict body s.loaded) refl (of-matrix body s.loaded)
     where
-      go : (v : Verdict) → matrix_verdict body s.loaded ≡ v → VerdictOf v → NotByVector (matrix_applied s body).verdict
-      go Passed e t = rw e tt
-      go (Refused refusal) e t = rw e (of-reading refusal t)
+      go : (v : Result ⊤ Refusal) → matrix_verdict body s.loaded ≡ v → VerdictOf v → NotByVector (matrix_applied s body).verdict
+      go (Ok passed) e t = rw e tt
+      go (Err refusal) e t = rw e (of-reading refusal t)
 
   slice-reads : (x : Parsed SliceHeader) → OfReading x → NotByVector (slice_started_from s x).verdict
   unfolding slice_started
@@ -78,7 +77,7 @@ module _ (file : List ℕ) (at : ℕ) (s : PictureState) (q : Matrices) where
     pub kind : ℕ
     pub start : ℕ
     pub count : ℕ
-    pub found : record_of file at ≡ Record.Found kind start count
+    pub found : record_of file at ≡ Ok (record { kind = kind; start = start; length = count })
     pub in-turn : in_turn s.turn kind ≡ true
     pub no-matrix : eqb kind matrix_kind ≡ false
     pub no-slice : eqb kind slice_kind ≡ false
@@ -97,7 +96,7 @@ module _ (file : List ℕ) (at : ℕ) (s : PictureState) (q : Matrices) where
     reading : (t : RecordStep) → NotByVector t.applied.verdict → ((refusal : Refusal) → step_at_refusing refusal file at s q ≡ t) → DecidedBy
     vectors : (x : MacroblockRead) → ((refusal : Refusal) → step_at_refusing refusal file at s q ≡ step_by_vectors refusal x) → DecidedBy
 
-  module _ {kind start n : ℕ} (found : record_of file at ≡ Record.Found kind start n) where
+  module _ {kind start n : ℕ} (found : record_of file at ≡ Ok (record { kind = kind; start = start; length = n })) where
     abbrev body : List ℕ
     body = take n (drop start file)
 
@@ -137,31 +136,31 @@ module _ (file : List ℕ) (at : ℕ) (s : PictureState) (q : Matrices) where
   pub decided-by : DecidedBy
   decided-by = go (record_of file at) refl (of-found file at)
     where
-      go : (r : Record) → record_of file at ≡ r → FoundOf r → DecidedBy
-      go (Record.Refused refusal) e t =
+      go : (r : Result Record Refusal) → record_of file at ≡ r → FoundOf r → DecidedBy
+      go (Err refusal) e t =
           reading (record { applied = refused_record refusal s; matrices = q; end = at }) (of-reading refusal t) (λ other. no_step other file at s q e)
-      go (Record.Found kind start n) e t = in-file e
+      go (Ok found) e t = in-file e
 
   -- ---- the verdict on the vectors of a macroblock
-  abbrev pub vector_verdict : Macroblock → Verdict
+  abbrev pub vector_verdict : Macroblock → Result ⊤ Refusal
   vector_verdict m = fit_verdict (record_fit s.header.size (plan_for s.header s.next s.slice m))
 
   plan-verdict : (m : Macroblock) → (plan_applied s (plan_for s.header s.next s.slice m) (coefficients_for q s.slice m)).verdict ≡ vector_verdict m
   unfolding plan_applied_refusing
   plan-verdict m = go (record_fit s.header.size (plan_for s.header s.next s.slice m)) refl
     where
-      go : (f : Fit) → record_fit s.header.size (plan_for s.header s.next s.slice m) ≡ f
+      go : (f : Result ⊤ Direction) → record_fit s.header.size (plan_for s.header s.next s.slice m) ≡ f
           → (plan_applied s (plan_for s.header s.next s.slice m) (coefficients_for q s.slice m)).verdict ≡ vector_verdict m
-      go Fits e = rw e
-      go Forward e = rw e
-      go Backward e = rw e
+      go (Ok fits) e = rw e
+      go (Err Forward) e = rw e
+      go (Err Backward) e = rw e
 
   -- ---- a refused record: it can't be read, or a vector doesn't fit
   pub record RefusedByVector (refusal : Refusal) : Type 0 where
     pub read : MacroblockRead
-    pub verdict : vector_verdict read.symbols ≡ Refused refusal
+    pub verdict : vector_verdict read.symbols ≡ Err refusal
 
-  pub why-refused : (refusal : Refusal) → (step_at file at s q).applied.verdict ≡ Refused refusal → NeitherEndNorVector refusal ⊎ RefusedByVector refusal
+  pub why-refused : (refusal : Refusal) → (step_at file at s q).applied.verdict ≡ Err refusal → NeitherEndNorVector refusal ⊎ RefusedByVector refusal
   why-refused refusal v = go decided-by
     where
       go : DecidedBy → NeitherEndNorVector refusal ⊎ RefusedByVector refusal
@@ -172,7 +171,7 @@ module _ (file : List ℕ) (at : ℕ) (s : PictureState) (q : Matrices) where
       })
 
   -- a macroblock record in turn whose symbols are legal: its vectors decide
-  pub vectors-decide : {start n : ℕ} {m : Macroblock} → record_of file at ≡ Record.Found macroblock_kind start n → in_turn s.turn macroblock_kind ≡ true
+  pub vectors-decide : {start n : ℕ} {m : Macroblock} → record_of file at ≡ Ok (record { kind = macroblock_kind; start = start; length = n }) → in_turn s.turn macroblock_kind ≡ true
       → macroblock_of (context_of s) (take n (drop start file)) ≡ parsed m [] → (step_at file at s q).applied.verdict ≡ vector_verdict m
   unfolding record_applied_refusing require◌else◌then◌
   vectors-decide {start} {n} {m} found turn legal =
@@ -193,10 +192,10 @@ module _ (file : List ℕ) (at : ℕ) (s : PictureState) (q : Matrices) where
 abbrev pub OfVector : Refusal → Type 0
 OfVector refusal = (refusal ≡ ForwardVectorOutside) ⊎ (refusal ≡ BackwardVectorOutside)
 
-misfit-of-vector : (f : Fit) (refusal : Refusal) → fit_verdict f ≡ Refused refusal → OfVector refusal
-misfit-of-vector Fits refusal e = let z : ◌≡◌ {A = ℕ} 0 1 = cc in absurd (omega arith)
-misfit-of-vector Forward refusal e = inl cc
-misfit-of-vector Backward refusal e = inr cc
+misfit-of-vector : (f : Result ⊤ Direction) (refusal : Refusal) → fit_verdict f ≡ Err refusal → OfVector refusal
+misfit-of-vector (Ok fits) refusal e = let z : ◌≡◌ {A = ℕ} 0 1 = cc in absurd (omega arith)
+misfit-of-vector (Err Forward) refusal e = inl cc
+misfit-of-vector (Err Backward) refusal e = inr cc
 
 pub refused-of : {file : List ℕ} {at : ℕ} {s : PictureState} {q : Matrices} {refusal : Refusal} → RefusedByVector file at s q refusal → OfVector refusal
 refused-of {file} {at} {s} {q} {refusal} r = misfit-of-vector (record_fit s.header.size (plan_for s.header s.next s.slice r.read.symbols)) refusal r.verdict

@@ -1,5 +1,5 @@
 -- Demand 1 of a picture: what the lent output holds, and the numbers that are given. Assumes nothing.
-use mathlib.Core.Bool.{Bool, true, false, cond}
+use mathlib.Core.Bool.{Bool, true, false}
 use mathlib.Core.List.{List}
 use mathlib.Core.Logic.{◌⊎◌, inl, inr}
 use mathlib.Core.Path.{◌≡◌, refl, sym, ap, ◌∙◌, subst}
@@ -8,9 +8,10 @@ use native.Mathlib.Omega.{arith}
 use lib.Dec.{lit≤}
 use lib.IntN.{ℤ}
 use lib.ListN.{length, get_or}
+use Rattle.std.specs.Prelude.{Result, Ok, Err}
 use Rattle.math.specs.Each.{Each}
 use Rattle.math.proofs.Each.{each_map}
-use Rattle.refusals.specs.Refusal.{accepted, number_of}
+use Rattle.refusals.specs.Refusal.{number_of, number_in}
 use Rattle.refusals.specs.declared.Refusal.{Refusal}
 use Rattle.refusals.specs.declared.Refusal.TheVariants.{FileEnds, BackwardVectorOutside, MacroblockLimit}
 use Rattle.symbols.specs.Pattern.{is_coded}
@@ -21,9 +22,9 @@ use Rattle.decode_macroblock.specs.Byte.{byte_of}
 use Rattle.decode_macroblock.specs.Compensation.{references}
 use Rattle.decode_macroblock.specs.Macroblock.{MadeMacroblock, with_macroblocks, InOrder}
 use Rattle.decode_macroblock.specs.Owner.{owner_of}
-use Rattle.format3_records.specs.declared.verdict.Verdict.TheVariants.{Refused}
 use Rattle.format3_header.specs.declared.file_start.FileStart.{FileStart}
-use Rattle.format3_picture.specs.Picture.{Picture, is_complete, with_output, symbols_of, picture_within}
+use Rattle.format3_header.specs.declared.file_start.RefusedAt.{RefusedAt}
+use Rattle.format3_picture.specs.Picture.{Picture, is_complete, end_verdict, with_output, symbols_of, picture_within}
 use Rattle.format3_picture.specs.Reconstruction.{macroblocks_of}
 use Rattle.format3_picture.proofs.PictureLaws.{no_header, header-read-is, header-read-byte, header-read-long}
 use Rattle.format3_picture.proofs.StartLaws.{Started, header_read}
@@ -39,7 +40,7 @@ abbrev pub Listed : ℕ → ℕ → Type 0
 Listed limit n = (n ≤ 21) ⊎ (n ≡ number_of BackwardVectorOutside) ⊎ ((n ≡ number_of MacroblockLimit) × (limit < max_macroblocks))
 
 -- a record is refused by a listed refusal that is not 7
-module _ (file : List ℕ) (r : Reached) {refusal : Refusal} (v : verdict_at file r ≡ Refused refusal) where
+module _ (file : List ℕ) (r : Reached) {refusal : Refusal} (v : verdict_at file r ≡ Err refusal) where
   why : NeitherEndNorVector refusal ⊎ OfVector refusal
   why = go (why-refused file r.offset r.state r.matrices refusal v)
     where
@@ -68,7 +69,7 @@ module _ (limit : ℕ) (transform : List ℤ → ℕ → ℤ) (file forward back
   picture = picture_within limit transform file forward backward output
 
   -- ---- a picture whose header is read, at the record that is refused or at the file's end
-  module _ {h : Header} {end : ℕ} (e : file_start limit file forward backward output ≡ FileStart.HeaderRead h end) where
+  module _ {h : Header} {end : ℕ} (e : file_start limit file forward backward output ≡ Ok (record { header = h; end = end })) where
     pub start : Started limit file forward backward output h end
     start = header_read limit file forward backward output e
 
@@ -98,11 +99,11 @@ module _ (limit : ℕ) (transform : List ℤ → ℕ → ℤ) (file forward back
       stopped-listed : Stop file h end r → Listed limit picture.number
       stopped-listed s = rw (stopped-is s) (by-stop s)
         where
-          by-stop : (x : Stop file h end r) → Listed limit (answer_at file h end x).number
+          by-stop : (x : Stop file h end r) → Listed limit (number_in (answer_at file h end x).verdict)
           by-stop (at-record inside refusal v) = record-listed file r v limit
           by-stop (at-end past) = go (is_complete r.state.turn)
             where
-              go : (complete : Bool) → Listed limit (cond complete accepted (number_of FileEnds))
+              go : (complete : Bool) → Listed limit (number_in (end_verdict complete))
               go true = inl (lit≤ tt)
               go false = inl (lit≤ tt)
 
@@ -130,17 +131,17 @@ module _ (limit : ℕ) (transform : List ℤ → ℕ → ℤ) (file forward back
         rw (stops file h end s.passing s.stop).macroblocks
         (each_map (λ m range block coded. record { each = λ k low. (range.all block).all k }) s.reached.macroblocks (stands_at s.passing).in-range)
 
-  keeps : (x : FileStart) → file_start limit file forward backward output ≡ x → length picture.output ≡ length output
-  keeps (FileStart.Refused refusal place) e = rw (no_header limit transform file forward backward output e)
-  keeps (FileStart.HeaderRead h end) e = header-read-long limit transform file forward backward output e
+  keeps : (x : Result FileStart RefusedAt) → file_start limit file forward backward output ≡ x → length picture.output ≡ length output
+  keeps (Err stop) e = rw (no_header limit transform file forward backward output e)
+  keeps (Ok read) e = header-read-long limit transform file forward backward output e
 
-  listed : (x : FileStart) → file_start limit file forward backward output ≡ x → StartListed limit file x → Listed limit picture.number
-  listed (FileStart.Refused refusal place) e p = rw (no_header limit transform file forward backward output e) (go p.is-listed)
+  listed : (x : Result FileStart RefusedAt) → file_start limit file forward backward output ≡ x → StartListed limit file x → Listed limit picture.number
+  listed (Err stop) e p = rw (no_header limit transform file forward backward output e) (go p.is-listed)
     where
-      go : (number_of refusal ≤ 21) ⊎ ((refusal ≡ MacroblockLimit) × (limit < max_macroblocks)) → Listed limit (number_of refusal)
+      go : (number_of stop.refusal ≤ 21) ⊎ ((stop.refusal ≡ MacroblockLimit) × (limit < max_macroblocks)) → Listed limit (number_of stop.refusal)
       go (inl few) = inl few
       go (inr (same, less)) = inr (inr (ap number_of same, less))
-  listed (FileStart.HeaderRead h end) e p = header-read-listed e
+  listed (Ok read) e p = header-read-listed e
 
   -- ---- the lent memory keeps its length, and the numbers are 0 to 21, 23 and 27
   pub keeps-length : length picture.output ≡ length output
@@ -152,16 +153,14 @@ module _ (limit : ℕ) (transform : List ℤ → ℕ → ℤ) (file forward back
   -- ---- a refusal applies
   -- the macroblocks of the records before the refused one are those of the symbols
   pub before-of-symbols : {refusal : Refusal} {place : ℕ} {before : List MadeMacroblock} → Applies limit file forward backward output refusal place before
-      → (h : Header) (end : ℕ) → file_start limit file forward backward output ≡ FileStart.HeaderRead h end → before ≡ macroblocks_of h (symbols_of file h end)
+      → (h : Header) (end : ℕ) → file_start limit file forward backward output ≡ Ok (record { header = h; end = end }) → before ≡ macroblocks_of h (symbols_of file h end)
   before-of-symbols (to_start refusal place e) g start other = let z : ◌≡◌ {A = ℕ} 0 1 = cc in absurd (omega arith)
   before-of-symbols (to-record h end e r passing inside refusal v) g start other =
-      let same : ◌≡◌ {A = Header} h g = cc in
-      let at : ◌≡◌ {A = ℕ} end start = cc in
-      rw (sym same, sym at) (sym (stops file h end passing (at-record inside refusal v)).macroblocks)
+      let same : ◌≡◌ {A = FileStart} (record { header = h; end = end }) (record { header = g; end = start }) = cc in
+      rw (sym (ap (λ (s : FileStart). s.header) same), sym (ap (λ (s : FileStart). s.end) same)) (sym (stops file h end passing (at-record inside refusal v)).macroblocks)
   before-of-symbols (to_end h end e r passing past missing) g start other =
-      let same : ◌≡◌ {A = Header} h g = cc in
-      let at : ◌≡◌ {A = ℕ} end start = cc in
-      rw (sym same, sym at) (sym (stops file h end passing (at-end past)).macroblocks)
+      let same : ◌≡◌ {A = FileStart} (record { header = h; end = end }) (record { header = g; end = start }) = cc in
+      rw (sym (ap (λ (s : FileStart). s.header) same), sym (ap (λ (s : FileStart). s.end) same)) (sym (stops file h end passing (at-end past)).macroblocks)
 
   pub before-in-order : {refusal : Refusal} {place : ℕ} {before : List MadeMacroblock} → Applies limit file forward backward output refusal place before → InOrder 0 before (length before)
   before-in-order (to_start refusal place e) = refl
@@ -170,17 +169,17 @@ module _ (limit : ℕ) (transform : List ℤ → ℕ → ℤ) (file forward back
 
   -- each of their bytes
   pub before-own : {refusal : Refusal} {place : ℕ} {before : List MadeMacroblock} → Applies limit file forward backward output refusal place before
-      → (h : Header) (end : ℕ) → file_start limit file forward backward output ≡ FileStart.HeaderRead h end
+      → (h : Header) (end : ℕ) → file_start limit file forward backward output ≡ Ok (record { header = h; end = end })
       → Each (λ m. (i : ℕ) → i < length output → owner_of h.size i ≡ m.address → get_or picture.output i 0 ≡ byte_of transform (references forward backward) h.size m i) before
   before-own a h end e = rw (before-of-symbols a h end e) (symbols-own e)
 
   -- every other byte
   pub before-others : {refusal : Refusal} {place : ℕ} {before : List MadeMacroblock} → Applies limit file forward backward output refusal place before
       → (i : ℕ) → i < length output
-      → ((h : Header) (end : ℕ) → file_start limit file forward backward output ≡ FileStart.HeaderRead h end → length before ≤ owner_of h.size i)
+      → ((h : Header) (end : ℕ) → file_start limit file forward backward output ≡ Ok (record { header = h; end = end }) → length before ≤ owner_of h.size i)
       → get_or picture.output i 0 ≡ get_or output i 0
   before-others {before = before} a i low none = go (file_start limit file forward backward output) refl
     where
-      go : (x : FileStart) → file_start limit file forward backward output ≡ x → get_or picture.output i 0 ≡ get_or output i 0
-      go (FileStart.Refused refusal place) e = rw (no_header limit transform file forward backward output e)
-      go (FileStart.HeaderRead h end) e = symbols-others e i low (subst (λ (l : List MadeMacroblock). length l ≤ owner_of h.size i) (before-of-symbols a h end e) (none h end e))
+      go : (x : Result FileStart RefusedAt) → file_start limit file forward backward output ≡ x → get_or picture.output i 0 ≡ get_or output i 0
+      go (Err stop) e = rw (no_header limit transform file forward backward output e)
+      go (Ok read) e = symbols-others e i low (subst (λ (l : List MadeMacroblock). length l ≤ owner_of read.header.size i) (before-of-symbols a read.header read.end e) (none read.header read.end e))

@@ -9,6 +9,7 @@ use native.Mathlib.Omega.{arith}
 use borrow.Author.Tests.{leb-true, leb-false}
 use lib.Dec.{T, leb, eqb, lit≤}
 use lib.ListN.{length, get_or, take, drop}
+use Rattle.std.specs.Prelude.{Result, Ok, Err, ⊤}
 use Rattle.refusals.specs.Refusal.{number_of}
 use Rattle.refusals.specs.declared.Refusal.{Refusal}
 use Rattle.refusals.specs.declared.Refusal.TheVariants.{FileEmpty, Version, FileEnds, ForwardVectorOutside, BackwardVectorOutside, MacroblockLimit}
@@ -17,17 +18,14 @@ use Rattle.symbols.specs.Guard.{require◌else◌then◌}
 use Rattle.symbols.specs.Header.{header_with}
 use Rattle.symbols.specs.Size.{max_macroblocks, macroblock_count}
 use Rattle.symbols.specs.declared.header.Header.{Header}
-use Rattle.symbols.specs.declared.header.HeaderAnswer.{HeaderAnswer}
-use Rattle.symbols.specs.declared.header.HeaderAnswer.TheVariants as Answer
 use Rattle.symbols.proofs.Guard.{require-cases, require-all}
 use Rattle.format3_records.specs.Record.{record_of}
 use Rattle.format3_records.specs.declared.record.Record.{Record}
-use Rattle.format3_records.specs.declared.verdict.Verdict.{Verdict}
-use Rattle.format3_records.specs.declared.verdict.Verdict.TheVariants.{Passed, Refused}
 use Rattle.format3_header.specs.Header.{header_of}
 use Rattle.format3_header.specs.Lengths.{caller_verdict}
-use Rattle.format3_header.specs.FileStart.{version, first_header, file_start_of}
+use Rattle.format3_header.specs.FileStart.{version, placed_at, first_record, first_header, file_start_of}
 use Rattle.format3_header.specs.declared.file_start.FileStart.{FileStart}
+use Rattle.format3_header.specs.declared.file_start.RefusedAt.{RefusedAt}
 use Rattle.format3_header.proofs.Laws.FileStart.{begun}
 use Rattle.format3_picture.proofs.CallerLaws.{CallerRefusal, RefusedByCaller, caller-refusal}
 use Rattle.theorems_picture.proofs.RefusalLaws.{FoundOf, of-found}
@@ -70,9 +68,9 @@ of-reading refusal t = go (leb 3 n) (leb n 6) (leb 9 n) (leb n 17) refl refl ref
     go false b c d e f g p = absurd p
 
 -- those of a header's body
-abbrev HeaderNeither : HeaderAnswer → Type 0
-HeaderNeither (Answer.Legal h) = T true
-HeaderNeither (Answer.Refused refusal) = NeitherEndNorVector refusal
+abbrev HeaderNeither : Result Header Refusal → Type 0
+HeaderNeither (Ok h) = T true
+HeaderNeither (Err refusal) = NeitherEndNorVector refusal
 
 header-neither : (body : List ℕ) → HeaderNeither (header_of body)
 unfolding header_of header_with
@@ -88,34 +86,46 @@ module _ (limit : ℕ) (file : List ℕ) where
     pub not-backward : number_of refusal ≡ number_of BackwardVectorOutside → ⊥
     pub at-end : number_of refusal ≡ number_of FileEnds → place ≡ length file
 
-  abbrev pub StartListed : FileStart → Type 0
-  StartListed (FileStart.HeaderRead h end) = T true
-  StartListed (FileStart.Refused refusal place) = ListedAt refusal place
+  abbrev pub StartListed : Result FileStart RefusedAt → Type 0
+  StartListed (Ok start) = T true
+  StartListed (Err stop) = ListedAt stop.refusal stop.place
 
   anywhere : {refusal : Refusal} {place : ℕ} → NeitherEndNorVector refusal → ListedAt refusal place
   anywhere o = record { is-listed = inl o.is-listed; not-forward = o.not-forward; not-backward = λ e. omega (arith, o.is-listed); at-end = λ e. absurd (o.not_end e) }
 
-  tests-listed : (rest : FileStart) → StartListed rest → StartListed (
-      require leb 1 (length file) else FileStart.Refused FileEmpty 0 then
-      require eqb (get_or file 0 0) version else FileStart.Refused Version 0 then
-      require leb 2 (length file) else FileStart.Refused FileEnds 1 then
+  tests-listed : (rest : Result FileStart RefusedAt) → StartListed rest → StartListed (
+      require leb 1 (length file) else Err (record { refusal = FileEmpty; place = 0 }) then
+      require eqb (get_or file 0 0) version else Err (record { refusal = Version; place = 0 }) then
+      require leb 2 (length file) else Err (record { refusal = FileEnds; place = 1 }) then
       rest)
   tests-listed rest p =
       require-cases StartListed _ _ _ (λ f. anywhere (neither _ tt)) λ some.
       require-cases StartListed _ _ _ (λ f. anywhere (neither _ tt)) λ same.
       require-cases StartListed _ _ _ (λ f. record { is-listed = inl (lit≤ tt); not-forward = λ e. omega arith; not-backward = λ e. omega arith; at-end = λ e. omega (arith, leb-true 1 (length file) some, leb-false 2 (length file) f) }) λ more. p
 
+  abbrev RecordNeither : Result FileStart Refusal → Type 0
+  RecordNeither (Ok start) = T true
+  RecordNeither (Err refusal) = NeitherEndNorVector refusal
+
+  record-neither : RecordNeither (first_record file)
+  unfolding first_record
+  record-neither = found (record_of file 1) refl (of-found file 1)
+    where
+      legal : (r : Record) → record_of file 1 ≡ Ok r → (a : Result Header Refusal) → header_of (take r.length (drop r.start file)) ≡ a → HeaderNeither a → RecordNeither (first_record file)
+      legal r e (Err refusal) l o = rw (e, l) (require-all RecordNeither _ _ _ (neither _ tt) λ turn. o)
+      legal r e (Ok h) l o = rw (e, l) (require-all RecordNeither _ _ _ (neither _ tt) λ turn. tt)
+
+      found : (r : Result Record Refusal) → record_of file 1 ≡ r → FoundOf r → RecordNeither (first_record file)
+      found (Err refusal) e t = rw e (of-reading refusal t)
+      found (Ok r) e t = legal r e (header_of (take r.length (drop r.start file))) refl (header-neither (take r.length (drop r.start file)))
+
+  placed : (x : Result FileStart Refusal) → RecordNeither x → StartListed (placed_at 1 x)
+  placed (Ok start) o = tt
+  placed (Err refusal) o = anywhere o
+
   first-listed : StartListed (first_header file)
   unfolding first_header
-  first-listed = found (record_of file 1) refl (of-found file 1)
-    where
-      legal : (kind start n : ℕ) → record_of file 1 ≡ Record.Found kind start n → (a : HeaderAnswer) → header_of (take n (drop start file)) ≡ a → HeaderNeither a → StartListed (first_header file)
-      legal kind start n e (Answer.Refused refusal) l o = rw (e, l) (tests-listed _ (require-all StartListed _ _ _ (anywhere (neither _ tt)) λ turn. anywhere o))
-      legal kind start n e (Answer.Legal h) l o = rw (e, l) (tests-listed _ (require-all StartListed _ _ _ (anywhere (neither _ tt)) λ turn. tt))
-
-      found : (r : Record) → record_of file 1 ≡ r → FoundOf r → StartListed (first_header file)
-      found (Record.Refused refusal) e t = rw e (tests-listed _ (anywhere (of-reading refusal t)))
-      found (Record.Found kind start n) e t = legal kind start n e (header_of (take n (drop start file))) refl (header-neither (take n (drop start file)))
+  first-listed = tests-listed _ (placed (first_record file) record-neither)
 
   -- the reader's limit, and the lengths of the lent buffers
   by-caller : {refusal : Refusal} (h : Header) → macroblock_count h.size ≤ max_macroblocks → CallerRefusal limit h refusal → ListedAt refusal 1
@@ -131,10 +141,11 @@ module _ (limit : ℕ) (file : List ℕ) where
   unfolding file_start_of
   start-listed output forward backward = go (first_header file) refl first-listed
     where
-      lent : (h : Header) (end : ℕ) → first_header file ≡ FileStart.HeaderRead h end → (v : Verdict) → caller_verdict limit h output forward backward ≡ v → RefusedByCaller limit h v → StartListed (file_start_of limit file output forward backward)
-      lent h end e Passed l o = rw (e, l) tt
-      lent h end e (Refused refusal) l o = rw (e, l) (by-caller h (begun file e).header.size.few o)
+      lent : (start : FileStart) → first_header file ≡ Ok start → (v : Result ⊤ Refusal) → caller_verdict limit start.header output forward backward ≡ v → RefusedByCaller limit start.header v
+          → StartListed (file_start_of limit file output forward backward)
+      lent start e (Ok passed) l o = rw (e, l) tt
+      lent start e (Err refusal) l o = rw (e, l) (by-caller start.header (begun file e).header.size.few o)
 
-      go : (x : FileStart) → first_header file ≡ x → StartListed x → StartListed (file_start_of limit file output forward backward)
-      go (FileStart.Refused refusal place) e p = rw e p
-      go (FileStart.HeaderRead h end) e p = lent h end e (caller_verdict limit h output forward backward) refl (caller-refusal limit h output forward backward)
+      go : (x : Result FileStart RefusedAt) → first_header file ≡ x → StartListed x → StartListed (file_start_of limit file output forward backward)
+      go (Err stop) e p = rw e p
+      go (Ok start) e p = lent start e (caller_verdict limit start.header output forward backward) refl (caller-refusal limit start.header output forward backward)

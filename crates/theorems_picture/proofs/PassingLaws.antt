@@ -7,6 +7,7 @@ use native.Mathlib.Decide.{dec_lt}
 use native.Mathlib.Omega.{arith}
 use lib.Dec.{eqb}
 use lib.ListN.{length}
+use Rattle.std.specs.Prelude.{Result, Ok, Err, ⊤}
 use Rattle.math.specs.Each.{Each}
 use Rattle.math.proofs.Each.{each_append}
 use Rattle.math.specs.Joined.{joined}
@@ -20,8 +21,6 @@ use Rattle.decode_macroblock.specs.Rows.{rows_of}
 use Rattle.decode_macroblock.proofs.OrderLaws.{order-both}
 use Rattle.decode_macroblock.proofs.RowLaws.{rows_append}
 use Rattle.format3_records.specs.declared.turn.Turn.TheVariants as Turn
-use Rattle.format3_records.specs.declared.verdict.Verdict.{Verdict}
-use Rattle.format3_records.specs.declared.verdict.Verdict.TheVariants.{Passed, Refused}
 use Rattle.format3_picture.specs.Reconstruction.{plan_for, macroblocks_made_from, macroblocks_of}
 use Rattle.format3_picture.specs.Picture.{Answered, refused_at, end_answer, answered_by, records_from, records_after, symbols_of}
 use Rattle.format3_picture.specs.Requires.{StateWithin}
@@ -68,7 +67,7 @@ module _ (file : List ℕ) (h : Header) (end : ℕ) where
       after true e = let z : ◌≡◌ {A = ℕ} 0 1 = cc in omega arith
       after false e = let z : ◌≡◌ {A = ℕ} 0 1 = cc in omega arith
 
-      go : {symbol : Symbol} {t : RecordStep} → StepCases r.matrices r.state symbol t → t.applied.verdict ≡ Passed → t.applied.state.turn ≡ Turn.Start → ⊥
+      go : {symbol : Symbol} {t : RecordStep} → StepCases r.matrices r.state symbol t → t.applied.verdict ≡ Ok tt → t.applied.state.turn ≡ Turn.Start → ⊥
       go (refuses refusal) v e = let z : ◌≡◌ {A = ℕ} 0 1 = cc in omega arith
       go (matrix-passes turn body) v e = let z : ◌≡◌ {A = ℕ} 0 1 = cc in omega arith
       go (slice-starts turn header legal start) v e = let z : ◌≡◌ {A = ℕ} 0 1 = cc in omega arith
@@ -92,7 +91,7 @@ module _ (file : List ℕ) (h : Header) (end : ℕ) where
 
   -- ---- a picture ends at a record that is refused, or where none is left
   pub data Stop (r : Reached) : Type 0 where
-    at-record : r.offset < length file → (refusal : Refusal) → verdict_at file r ≡ Refused refusal → Stop r
+    at-record : r.offset < length file → (refusal : Refusal) → verdict_at file r ≡ Err refusal → Stop r
     at-end : length file ≤ r.offset → Stop r
 
   abbrev pub answer_at : {r : Reached} → Stop r → Answer
@@ -125,9 +124,9 @@ module _ (file : List ℕ) (h : Header) (end : ℕ) where
     | no past ↦ record { reached = r; passing = passing; stop = at-end (omega arith) }
   ]
     where
-      go : (v : Verdict) → verdict_at file r ≡ v → r.offset < length file → (Passing file h end (after_record file r) → length file - (after_record file r).offset ≤ n → Stopped) → Stopped
-      go Passed e inside later = later (one_more passing e) (omega (arith, (step-ends file r.offset r.state r.matrices e).beyond))
-      go (Refused refusal) e inside later = record { reached = r; passing = passing; stop = at-record inside refusal e }
+      go : (v : Result ⊤ Refusal) → verdict_at file r ≡ v → r.offset < length file → (Passing file h end (after_record file r) → length file - (after_record file r).offset ≤ n → Stopped) → Stopped
+      go (Ok passed) e inside later = later (one_more passing e) (omega (arith, (step-ends file r.offset r.state r.matrices e).beyond))
+      go (Err refusal) e inside later = record { reached = r; passing = passing; stop = at-record inside refusal e }
 
   pub stopped : Stopped
   stopped = find (length file) _ none (omega arith)

@@ -4,6 +4,8 @@ use mathlib.Core.List.{List, [], ◌∷◌}
 use Prim.Native.Nat.{ℕ, zero, suc, ◌+◌}
 use lib.Dec.{T}
 use lib.IntN.{ℤ, pos}
+use Rattle.std.specs.Prelude.{Result, Ok, Err, ⊤}
+use Rattle.refusals.specs.declared.Refusal.{Refusal}
 use Rattle.refusals.specs.declared.Refusal.TheVariants as R
 use Rattle.refusals.proofs.Laws.{of_reading}
 use Rattle.symbols.specs.Parsed.{give, optional◌default◌read◌}
@@ -17,8 +19,6 @@ use Rattle.decode_coefficients.specs.declared.dc.DcPasts.{DcPasts}
 use Rattle.format3_records.specs.Field.{byte, two_bytes, signed_byte, signed_two_bytes}
 use Rattle.format3_records.specs.Record.{record_of}
 use Rattle.format3_records.specs.declared.record.Record.{Record}
-use Rattle.format3_records.specs.declared.verdict.Verdict.{Verdict}
-use Rattle.format3_records.specs.declared.verdict.Verdict.TheVariants.{Passed, Refused}
 use Rattle.format3_matrices.specs.Matrix.{matrix_verdict}
 use Rattle.format3_matrices.specs.declared.Loaded.{Loaded}
 use Rattle.format3_macroblock.specs.Pairs.{pair_of, pairs_of}
@@ -182,9 +182,9 @@ of-macroblock c body =
     legal
 
 -- ---- a matrix, and the record itself
-abbrev pub VerdictOf : Verdict → Type 0
-VerdictOf Passed = T true
-VerdictOf (Refused refusal) = T (of_reading refusal)
+abbrev pub VerdictOf : Result ⊤ Refusal → Type 0
+VerdictOf (Ok passed) = T true
+VerdictOf (Err refusal) = T (of_reading refusal)
 
 pub of-matrix : (body : List ℕ) (loaded : Loaded) → VerdictOf (matrix_verdict body loaded)
 unfolding matrix_verdict
@@ -196,9 +196,9 @@ of-matrix body loaded =
     require-all VerdictOf _ _ _ tt λ first.
     tt
 
-abbrev pub FoundOf : Record → Type 0
-FoundOf (Record.Found kind start n) = T true
-FoundOf (Record.Refused refusal) = T (of_reading refusal)
+abbrev pub FoundOf : Result Record Refusal → Type 0
+FoundOf (Ok found) = T true
+FoundOf (Err refusal) = T (of_reading refusal)
 
 pub of-found : (file : List ℕ) (at : ℕ) → FoundOf (record_of file at)
 unfolding record_of

@@ -2,6 +2,7 @@
 use mathlib.Core.List.{[]}
 use mathlib.Core.Path.{◌≡◌, refl}
 use lib.ListN.{replicate}
+use Rattle.std.specs.Prelude.{Ok}
 use Rattle.math.specs.Scatter.{scatter}
 use Rattle.math.specs.Tab.{tab}
 use Rattle.math.specs.Test.{all_below, count_below}
@@ -30,8 +31,7 @@ use Rattle.format3_records.specs.Field.{twos_complement, byte, two_bytes, signed
 use Rattle.format3_records.specs.Record.{record_length_at, kind_at, record_of}
 use Rattle.format3_header.specs.Header.{header_of}
 use Rattle.format3_header.specs.Lengths.{lent_lengths, caller_verdict}
-use Rattle.format3_header.specs.FileStart.{first_header, file_start_of, file_header_of}
-use Rattle.format3_header.specs.declared.file_start.FileStart.TheVariants.{HeaderRead}
+use Rattle.format3_header.specs.FileStart.{first_record, first_header, file_start_of, file_header_of}
 use Rattle.format3_matrices.specs.Matrix.{positive, matrix_verdict, raster_order}
 use Rattle.format3_macroblock.specs.Pairs.{legal_level, pair_of, pairs_of}
 use Rattle.format3_macroblock.specs.Blocks.{legal_difference, legal_dc, difference_of, legal_count, count_of, levels_of, block_of, blocks_of}
@@ -51,17 +51,17 @@ use Rattle.theorems_picture.specs.Worked.{vector_cases, cases, row_cases, answer
 -- rows worked, which have two macroblocks, with limits of 2 and 1
 pub worked-files : (answers cases ≡ expectations cases) × (answers vector_cases ≡ expectations vector_cases) × (answers_refusing ForwardVectorOutside max_macroblocks vector_cases ≡ expectations_as18 vector_cases) × (answers row_cases ≡ expectations row_cases)
     × (answers_within max_macroblocks_small cases ≡ expectations cases) × (answers_within 2 row_cases ≡ expectations row_cases) × (answers_within 1 row_cases ≡ expectations_beyond row_cases)
-unfolding symbol_at all_below require◌else◌then◌ vector_fits macroblock_fits vector_difference wrapped vector_of code_in_range residual_in_range twos_complement byte two_bytes signed_byte signed_two_bytes record_length_at kind_at record_of legal_size legal_codings legal_header header_with header_of lent_lengths caller_verdict first_header file_start_of positive matrix_verdict scale_of slice_fields_of slice_of legal_type legal_increment head_of vector_code_of vector_codes_of pairs_of legal_difference legal_dc difference_of legal_count count_of levels_of block_of dc_past_of with_dc_past is_coded blocks_of pattern_of macroblock_symbols starting_dc_pasts blocks_to_end_of macroblock_of vectors_of direction_fits fit_of first_misfit plan_of vector_pasts_before forward_after backward_after skip_motion vector_pasts_after predicts_forward predicts_backward own_motion next_vector_pasts record_fit plan_applied_refusing symbols_applied_refusing records_from_refusing picture_refusing matrix_applied slice_started record_applied_refusing step_at_refusing raster_order scatter pair_of legal_level first_position positioned_levels with_levels dc_block block_coefficients coefficients_from scaled coefficient_of scan index_of zigzag tab total rows_of macroblocks_of_plan is_zero_row rows_worked count_below
+unfolding symbol_at all_below require◌else◌then◌ vector_fits macroblock_fits vector_difference wrapped vector_of code_in_range residual_in_range twos_complement byte two_bytes signed_byte signed_two_bytes record_length_at kind_at record_of legal_size legal_codings legal_header header_with header_of lent_lengths caller_verdict first_record first_header file_start_of positive matrix_verdict scale_of slice_fields_of slice_of legal_type legal_increment head_of vector_code_of vector_codes_of pairs_of legal_difference legal_dc difference_of legal_count count_of levels_of block_of dc_past_of with_dc_past is_coded blocks_of pattern_of macroblock_symbols starting_dc_pasts blocks_to_end_of macroblock_of vectors_of direction_fits fit_of first_misfit plan_of vector_pasts_before forward_after backward_after skip_motion vector_pasts_after predicts_forward predicts_backward own_motion next_vector_pasts record_fit plan_applied_refusing symbols_applied_refusing records_from_refusing picture_refusing matrix_applied slice_started record_applied_refusing step_at_refusing raster_order scatter pair_of legal_level first_position positioned_levels with_levels dc_block block_coefficients coefficients_from scaled coefficient_of scan index_of zigzag tab total rows_of macroblocks_of_plan is_zero_row rows_worked count_below
 worked-files = (refl, refl, refl, refl, refl, refl, refl)
 
 pub two-slices-header : file_header_of (first_header two_slices) ≡ record { number = accepted; coding_type = type_i; width = 2; height = 1; records_start = 11 }
-unfolding require◌else◌then◌ record_length_at kind_at record_of legal_size legal_codings legal_header header_with header_of first_header file_header_of
+unfolding require◌else◌then◌ record_length_at kind_at record_of legal_size legal_codings legal_header header_with header_of first_record first_header
 two-slices-header = refl
 
-pub two-slices-header-read : file_start max_macroblocks two_slices [] [] (replicate 768 7) ≡ HeaderRead two_wide 11
-unfolding symbol_at require◌else◌then◌ twos_complement byte two_bytes signed_two_bytes record_length_at kind_at record_of legal_size legal_codings legal_header header_with header_of lent_lengths caller_verdict first_header file_start_of scale_of slice_fields_of slice_of legal_type legal_increment head_of legal_difference legal_dc difference_of legal_count count_of levels_of block_of dc_past_of with_dc_past is_coded blocks_of macroblock_symbols starting_dc_pasts blocks_to_end_of macroblock_of vectors_of direction_fits fit_of first_misfit plan_of predicts_forward predicts_backward own_motion record_fit plan_applied_refusing symbols_applied_refusing records_from_refusing slice_started record_applied_refusing step_at_refusing pairs_of
+pub two-slices-header-read : file_start max_macroblocks two_slices [] [] (replicate 768 7) ≡ Ok (record { header = two_wide; end = 11 })
+unfolding symbol_at require◌else◌then◌ twos_complement byte two_bytes signed_two_bytes record_length_at kind_at record_of legal_size legal_codings legal_header header_with header_of lent_lengths caller_verdict first_record first_header file_start_of scale_of slice_fields_of slice_of legal_type legal_increment head_of legal_difference legal_dc difference_of legal_count count_of levels_of block_of dc_past_of with_dc_past is_coded blocks_of macroblock_symbols starting_dc_pasts blocks_to_end_of macroblock_of vectors_of direction_fits fit_of first_misfit plan_of predicts_forward predicts_backward own_motion record_fit plan_applied_refusing symbols_applied_refusing records_from_refusing slice_started record_applied_refusing step_at_refusing pairs_of
 two-slices-header-read = refl
 
 pub two-slices-symbols : symbols_of two_slices two_wide 11 ≡ two_slices_symbols
-unfolding symbol_at require◌else◌then◌ twos_complement byte two_bytes signed_two_bytes record_length_at kind_at record_of legal_size legal_codings legal_header header_with header_of lent_lengths caller_verdict first_header file_start_of scale_of slice_fields_of slice_of legal_type legal_increment head_of legal_difference legal_dc difference_of legal_count count_of levels_of block_of dc_past_of with_dc_past is_coded blocks_of macroblock_symbols starting_dc_pasts blocks_to_end_of macroblock_of vectors_of direction_fits fit_of first_misfit plan_of predicts_forward predicts_backward own_motion record_fit plan_applied_refusing symbols_applied_refusing records_from_refusing slice_started record_applied_refusing step_at_refusing pairs_of
+unfolding symbol_at require◌else◌then◌ twos_complement byte two_bytes signed_two_bytes record_length_at kind_at record_of legal_size legal_codings legal_header header_with header_of lent_lengths caller_verdict first_record first_header file_start_of scale_of slice_fields_of slice_of legal_type legal_increment head_of legal_difference legal_dc difference_of legal_count count_of levels_of block_of dc_past_of with_dc_past is_coded blocks_of macroblock_symbols starting_dc_pasts blocks_to_end_of macroblock_of vectors_of direction_fits fit_of first_misfit plan_of predicts_forward predicts_backward own_motion record_fit plan_applied_refusing symbols_applied_refusing records_from_refusing slice_started record_applied_refusing step_at_refusing pairs_of
 two-slices-symbols = refl

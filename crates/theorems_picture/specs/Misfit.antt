@@ -1,5 +1,5 @@
 -- Which vector of a record doesn't fit (request No. 1, refusals 18 and 23).
-use Rattle.std.specs.Prelude.{Bool, true, false, List, [], ◌∷◌, ◌≡◌, ℕ, take, drop}
+use Rattle.std.specs.Prelude.{Bool, true, false, List, [], ◌∷◌, ◌≡◌, ℕ, take, drop, Ok}
 use Rattle.refusals.specs.declared.Refusal.{Refusal}
 use Rattle.refusals.specs.declared.Refusal.TheVariants.{ForwardVectorOutside, BackwardVectorOutside}
 use Rattle.symbols.specs.declared.header.Header.{Header}
@@ -12,8 +12,6 @@ use Rattle.decode_macroblock.specs.Macroblock.{MadeMacroblock}
 use Rattle.decode_state.specs.Plan.{macroblocks_of_plan}
 use Rattle.format3_records.specs.Record.{macroblock_kind, record_of}
 use Rattle.format3_records.specs.Turn.{in_turn}
-use Rattle.format3_records.specs.declared.record.Record.TheVariants.{Found}
-use Rattle.format3_header.specs.declared.file_start.FileStart.TheVariants.{HeaderRead}
 use Rattle.format3_macroblock.specs.Macroblock.{macroblock_of}
 use Rattle.format3_picture.specs.MacroblockRecord.{context_of}
 use Rattle.format3_picture.specs.Reconstruction.{plan_for, coefficients_for}
@@ -21,10 +19,10 @@ use Rattle.theorems_picture.specs.Applies.{Reached, Passing, file_start}
 
 -- whether a macroblock's vector fits; a direction that the macroblock doesn't use always fits
 abbrev pub forward_fits : PictureSize → MadeMacroblock → Bool
-forward_fits size m = direction_fits m.motion.forward (macroblock_position size m.address) m.motion.forward_vector
+forward_fits size m = direction_fits (macroblock_position size m.address) m.motion.forward
 
 abbrev pub backward_fits : PictureSize → MadeMacroblock → Bool
-backward_fits size m = direction_fits m.motion.backward (macroblock_position size m.address) m.motion.backward_vector
+backward_fits size m = direction_fits (macroblock_position size m.address) m.motion.backward
 
 -- the refusal of a macroblock that doesn't fit
 pub data Misfit (size : PictureSize) (m : MadeMacroblock) : Refusal → Type 0 where
@@ -48,13 +46,13 @@ macroblocks_of_record r m =
 pub record VectorRefused (limit : ℕ) (file forward backward output : List ℕ) (refusal : Refusal) : Type 0 where
   pub header : Header
   pub end : ℕ
-  pub header_read : file_start limit file forward backward output ≡ HeaderRead header end
+  pub header_read : file_start limit file forward backward output ≡ Ok (record { header = header; end = end })
   pub reached : Reached
   pub passing : Passing file header end reached
   -- the next record, with its body
   pub start : ℕ
   pub count : ℕ
-  pub found : record_of file reached.offset ≡ Found macroblock_kind start count
+  pub found : record_of file reached.offset ≡ Ok (record { kind = macroblock_kind; start = start; length = count })
   pub in-turn : in_turn reached.state.turn macroblock_kind ≡ true
   -- "Bytes left over: 6": none are
   pub symbols : Macroblock

@@ -13,9 +13,8 @@ use Rattle.symbols.specs.Block.{coded}
 use Rattle.symbols.specs.Macroblock.{Macroblock}
 use Rattle.symbols.specs.VectorCodes.{no_codes}
 use Rattle.decode_coefficients.specs.Matrices.{default_matrices}
-use Rattle.format3_picture.specs.Picture.{refused_at, answer_of, picture_refusing}
+use Rattle.format3_picture.specs.Picture.{Picture, picture_refusing}
 use Rattle.format3_picture.specs.Reconstruction.{Symbols}
-use Rattle.format3_picture.specs.declared.reader.Answer.{Answer}
 
 -- ---- files of one macroblock
 -- a record of fewer than 256 bytes: the length of kind and body, the kind, and the body
@@ -52,13 +51,20 @@ abbrev output : List ℕ
 output = replicate 384 7
 
 -- ---- cases
+-- the numbers of an answer
+pub record Numbers : Type 0 where
+  pub number : ℕ
+  pub place : ℕ
+  pub made : ℕ
+  pub rows : ℕ
+
 -- what is lent, and the answer
 pub record Case : Type 0 where
   pub file : List ℕ
   pub forward : List ℕ
   pub backward : List ℕ
   pub output : List ℕ
-  pub expected : Answer
+  pub expected : Numbers
 
 -- number, place, made and rows last
 abbrev example : List ℕ → List ℕ → List ℕ → List ℕ → ℕ → ℕ → ℕ → ℕ → Case
@@ -198,27 +204,30 @@ row_cases =
 abbrev pub zeros : List ℤ → ℕ → ℤ
 zeros c k = pos 0
 
+abbrev numbers_of : Picture → Numbers
+numbers_of p = record { number = p.number; place = p.place; made = p.made; rows = p.rows }
+
 -- the answers with any refusal for a backward misfit and any limit, those of a reader with a limit, and those with the format's limit
-abbrev pub answers_refusing : Refusal → ℕ → List Case → List Answer
+abbrev pub answers_refusing : Refusal → ℕ → List Case → List Numbers
 answers_refusing backward_refusal limit [] = []
 answers_refusing backward_refusal limit (c ∷ cs) =
-    answer_of (picture_refusing backward_refusal limit zeros c.file c.forward c.backward c.output) ∷ answers_refusing backward_refusal limit cs
+    numbers_of (picture_refusing backward_refusal limit zeros c.file c.forward c.backward c.output) ∷ answers_refusing backward_refusal limit cs
 
-abbrev pub answers_within : ℕ → List Case → List Answer
+abbrev pub answers_within : ℕ → List Case → List Numbers
 answers_within = answers_refusing BackwardVectorOutside
 
-abbrev pub answers : List Case → List Answer
+abbrev pub answers : List Case → List Numbers
 answers = answers_within max_macroblocks
 
-abbrev pub expectations : List Case → List Answer
+abbrev pub expectations : List Case → List Numbers
 expectations [] = []
 expectations (c ∷ cs) = c.expected ∷ expectations cs
 
 -- with 23 counted as 18
-abbrev counted_as18 : Answer → Answer
+abbrev counted_as18 : Numbers → Numbers
 counted_as18 a = record { number = cond (eqb a.number (number_of BackwardVectorOutside)) (number_of ForwardVectorOutside) a.number; place = a.place; made = a.made; rows = a.rows }
 
-abbrev pub expectations_as18 : List Case → List Answer
+abbrev pub expectations_as18 : List Case → List Numbers
 expectations_as18 [] = []
 expectations_as18 (c ∷ cs) = counted_as18 c.expected ∷ expectations_as18 cs
 
@@ -237,9 +246,9 @@ intra_header width height = record {
 }
 
 -- 27 for each case
-abbrev pub expectations_beyond : List Case → List Answer
+abbrev pub expectations_beyond : List Case → List Numbers
 expectations_beyond [] = []
-expectations_beyond (c ∷ cs) = refused_at MacroblockLimit 1 0 0 ∷ expectations_beyond cs
+expectations_beyond (c ∷ cs) = record { number = number_of MacroblockLimit; place = 1; made = 0; rows = 0 } ∷ expectations_beyond cs
 
 -- ---- a file with its symbols: two slices of one macroblock each, and a record that is cut
 abbrev pub two_slices : List ℕ

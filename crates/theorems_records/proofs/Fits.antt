@@ -12,6 +12,7 @@ use lib.Pow.{pow_mono}
 use mir.Syntax.{w8, w16}
 use mir.Val.{Fits, SFits}
 use Rattle.symbols.specs.Size.{max_macroblocks}
+use Rattle.std.specs.Prelude.{Option, Some, None, Ok, Err}
 use Rattle.math.proofs.Bound.{within-fits, within-cond}
 use Rattle.symbols.specs.Parsed.{optional◌default◌read◌}
 use Rattle.symbols.specs.Requires.{HeaderWithin}
@@ -30,13 +31,13 @@ use Rattle.mpeg1_bits.specs.declared.BitPosition.{BitPosition}
 use Rattle.mpeg1_tables.specs.AnnexB.{increments, increments_after_escape, stuffing, increment_escape, types_of, motion_codes}
 use Rattle.mpeg1_vlc.specs.Difference.{dc_difference_of}
 use Rattle.mpeg1_vlc.proofs.Laws.Range.{increment-read, increment-after-escape-read, motion-code-read}
-use Rattle.mpeg1_vlc.specs.Coefficient.{words_of, coefficient_code_of}
-use Rattle.mpeg1_vlc.specs.declared.coefficient.Coefficient.{Coefficient}
+use Rattle.mpeg1_vlc.specs.Coefficient.{CoefficientRead, words_of, coefficient_code_of}
+use Rattle.mpeg1_vlc.specs.declared.coefficient.Coefficient.TheVariants as Coefficient
 use Rattle.mpeg1_vlc.proofs.Laws.CoefficientRange.{WellRead, less-within}
 use Rattle.mpeg1_slice.specs.Read.{Reader, word_at, field_at}
 use Rattle.mpeg1_slice.specs.Increment.{after_stuffing, amount_of, after_escape, increment_at}
 use Rattle.mpeg1_slice.specs.Vectors.{residual_at, component_at, vector_codes_at, given_vector_codes_at}
-use Rattle.mpeg1_slice.specs.Blocks.{PairOrEnd, next_pair, block_end, size_words, difference_at, next_pair_of, pairs_from, pairs_at, given_difference_at, block_at, given_block_at, blocks_from}
+use Rattle.mpeg1_slice.specs.Blocks.{size_words, difference_at, next_pair_of, pairs_from, pairs_at, given_difference_at, block_at, given_block_at, blocks_from}
 use Rattle.mpeg1_slice.specs.Macroblock.{scale_at, head_at, vectors_at, pattern_at, pattern_and_blocks_at, vectors_and_blocks_at, macroblock_at}
 use Rattle.mpeg1_slice.specs.Slice.{start_address}
 use Rattle.mpeg1_slice.proofs.Laws.Read.{field_below, word-between}
@@ -108,19 +109,18 @@ module _ (bytes : List ℕ) where
       all_then (word-between bytes at (size_words block) (size-read block)) λ size p k.
       all-cond (eqb size 0) _ _ _ (λ t. here (record { sfits = omega arith })) (λ t. all_then (field_below bytes p size) λ v q l. here (dc-fits size v k.1 l))
 
-  data SmallLevel : PairOrEnd → Type 0 where
-    level : {pair : Pair} → SFits w16 pair.level → SmallLevel (next_pair pair)
-    ends : SmallLevel block_end
+  data SmallLevel : Option Pair → Type 0 where
+    level : {pair : Pair} → SFits w16 pair.level → SmallLevel (Some pair)
+    ends : SmallLevel None
 
-  level-of : {pair : Pair} → SmallLevel (next_pair pair) → SFits w16 pair.level
+  level-of : {pair : Pair} → SmallLevel (Some pair) → SFits w16 pair.level
   level-of (level fits) = fits
 
-  coefficient-small : (next : ℕ) (at : BitPosition) (m : ℕ) (c : Coefficient) → WellRead m c → All (λ found p. SmallLevel found) (next_pair_of next c at)
+  coefficient-small : (next : ℕ) (at : BitPosition) (m : ℕ) (c : CoefficientRead) → WellRead m c → All (λ found p. SmallLevel found) (next_pair_of next c at)
   unfolding next_pair_of
-  coefficient-small next at m (Coefficient.Pair run z n) k = require-all (All (λ found p. SmallLevel found)) (leb (next + run) 63) _ _ none λ t. here (level (within-fits k.small tt))
-  coefficient-small next at m (Coefficient.EndOfBlock n) k = here ends
-  coefficient-small next at m Coefficient.NoCode k = none
-  coefficient-small next at m Coefficient.Truncated k = none
+  coefficient-small next at m (Ok (Coefficient.Pair run z n)) k = require-all (All (λ found p. SmallLevel found)) (leb (next + run) 63) _ _ none λ t. here (level (within-fits k.small tt))
+  coefficient-small next at m (Ok (Coefficient.EndOfBlock n)) k = here ends
+  coefficient-small next at m (Err error) k = none
 
   pairs-fit : (n : ℕ) (first : Bool) (next : ℕ) (at : BitPosition) → All (λ pairs p. PairsFitFields pairs) (pairs_from n first next bytes at)
   unfolding pairs_from

@@ -7,10 +7,10 @@ use native.Mathlib.Nat.{add-zero, add-sub_cancel_left}
 use native.Mathlib.Omega.{arith}
 use borrow.Author.Tests.{le-leb}
 use lib.ListN.{length, get_or, take, drop, length-append, length-drop}
+use Rattle.std.specs.Prelude.{Ok}
 use lib.Seq.{get_or-drop, drop-drop, take-append_seam, drop-append_seam, take-add}
 use Rattle.symbols.specs.Guard.{require◌else◌then◌}
 use Rattle.format3_records.specs.Record.{legal_kind, record_length_at, kind_at, record_of}
-use Rattle.format3_records.specs.declared.record.Record.TheVariants.{Found}
 use Rattle.format3_writer.specs.Bytes.{big_endian_bytes}
 use Rattle.format3_writer.specs.Records.{record_head, record_bytes}
 use Rattle.format3_writer.proofs.Laws.Lengths as Lengths
@@ -34,7 +34,7 @@ module _ (file : List ℕ) (at kind : ℕ) (body after : List ℕ) (stands : dro
   unfolding kind_at record_bytes record_head big_endian_bytes
   record-kind = byte_at 2
 
-  pub record-shown : legal_kind kind ≡ true → length body ≤ 65534 → record_of file at ≡ Found kind (at + 3) (length body)
+  pub record-shown : legal_kind kind ≡ true → length body ≤ 65534 → record_of file at ≡ Ok (record { kind = kind; start = at + 3; length = length body })
   unfolding record_of require◌else◌then◌
   record-shown good h =
       let told = record-length h in

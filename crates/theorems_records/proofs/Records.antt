@@ -8,6 +8,7 @@ use native.Mathlib.Omega.{arith}
 use lib.Dec.{eqb}
 use lib.IntN.{ℤ}
 use lib.ListN.{length, take, drop}
+use Rattle.std.specs.Prelude.{Result, Ok, Err, ⊤}
 use mir.Syntax.{w16}
 use mir.Val.{Fits}
 use Rattle.refusals.specs.Refusal.{number_of}
@@ -17,11 +18,10 @@ use Rattle.symbols.specs.declared.slice.SliceHeader.{SliceHeader}
 use Rattle.symbols.specs.Macroblock.{Macroblock}
 use Rattle.symbols.proofs.Guard.{require-all}
 use Rattle.decode_coefficients.specs.declared.matrices.Matrices.{Matrices}
-use Rattle.decode_macroblock.specs.declared.fit.Fit.{Fit}
+use Rattle.decode_macroblock.specs.declared.fit.Direction.{Direction}
+use Rattle.decode_macroblock.specs.declared.fit.Direction.TheVariants.{Forward, Backward}
 use Rattle.decode_state.specs.declared.plan.Plan.{Plan}
 use Rattle.format3_records.specs.Record.{matrix_kind, slice_kind, macroblock_kind, legal_kind}
-use Rattle.format3_records.specs.declared.verdict.Verdict.{Verdict}
-use Rattle.format3_records.specs.declared.verdict.Verdict.TheVariants.{Passed, Refused}
 use Rattle.format3_macroblock.specs.Slice.{slice_of}
 use Rattle.format3_macroblock.specs.Macroblock.{macroblock_of}
 use Rattle.format3_writer.specs.Bytes.{big_endian_bytes}
@@ -39,14 +39,14 @@ use Rattle.theorems_records.proofs.Slice.{slice_back}
 use Rattle.theorems_records.proofs.Macroblock.{macroblock-back}
 use Rattle.theorems_records.specs.WellFormed.{WellFormedMacroblock, WellFormedRecord, of-slice, of-macroblock}
 
-abbrev pub VerdictFramed : Verdict → Type 0
-VerdictFramed Passed = Unit {0}
-VerdictFramed (Refused refusal) = WellFramed (number_of refusal)
+abbrev pub VerdictFramed : Result ⊤ Refusal → Type 0
+VerdictFramed (Ok passed) = Unit {0}
+VerdictFramed (Err refusal) = WellFramed (number_of refusal)
 
 abbrev AppliedWellFramed : Applied → Type 0
 AppliedWellFramed a = VerdictFramed a.verdict
 
-not-passed : {refusal : Refusal} → Refused refusal ≡ Passed → ⊥
+not-passed : {refusal : Refusal} → ◌≡◌ {A = Result ⊤ Refusal} (Err refusal) (Ok tt) → ⊥
 not-passed e = let z : ◌≡◌ {A = ℕ} 0 1 = cc in omega arith
 
 module _ (q : Matrices) (s : PictureState) where
@@ -59,10 +59,10 @@ module _ (q : Matrices) (s : PictureState) where
   unfolding plan_applied_refusing
   planned-framed p coefficients = go (record_fit s.header.size p) refl
     where
-      go : (f : Fit) → record_fit s.header.size p ≡ f → AppliedWellFramed (plan_applied s p coefficients)
-      go Fit.Fits e = rw e tt
-      go Fit.Forward e = rw e (framed _ refl)
-      go Fit.Backward e = rw e (framed _ refl)
+      go : (f : Result ⊤ Direction) → record_fit s.header.size p ≡ f → AppliedWellFramed (plan_applied s p coefficients)
+      go (Ok fits) e = rw e tt
+      go (Err Forward) e = rw e (framed _ refl)
+      go (Err Backward) e = rw e (framed _ refl)
 
   macroblock-framed : {P : Macroblock → Type 0} {Legal : Type 0} {behind : List ℕ} {x : Parsed Macroblock} → ReadBack P Legal behind x → AppliedWellFramed (parsed_applied q s x)
   unfolding symbols_applied_refusing
@@ -100,22 +100,22 @@ module _ (q : Matrices) (s : PictureState) where
 
   -- ---- where it passes, its symbol is the one that was written
   slice-read : {header : SliceHeader} {Fit Legal : Type 0} {behind : List ℕ} {x : Parsed SliceHeader} → ReadBack (λ read. Fit → read ≡ header) Legal behind x → Fit
-      → (slice_started_from s x).verdict ≡ Passed → slice_symbol x ≡ starts header
+      → (slice_started_from s x).verdict ≡ Ok tt → slice_symbol x ≡ starts header
   slice-read (back same) fits passed = ap starts (same fits)
   slice-read (other o not) fits passed = absurd (not-passed passed)
 
   macroblock-read : {m : Macroblock} {Fit Legal : Type 0} {behind : List ℕ} {x : Parsed Macroblock} → ReadBack (λ read. Fit → read ≡ m) Legal behind x → Fit
-      → (parsed_applied q s x).verdict ≡ Passed → macroblock_symbol x ≡ continues m
+      → (parsed_applied q s x).verdict ≡ Ok tt → macroblock_symbol x ≡ continues m
   macroblock-read (back same) fits passed = ap continues (same fits)
   macroblock-read (other o not) fits passed = absurd (not-passed passed)
 
   pub record TakenAs (file : List ℕ) (at : ℕ) (symbol : Symbol) (bytes : List ℕ) : Type 0 where
-    pub read : (step_at file at s q).applied.verdict ≡ Passed → symbol_at file at s ≡ symbol
+    pub read : (step_at file at s q).applied.verdict ≡ Ok tt → symbol_at file at s ≡ symbol
     pub same-matrices : (step_at file at s q).matrices ≡ q
     pub before : take (step_at file at s q).end file ≡ take at file ++ bytes
 
   read_at_lem : (file : List ℕ) (at kind : ℕ) (body rest : List ℕ) (symbol : Symbol) → drop at file ≡ record_bytes kind body ++ rest → legal_kind kind ≡ true → eqb kind matrix_kind ≡ false → length body ≤ 65534
-      → ((record_applied q s kind body).verdict ≡ Passed → symbol_of s kind body ≡ symbol) → TakenAs file at symbol (record_bytes kind body)
+      → ((record_applied q s kind body).verdict ≡ Ok tt → symbol_of s kind body ≡ symbol) → TakenAs file at symbol (record_bytes kind body)
   unfolding step_at_refusing symbol_at
   read_at_lem file at kind body rest symbol stands known no-matrix short reads =
       let shown = record-shown file at kind body rest stands known short in
@@ -125,12 +125,12 @@ module _ (q : Matrices) (s : PictureState) where
   unfolding record_applied_refusing slice_body big_endian_bytes
   slice-step file at scale start rest fits stands =
       read_at_lem file at slice_kind (slice_body scale start) rest _ stands refl refl (omega arith)
-      (require-all (λ (a : Applied). a.verdict ≡ Passed → slice_symbol (slice_of (slice_body scale start)) ≡ starts (record { scale = scale; start = start })) _ _ _ (λ passed. absurd (not-passed passed)) λ turn.
+      (require-all (λ (a : Applied). a.verdict ≡ Ok tt → slice_symbol (slice_of (slice_body scale start)) ≡ starts (record { scale = scale; start = start })) _ _ _ (λ passed. absurd (not-passed passed)) λ turn.
       slice-read (slice_back scale start) fits)
 
   pub macroblock-step : (file : List ℕ) (at : ℕ) (m : Macroblock) (rest : List ℕ) → WellFormedMacroblock m → MacroblockFitsFields m → drop at file ≡ macroblock_record m ++ rest → TakenAs file at (continues m) (macroblock_record m)
   unfolding record_applied_refusing
   macroblock-step file at m rest whole fits stands =
       read_at_lem file at macroblock_kind (macroblock_body m) rest _ stands refl refl whole.short
-      (require-all (λ (a : Applied). a.verdict ≡ Passed → macroblock_symbol (macroblock_of (context_of s) (macroblock_body m)) ≡ continues m) _ _ _ (λ passed. absurd (not-passed passed)) λ turn.
+      (require-all (λ (a : Applied). a.verdict ≡ Ok tt → macroblock_symbol (macroblock_of (context_of s) (macroblock_body m)) ≡ continues m) _ _ _ (λ passed. absurd (not-passed passed)) λ turn.
       macroblock-read (macroblock-back (context_of s) m whole.matching) fits)

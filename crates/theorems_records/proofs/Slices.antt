@@ -9,26 +9,26 @@ use lib.Dec.{eqb}
 use lib.IntN.{ℤ}
 use lib.ListN.{length, take, drop, length-append, length-drop}
 use lib.Seq.{take_all, take-length}
+use Rattle.std.specs.Prelude.{Result, Ok, Err, ⊤}
 use mir.Syntax.{w16}
 use mir.Val.{Fits}
 use Rattle.math.specs.Joined.{joined}
-use Rattle.refusals.specs.Refusal.{accepted}
+use Rattle.refusals.specs.Refusal.{accepted, number_in}
+use Rattle.refusals.specs.declared.Refusal.{Refusal}
 use Rattle.refusals.specs.declared.Refusal.TheVariants.{BodyLength}
 use Rattle.refusals.proofs.Laws.{never-accepted}
 use Rattle.symbols.specs.Guard.{require◌else◌then◌}
 use Rattle.symbols.specs.declared.header.Header.{Header}
-use Rattle.symbols.specs.declared.header.HeaderAnswer.TheVariants as Header
 use Rattle.symbols.specs.Macroblock.{Macroblock}
 use Rattle.symbols.specs.Slice.{Slice}
 use Rattle.decode_coefficients.specs.Matrices.{default_matrices}
 use Rattle.decode_coefficients.specs.declared.matrices.Matrices.{Matrices}
 use Rattle.decode_macroblock.specs.Compensation.{references}
 use Rattle.format3_records.specs.Record.{header_kind}
-use Rattle.format3_records.specs.declared.verdict.Verdict.{Verdict}
-use Rattle.format3_records.specs.declared.verdict.Verdict.TheVariants.{Passed, Refused}
 use Rattle.format3_header.specs.Header.{header_of}
 use Rattle.format3_header.specs.FileStart.{file_start_of}
 use Rattle.format3_header.specs.declared.file_start.FileStart.{FileStart}
+use Rattle.format3_header.specs.declared.file_start.RefusedAt.{RefusedAt}
 use Rattle.format3_writer.specs.Records.{slice_record, macroblock_record, slice_records}
 use Rattle.format3_writer.specs.Records as Records
 use Rattle.format3_picture.specs.State.{start_state}
@@ -79,7 +79,7 @@ one_more before first second rest = append_assoc before first (second ++ rest) �
 module _ (file : List ℕ) where
   record Gathers (at : ℕ) (further : List Macroblock) (slices : List Slice) (q : Matrices) (r : Answered) : Type 0 where
     same : r.gathered.matrices ≡ q
-    all : r.answer.number ≡ accepted → (r.gathered.further ≡ further) × (r.gathered.slices ≡ slices)
+    all : number_in r.answer.verdict ≡ accepted → (r.gathered.further ≡ further) × (r.gathered.slices ≡ slices)
     begun : Begun further slices r.gathered.further r.gathered.slices
     before : take r.answer.place file ≡ take at file ++ records_gathered r.gathered
 
@@ -113,13 +113,13 @@ module _ (file : List ℕ) where
         go (beyond b) = Slices.more b
 
   -- a refused record, or one that passes
-  one-gathers : (v : Verdict) (at made rows : ℕ) {further : List Macroblock} {slices : List Slice} {q : Matrices} (r : Answered) {read symbol : Symbol} → (v ≡ Passed → read ≡ symbol)
+  one-gathers : (v : Result ⊤ Refusal) (at made rows : ℕ) {further : List Macroblock} {slices : List Slice} {q : Matrices} (r : Answered) {read symbol : Symbol} → (v ≡ Ok tt → read ≡ symbol)
       → Gathers at further slices q (record { answer = r.answer; gathered = put_in_front symbol r.gathered })
       → Gathers at further slices q (followed v (λ refusal. answered_by (refused_at refusal at made rows) q) read r)
   unfolding joined
-  one-gathers (Refused refusal) at made rows {further} r same g =
+  one-gathers (Err refusal) at made rows {further} r same g =
       record { same = refl; all = λ e. absurd (never-accepted refusal e); begun = within [] further refl; before = sym (append-nil (take at file)) }
-  one-gathers Passed at made rows r same g = rw (same refl) g
+  one-gathers (Ok passed) at made rows r same g = rw (same refl) g
 
   end-gathers : (at : ℕ) (s : PictureState) (q : Matrices) → drop at file ≡ [] → Gathers at [] [] q (answered_by (end_answer (length file) s) q)
   unfolding joined
@@ -157,14 +157,14 @@ module _ (file : List ℕ) where
       rw (not-at-end file at records whole stands) (one-gathers t.applied.verdict at s.made s.rows _ taken.read (started at taken.same-matrices later scale start taken.before))
 
 -- ---- the file
-seven-bytes : (fields : List ℕ) {h : Header} → header_of fields ≡ Header.Legal h → length fields ≡ 7
+seven-bytes : (fields : List ℕ) {h : Header} → header_of fields ≡ Ok h → length fields ≡ 7
 unfolding header_of require◌else◌then◌
 seven-bytes fields {h} e = go (eqb (length fields) 7) refl
   where
     go : (seven : Bool) → eqb (length fields) 7 ≡ seven → length fields ≡ 7
     go true t = eqb-true (length fields) 7 t
     go false t =
-        let bad : Header.Refused BodyLength ≡ Header.Legal h = rw t at e in
+        let bad : Err BodyLength ≡ Ok h = rw t at e in
         let z : ◌≡◌ {A = ℕ} 0 1 = cc in
         absurd (omega arith)
 
@@ -178,7 +178,7 @@ slices-begun : {slices read : List Slice} {further : List Macroblock} → Begun 
 slices-begun (within read missing e) = Slices.none
 slices-begun (beyond b) = b
 
-module _ (fields : List ℕ) (h : Header) (slices : List Slice) (legal : header_of fields ≡ Header.Legal h) (fits : EncodableSlices slices) where
+module _ (fields : List ℕ) (h : Header) (slices : List Slice) (legal : header_of fields ≡ Ok h) (fits : EncodableSlices slices) where
   abbrev file : List ℕ
   file = slices_file fields slices
 
@@ -189,11 +189,11 @@ module _ (fields : List ℕ) (h : Header) (slices : List Slice) (legal : header_
       stands = record-after file 1 header_kind fields (records_for slices) refl
 
   -- where the file's header is read, its records start after the header
-  header-read-at : (limit output forward backward : ℕ) {other : Header} {end : ℕ} → file_start_of limit file output forward backward ≡ FileStart.HeaderRead other end → FileStartWellFramed fields (FileStart.HeaderRead other end)
+  header-read-at : (limit output forward backward : ℕ) {other : Header} {end : ℕ} → file_start_of limit file output forward backward ≡ Ok (record { header = other; end = end }) → FileStartWellFramed fields (Ok (record { header = other; end = end }))
   header-read-at limit output forward backward e = subst (FileStartWellFramed fields) e (file-start-well-framed fields (records_for slices) (seven-bytes fields legal) limit output forward backward)
 
   module _ (limit : ℕ) (transform : List ℤ → ℕ → ℤ) (forward backward output : List ℕ) where
-    module _ (end : ℕ) (e : file_start_of limit file (length output) (length forward) (length backward) ≡ FileStart.HeaderRead h end) where
+    module _ (end : ℕ) (e : file_start_of limit file (length output) (length forward) (length backward) ≡ Ok (record { header = h; end = end })) where
       header-read-gathers : Gathers file (start_after fields) [] slices default_matrices (records_after file h end)
       header-read-gathers = rw (header-read-at limit (length output) (length forward) (length backward) e).1 all-gathers
 
@@ -211,17 +211,17 @@ module _ (fields : List ℕ) (h : Header) (slices : List Slice) (legal : header_
 
     -- ---- the file is accepted: its header of seven bytes is read, and exactly these slices are read
     module _ (whole : (picture_within limit transform file forward backward output).number ≡ accepted) where
-      pub accepted-header-read : file_start_of limit file (length output) (length forward) (length backward) ≡ FileStart.HeaderRead h 11
+      pub accepted-header-read : file_start_of limit file (length output) (length forward) (length backward) ≡ Ok (record { header = h; end = 11 })
       unfolding picture_refusing
       accepted-header-read = go (file_start_of limit file (length output) (length forward) (length backward)) refl
         where
-          go : (x : FileStart) → file_start_of limit file (length output) (length forward) (length backward) ≡ x → file_start_of limit file (length output) (length forward) (length backward) ≡ FileStart.HeaderRead h 11
-          go (FileStart.Refused refusal place) e = absurd (never-accepted refusal (rw e at whole))
-          go (FileStart.HeaderRead other end) e =
+          go : (x : Result FileStart RefusedAt) → file_start_of limit file (length output) (length forward) (length backward) ≡ x → file_start_of limit file (length output) (length forward) (length backward) ≡ Ok (record { header = h; end = 11 })
+          go (Err refused) e = absurd (never-accepted refused.refusal (rw e at whole))
+          go (Ok start) e =
               let stands = header-read-at limit (length output) (length forward) (length backward) e in
-              let read : header_of fields ≡ Header.Legal other = stands.0 in
-              let same : other ≡ h = cc in
-              let behind : end ≡ 11 = omega (arith, stands.1, seven-bytes fields legal) in
+              let read : header_of fields ≡ Ok start.header = stands.0 in
+              let same : start.header ≡ h = cc in
+              let behind : start.end ≡ 11 = omega (arith, stands.1, seven-bytes fields legal) in
               rw (same, behind) at e
 
       pub accepted-symbols : symbols_of file h 11 ≡ symbols_for slices

@@ -31,7 +31,7 @@ use Rattle.mpeg1_slice.specs.Blocks.{pairs_at, given_difference_at, block_at, gi
 use Rattle.mpeg1_slice.specs.Macroblock.{head_at, vectors_at, pattern_at, pattern_and_blocks_at, vectors_and_blocks_at, macroblock_of_fields, PatternAndBlocks, macroblock_at}
 use Rattle.mpeg1_slice.specs.Slice.{next_macroblock_at, macroblocks_from, after_head_at, raw_slice_of}
 use Rattle.mpeg1_reader.proofs.Laws.Few.{blocks-few}
-use Rattle.mpeg1_reader.specs.Answer.{raw_slice_outcome}
+use Rattle.mpeg1_reader.specs.Answer.{answer_number, answer_written, raw_slice_outcome}
 use Rattle.mpeg1_reader.proofs.Laws.Start.{head-row}
 use Rattle.theorems_records.specs.WellFramed.{WellFramed}
 use Rattle.theorems_records.specs.FieldFit.{was_coded, CodedBy}
@@ -140,9 +140,9 @@ slice-framed h bytes slice end e limit transform fields forward backward output 
     picture-framed fields (slice_bytes slice) seven limit transform forward backward output (slice-whole slice.scale slice.start (each-whole (all-at (slice_of h bytes) e).each))
 
 -- rules out an entry that counts too many bytes or too few, or writes the records elsewhere
-pub accepted-framed : (given : HeaderFields) (bytes buffer : List ℕ) → (raw_slice_outcome given bytes buffer).answer.number ≡ accepted
+pub accepted-framed : (given : HeaderFields) (bytes buffer : List ℕ) → answer_number (raw_slice_outcome given bytes buffer).answer ≡ accepted
     → (limit : ℕ) (transform : List ℤ → ℕ → ℤ) (fields forward backward output : List ℕ) → length fields ≡ 7
-    → WellFramed (picture_within limit transform (file_of fields (take (raw_slice_outcome given bytes buffer).answer.written (raw_slice_outcome given bytes buffer).buffer)) forward backward output).number
+    → WellFramed (picture_within limit transform (file_of fields (take (answer_written (raw_slice_outcome given bytes buffer).answer) (raw_slice_outcome given bytes buffer).buffer)) forward backward output).number
 accepted-framed given bytes buffer number limit transform fields forward backward output seven =
     let t = accepted-is-slice given bytes buffer number in
     let records = slice_bytes t.slice in

@@ -1,11 +1,10 @@
 -- How a call of the entry ends: the slice is refused, or it is accepted and its records are written.
-use Rattle.std.specs.Prelude.{List, ◌≡◌, ℕ, ◌≤◌, length}
+use Rattle.std.specs.Prelude.{List, ◌≡◌, ℕ, ◌≤◌, length, Ok}
 use Rattle.refusals.specs.declared.Refusal.{Refusal}
 use Rattle.symbols.specs.Parsed.{parsed}
 use Rattle.symbols.specs.Header.{header_with}
 use Rattle.symbols.specs.declared.header.Header.{Header}
 use Rattle.symbols.specs.declared.header.HeaderFields.{HeaderFields}
-use Rattle.symbols.specs.declared.header.HeaderAnswer.TheVariants.{Legal}
 use Rattle.symbols.specs.Slice.{Slice}
 use Rattle.format3_writer.specs.Records.{slice_bytes}
 use Rattle.mpeg1_bits.specs.declared.BitPosition.{BitPosition}
@@ -15,7 +14,7 @@ use Rattle.mpeg1_reader.specs.Answer.{RawSliceOutcome, refused_outcome, accepted
 -- the given numbers are legal, the slice is read whole, and its records fit the buffer
 pub record AcceptedSlice (fields : HeaderFields) (bytes buffer : List ℕ) : Type 0 where
   pub header : Header
-  pub legal : header_with fields ≡ Legal header
+  pub legal : header_with fields ≡ Ok header
   pub slice : Slice
   pub end : BitPosition
   pub is : raw_slice_of header bytes ≡ parsed slice end

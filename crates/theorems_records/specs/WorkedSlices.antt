@@ -8,25 +8,36 @@ use Rattle.symbols.specs.Pattern.{all_blocks}
 use Rattle.symbols.specs.Block.{coded}
 use Rattle.symbols.specs.VectorCodes.{no_codes}
 use Rattle.symbols.specs.Slice.{Slice}
-use Rattle.mpeg1_reader.specs.Answer.{RawSliceOutcome, given_fields, raw_slice_outcome}
+use Rattle.mpeg1_reader.specs.Answer.{answer_number, answer_written, answer_byte, answer_bit, RawSliceOutcome, given_fields, raw_slice_outcome}
 
 -- width, height, coding type, and the f_codes
 abbrev pub given : ℕ → ℕ → ℕ → ℕ → ℕ → HeaderFields
 given width height type forward backward = given_fields record { width = width; height = height; coding_type = type; forward_f_code = forward; backward_f_code = backward }
 
--- given numbers, the bytes of a slice and a buffer, and the outcome: number, bytes written, byte, bit and buffer
+-- an outcome in numbers: number, bytes written, byte, bit and buffer
+pub record OutcomeNumbers : Type 0 where
+  pub number : ℕ
+  pub written : ℕ
+  pub byte : ℕ
+  pub bit : ℕ
+  pub buffer : List ℕ
+
+abbrev pub outcome_numbers : RawSliceOutcome → OutcomeNumbers
+outcome_numbers o = record { number = answer_number o.answer; written = answer_written o.answer; byte = answer_byte o.answer; bit = answer_bit o.answer; buffer = o.buffer }
+
+-- given numbers, the bytes of a slice and a buffer, and the outcome
 pub record SliceCase : Type 0 where
   pub numbers : HeaderFields
   pub bytes : List ℕ
   pub buffer : List ℕ
-  pub expected : RawSliceOutcome
+  pub expected : OutcomeNumbers
 
 abbrev slice_case : HeaderFields → List ℕ → List ℕ → ℕ → ℕ → ℕ → ℕ → List ℕ → SliceCase
 slice_case numbers bytes buffer number written byte bit after = record {
   numbers = numbers;
   bytes = bytes;
   buffer = buffer;
-  expected = record { answer = record { number = number; written = written; byte = byte; bit = bit }; buffer = after };
+  expected = record { number = number; written = written; byte = byte; bit = bit; buffer = after };
 }
 
 abbrev pub slice_cases : List SliceCase
@@ -67,11 +78,11 @@ slice_cases =
     ∷ slice_case (given 1 1 1 0 0) (0 ∷ 0 ∷ 1 ∷ 1 ∷ 67 ∷ 148 ∷ 165 ∷ 34 ∷ 33 ∷ []) [] 25 0 8 4 []
     ∷ []
 
-abbrev pub outcomes : List SliceCase → List RawSliceOutcome
+abbrev pub outcomes : List SliceCase → List OutcomeNumbers
 outcomes [] = []
-outcomes (c ∷ cs) = raw_slice_outcome c.numbers c.bytes c.buffer ∷ outcomes cs
+outcomes (c ∷ cs) = outcome_numbers (raw_slice_outcome c.numbers c.bytes c.buffer) ∷ outcomes cs
 
-abbrev pub slice_expectations : List SliceCase → List RawSliceOutcome
+abbrev pub slice_expectations : List SliceCase → List OutcomeNumbers
 slice_expectations [] = []
 slice_expectations (c ∷ cs) = c.expected ∷ slice_expectations cs
 

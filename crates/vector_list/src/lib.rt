@@ -46,12 +46,12 @@ fn put_case(text: &mut [u8], at: usize, f_code: u32, case: VectorCase) -> usize
     ensures value { result ≡ at + length (case_line f_code case) }
     ensures text_after { text.new ≡ written at (case_line f_code case) text.old }
 {
-    let answer = vector::decode_vector(f_code, case.past, case.code, case.residual);
-    let f_code_end = text_writer::put_field(text, at, f_code as u64, SPACE);
+    let vector = vector::decode_vector(f_code, case.past, case.code, case.residual).unwrap_or(0);
+    let f_code_end = text_writer::put_field(text, at, u64::from(f_code), SPACE);
     let past_end = text_writer::put_signed_field(text, f_code_end, case.past, SPACE);
     let code_end = text_writer::put_signed_field(text, past_end, case.code, SPACE);
-    let residual_end = text_writer::put_field(text, code_end, case.residual as u64, SPACE);
-    text_writer::put_signed_field(text, residual_end, answer.vector, LINE_END)
+    let residual_end = text_writer::put_field(text, code_end, u64::from(case.residual), SPACE);
+    text_writer::put_signed_field(text, residual_end, vector, LINE_END)
 }
 
 // Writes the lines of one past and code: residual rising.

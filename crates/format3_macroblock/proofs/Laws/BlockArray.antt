@@ -1,6 +1,6 @@
 -- The loop that reads six blocks, and stores each in the array of 384, agrees with the definitions. Assumes nothing.
 use mathlib.Core.Path.{◌≡◌, refl, sym, ap, subst, ◌∙◌}
-use mathlib.Core.Bool.{Bool, true, false}
+use mathlib.Core.Bool.{Bool, true}
 use mathlib.Core.List.{List, [], ◌∷◌, ◌++◌, append-nil}
 use Prim.Native.Nat.{ℕ, zero, suc, ◌+◌, ◌-◌, ◌*◌, ◌<◌, ◌≤◌}
 use native.Mathlib.Numerals.{sub-one}
@@ -8,15 +8,16 @@ use native.Mathlib.Omega.{arith}
 use lib.IntN.{ℤ, pos}
 use lib.ListN.{length, get_or, drop, replicate, length-drop, length-append, length-set}
 use lib.Seq.{drop-drop}
+use Rattle.std.specs.Prelude.{Ok, Err}
 use Rattle.math.proofs.Tab.{tab-ext, tab-self}
 use Rattle.math.proofs.Scatter.{scatter-length, scatter-at, scatter-other}
 use Rattle.math.specs.Bound.{at}
 use Rattle.math.proofs.Bound.{zeros-at}
 use Rattle.refusals.specs.declared.Refusal.{Refusal}
-use Rattle.symbols.specs.Parsed.{parsed, refused, bind, give, value, stopped, ParsesAs}
+use Rattle.symbols.specs.Parsed.{parsed, refused, bind, give}
 use Rattle.symbols.specs.Block.{Block, uncoded, coded}
 use Rattle.symbols.specs.Pattern.{is_coded}
-use Rattle.symbols.proofs.Parsed.{all-at, after, nothing-after, after-after, made_of, stopped-before}
+use Rattle.symbols.proofs.Parsed.{all-at, after, nothing-after, after-after}
 use Rattle.decode_coefficients.specs.declared.block.BlockCoding.{BlockCoding}
 use Rattle.decode_coefficients.specs.Block.{PositionedLevel, block_levels, with_levels, dc_block, block_coefficients, coefficients_of}
 use Rattle.decode_coefficients.specs.declared.dc.DcPasts.{DcPasts}
@@ -24,6 +25,9 @@ use Rattle.decode_coefficients.specs.Dc.{dc_past_of, dc_pasts_with, dc_pasts_aft
 use Rattle.decode_coefficients.proofs.SoFar.{dc-fits}
 use Rattle.decode_coefficients.specs.Macroblock.{coefficients_from}
 use Rattle.decode_coefficients.specs.BlockArray.{six_blocks, block_in, put_block}
+use Rattle.format3_records.specs.declared.field.Cursor.{Cursor}
+use Rattle.format3_records.specs.Reader.{ParsesAs}
+use Rattle.format3_records.proofs.Reader.{made_of, stopped-before}
 use Rattle.format3_macroblock.specs.declared.blocks.BlocksCoding.{BlocksCoding}
 use Rattle.format3_macroblock.specs.Blocks.{levels_of, given_difference_of, block_of, given_block_of, blocks_of}
 use Rattle.format3_macroblock.specs.Requires.{BeforePairs, LegalDcPasts}
@@ -32,34 +36,31 @@ use Rattle.format3_macroblock.proofs.Laws.Blocks.{pasts-legal}
 
 -- ---- one block
 -- a block with the DC that was read is one before its pairs
-pub begun : (c : BlockCoding) (past : ℤ) (part : List ℕ) {dc : ℤ} {n : ℕ} → ParsesAs (read_dc_of c.intra past) part (value dc n) → BeforePairs c (dc_block dc)
+pub begun : (c : BlockCoding) (past : ℤ) (part : List ℕ) {dc : ℤ} {end : Cursor} → ParsesAs (read_dc_of c.intra past) part (Ok (dc, end)) → BeforePairs c (dc_block dc)
 begun c past part {dc} found =
     let d = made_of (given_difference_of c.intra past) _ part found in
     record { dc = dc; fits = rw (← d.is) (dc-fits c past d.source); is = refl }
 
 module _ (c : BlocksCoding) (matrix : List ℕ) (block : ℕ) (s : Progress) (part : List ℕ) where
-  pub not-coded : is_coded c.pattern block ≡ false → ParsesAs (block_into c matrix block s) part (value s 0)
-  not-coded e = (rw e, omega arith)
-
   module _ (e : is_coded c.pattern block ≡ true) where
-    pub dc-stops : {refusal : Refusal} → ParsesAs (read_dc_of c.intra (dc_past_of s.pasts block)) part (stopped refusal) → ParsesAs (block_into c matrix block s) part (stopped refusal)
+    pub dc-stops : {refusal : Refusal} → ParsesAs (read_dc_of c.intra (dc_past_of s.pasts block)) part (Err refusal) → ParsesAs (block_into c matrix block s) part (Err refusal)
     unfolding block_of
     dc-stops found = rw (e, stopped-before (given_difference_of c.intra (dc_past_of s.pasts block)) _ part found)
 
-    module _ {dc : ℤ} {n : ℕ} (first : ParsesAs (read_dc_of c.intra (dc_past_of s.pasts block)) part (value dc n)) where
-      pub levels-stop : {refusal : Refusal} → ParsesAs (levels_into (one_block_coding c) matrix (dc_block dc)) (drop n part) (stopped refusal) → ParsesAs (block_into c matrix block s) part (stopped refusal)
+    module _ {dc : ℤ} {after_dc : Cursor} (first : ParsesAs (read_dc_of c.intra (dc_past_of s.pasts block)) part (Ok (dc, after_dc))) where
+      pub levels-stop : {refusal : Refusal} → ParsesAs (levels_into (one_block_coding c) matrix (dc_block dc)) (drop after_dc.at part) (Err refusal) → ParsesAs (block_into c matrix block s) part (Err refusal)
       unfolding block_of
       levels-stop found =
           let d = made_of (given_difference_of c.intra (dc_past_of s.pasts block)) _ part first in
-          rw (e, d.found.0, stopped-before (levels_of c.intra) _ (drop n part) found)
+          rw (e, d.found.0, stopped-before (levels_of c.intra) _ (drop after_dc.at part) found)
 
-      pub block-found : {values : List ℤ} {m : ℕ} → ParsesAs (levels_into (one_block_coding c) matrix (dc_block dc)) (drop n part) (value values m)
-          → ParsesAs (block_into c matrix block s) part (value (record { pasts = dc_pasts_with c.intra s.pasts block dc; coefficients = put_block block values s.coefficients }) (n + m))
+      pub block-found : {values : List ℤ} {end : Cursor} → ParsesAs (levels_into (one_block_coding c) matrix (dc_block dc)) (drop after_dc.at part) (Ok (values, end))
+          → ParsesAs (block_into c matrix block s) part (Ok (record { pasts = dc_pasts_with c.intra s.pasts block dc; coefficients = put_block block values s.coefficients }, record { at = after_dc.at + end.at }))
       unfolding block_of block_coefficients
-      block-found {values} {m} second =
+      block-found {values} {end} second =
           let d = made_of (given_difference_of c.intra (dc_past_of s.pasts block)) _ part first in
-          let l = made_of (levels_of c.intra) _ (drop n part) second in
-          (rw (e, d.found.0, l.found.0, d.is, l.is, drop-drop), omega (arith, first.1, second.1, length-drop n part))
+          let l = made_of (levels_of c.intra) _ (drop after_dc.at part) second in
+          (rw (e, d.found.0, l.found.0, d.is, l.is, drop-drop), omega (arith, first.1, second.1, length-drop after_dc.at part))
 
 -- ---- one step in the definition of the six blocks
 module _ (intra : Bool) (pattern : ℕ) where
@@ -185,7 +186,7 @@ module _ (c : BlocksCoding) (matrix : List ℕ) (start : Progress) (body : List 
   at-start p = record { below = omega arith; inside = omega arith; legal = p; blocks = []; count = refl; holds = refl; goes_on = sym (nothing-after (blocks_of c.intra c.pattern 6 start.pasts 0 body)) }
 
   module _ {block at : ℕ} {s : Progress} (p : BetweenBlocks block at s) where
-    pub ends : 6 ≤ block → start.coefficients ≡ replicate 384 (pos 0) → ParsesAs (decoded_blocks_of c matrix start.pasts) body (value (record { pasts = s.pasts; coefficients = six_blocks s.coefficients }) at)
+    pub ends : 6 ≤ block → start.coefficients ≡ replicate 384 (pos 0) → ParsesAs (decoded_blocks_of c matrix start.pasts) body (Ok (record { pasts = s.pasts; coefficients = six_blocks s.coefficients }, record { at = at }))
     ends h zeros =
         let none : 6 - block ≤ 0 = omega arith in
         let six : length p.blocks ≡ 6 = omega (arith, p.count, p.below) in
@@ -197,13 +198,14 @@ module _ (c : BlocksCoding) (matrix : List ℕ) (start : Progress) (body : List 
       some : 0 < 6 - block
       some = omega arith
 
-      pub stops : {refusal : Refusal} → ParsesAs (block_into c matrix block s) (drop at body) (stopped refusal) → ParsesAs (decoded_blocks_of c matrix start.pasts) body (stopped refusal)
+      pub stops : {refusal : Refusal} → ParsesAs (block_into c matrix block s) (drop at body) (Err refusal) → ParsesAs (decoded_blocks_of c matrix start.pasts) body (Err refusal)
       stops found =
           let e = stopped-before (given_block_of c.intra c.pattern s.pasts block) _ (drop at body) found in
           rw (p.goes_on, one-refused c.intra c.pattern (6 - block) block s.pasts (drop at body) some e)
 
-      pub one_more : {next : Progress} {n : ℕ} → ParsesAs (block_into c matrix block s) (drop at body) (value next n) → BetweenBlocks (block + 1) (at + n) next
-      one_more {next} {n} found =
+      pub one_more : {next : Progress} {cursor : Cursor} → ParsesAs (block_into c matrix block s) (drop at body) (Ok (next, cursor)) → BetweenBlocks (block + 1) (at + cursor.at) next
+      one_more {next} {cursor} found =
+          let n = cursor.at in
           let b = made_of (given_block_of c.intra c.pattern s.pasts block) _ (drop at body) found in
           let read = b.found.0 in
           let pasts : dc_pasts_after c.intra s.pasts block b.source ≡ next.pasts = sym (progress-pasts c matrix block s b.source) ∙ ap (λ (t : Progress). t.pasts) b.is in

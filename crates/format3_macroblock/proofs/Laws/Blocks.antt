@@ -7,6 +7,7 @@ use native.Mathlib.Omega.{arith}
 use lib.Dec.{ltb, eqb}
 use lib.IntN.{ℤ, pos, negsuc}
 use lib.ListN.{get_or}
+use mir.ValLaws.{to_z-of_z}
 use Rattle.math.specs.Bound.{Within, AllBetween}
 use Rattle.math.proofs.Bound.{within-literal}
 use Rattle.math.proofs.Difference.{le_of, of_le}
@@ -16,6 +17,7 @@ use Rattle.symbols.specs.Parsed.{give}
 use Rattle.symbols.specs.Pair.{first_position}
 use Rattle.symbols.specs.Block.{Block, uncoded, coded}
 use Rattle.symbols.specs.Pattern.{is_coded}
+use Rattle.symbols.proofs.Guard.{passes, fails}
 use Rattle.symbols.proofs.Parsed.{All, here, all_then, all-require, all_more, all_any}
 use Rattle.decode_coefficients.specs.Scaling.{intra_dc}
 use Rattle.decode_coefficients.specs.declared.block.BlockCoding.{BlockCoding}
@@ -36,6 +38,9 @@ difference-within difference e = between-within (range-between (negsuc 254) (pos
 pub dc-within : (dc : ℤ) → legal_dc dc ≡ true → Within 2040 dc
 unfolding legal_dc
 dc-within dc e = between-within (range-between (pos 0) (pos 2040) dc e) (within-literal tt) (within-literal tt)
+
+-- what a function needs that makes the tests of a DC
+pub ruleset dc_reads = (passes, fails, to_z-of_z, difference-within, dc-within)
 
 pub first-near : (intra : Bool) → first_position intra ≤ 64
 unfolding first_position

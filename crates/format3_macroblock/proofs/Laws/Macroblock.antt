@@ -8,22 +8,26 @@ use native.Mathlib.Omega.{arith}
 use borrow.Author.Tests.{leb-true}
 use lib.Dec.{leb, ltb}
 use lib.ListN.{length, drop, replicate, length-drop, drop_of_length-le}
+use Rattle.std.specs.Prelude.{Ok, Err}
 use Rattle.refusals.specs.declared.Refusal.{Refusal}
 use Rattle.refusals.specs.declared.Refusal.TheVariants.{BodyLength}
-use Rattle.symbols.specs.Parsed.{Parsed, Parser, parsed, refused, bind, give, value, stopped, ParsesAs}
+use Rattle.symbols.specs.Parsed.{Parsed, Parser, parsed, refused, bind, give}
 use Rattle.symbols.specs.MacroblockType.{has_scale, is_intra, legal_type}
 use Rattle.symbols.specs.Block.{Block, uncoded}
 use Rattle.symbols.specs.Pattern.{is_coded}
 use Rattle.symbols.specs.declared.macroblock.MacroblockSymbols.{MacroblockSymbols}
 use Rattle.symbols.specs.Macroblock.{Macroblock}
 use Rattle.symbols.proofs.Guard.{both}
-use Rattle.symbols.proofs.Parsed.{All, here, none, all_then, made_of, stopped-before}
+use Rattle.symbols.proofs.Parsed.{All, here, none, all_then}
 use Rattle.decode_coefficients.specs.Matrices.{matrix_for}
 use Rattle.decode_coefficients.specs.declared.matrices.Matrices.{Matrices}
 use Rattle.decode_coefficients.specs.declared.dc.DcPasts.{DcPasts}
 use Rattle.decode_coefficients.specs.Dc.{dc_pasts_through, reset_dc_pasts, starting_dc_pasts, dc_pasts_left}
 use Rattle.decode_coefficients.specs.Requires.{BlocksInRange}
 use Rattle.decode_coefficients.specs.Macroblock.{scale_after, block_coding, macroblock_coefficients, symbols_with_dc}
+use Rattle.format3_records.specs.declared.field.Cursor.{Cursor}
+use Rattle.format3_records.specs.Reader.{ParsesAs}
+use Rattle.format3_records.proofs.Reader.{made_of, stopped-before}
 use Rattle.format3_macroblock.specs.declared.blocks.BlocksCoding.{BlocksCoding}
 use Rattle.format3_macroblock.specs.Blocks.{legal_dc, blocks_of, six_blocks_of}
 use Rattle.format3_macroblock.specs.Requires.{LegalDcPasts}
@@ -142,20 +146,20 @@ module _ (m : MacroblockSymbols) (scale : ℕ) (matrices : Matrices) (pasts : Dc
   abbrev pub six : Parser DecodedBlocks
   six = decoded_blocks_of blocks_coding (matrix_for (is_intra m.macroblock_type) matrices) pasts
 
-  pub six-stop : {refusal : Refusal} → ParsesAs six part (stopped refusal) → ParsesAs (decoded_to_end_of m scale matrices pasts) part (stopped refusal)
+  pub six-stop : {refusal : Refusal} → ParsesAs six part (Err refusal) → ParsesAs (decoded_to_end_of m scale matrices pasts) part (Err refusal)
   unfolding blocks_to_end_of
   six-stop found = rw (stopped-before (six_blocks_of (is_intra m.macroblock_type) m.pattern pasts) _ part found)
 
-  module _ {d : DecodedBlocks} {n : ℕ} (found : ParsesAs six part (value d n)) where
-    pub bytes_left : n < length part → ParsesAs (decoded_to_end_of m scale matrices pasts) part (stopped BodyLength)
+  module _ {d : DecodedBlocks} {end : Cursor} (found : ParsesAs six part (Ok (d, end))) where
+    pub bytes_left : end.at < length part → ParsesAs (decoded_to_end_of m scale matrices pasts) part (Err BodyLength)
     unfolding blocks_to_end_of
-    bytes_left more = rw (made_of (six_blocks_of (is_intra m.macroblock_type) m.pattern pasts) _ part found).found.0 (go (drop n part) (omega (arith, length-drop n part)))
+    bytes_left more = rw (made_of (six_blocks_of (is_intra m.macroblock_type) m.pattern pasts) _ part found).found.0 (go (drop end.at part) (omega (arith, length-drop end.at part)))
       where
         go : (rest : List ℕ) → 0 < length rest → bind (at_end (made_of (six_blocks_of (is_intra m.macroblock_type) m.pattern pasts) _ part found).source rest) (λ blocks. give (decoded_blocks (block_coding m scale) (matrix_for (is_intra m.macroblock_type) matrices) pasts blocks)) ≡ refused BodyLength
         go [] h = absurd (omega arith)
         go (b ∷ rest) h = refl
 
-    pub no-byte-left : length part ≤ n → ParsesAs (decoded_to_end_of m scale matrices pasts) part (value d n)
+    pub no-byte-left : length part ≤ end.at → ParsesAs (decoded_to_end_of m scale matrices pasts) part (Ok (d, end))
     unfolding blocks_to_end_of
     no-byte-left None-more =
         let b = made_of (six_blocks_of (is_intra m.macroblock_type) m.pattern pasts) _ part found in

@@ -1,11 +1,9 @@
--- The test of a macroblock's address, as the code makes it, and that a head that was read is legal. Assumes nothing.
+-- A head that was read is legal. Assumes nothing.
 use mathlib.Core.Path.{◌≡◌}
 use mathlib.Core.Bool.{Bool, true, false, cond}
 use mathlib.Core.List.{List}
-use Prim.Native.Nat.{ℕ, ◌+◌, ◌-◌, ◌<◌, ◌≤◌}
+use Prim.Native.Nat.{ℕ}
 use native.Mathlib.Omega.{arith}
-use lib.Dec.{leb}
-use borrow.Author.Tests.{le-leb, lt-leb}
 use Rattle.refusals.specs.declared.Refusal.TheVariants.{MacroblockType, AddressIncrement}
 use Rattle.symbols.specs.Parsed.{give}
 use Rattle.symbols.specs.declared.macroblock.MacroblockHead.{MacroblockHead}
@@ -17,17 +15,6 @@ use Rattle.format3_macroblock.specs.MacroblockHead.{legal_increment, given_scale
 use Rattle.format3_macroblock.specs.Slice.{legal_scale, scale_of}
 use Rattle.format3_macroblock.proofs.Laws.Slice.{scale-legal}
 
-module _ (next all increment : ℕ) where
-  pub past_all : 1 ≤ increment → all < next → leb (next + increment) all ≡ false
-  past_all h k = lt-leb (next + increment) all (omega arith)
-
-  pub past-last : all - next < increment → leb (next + increment) all ≡ false
-  past-last h = lt-leb (next + increment) all (omega arith)
-
-  pub address-fits : next ≤ all → increment ≤ all - next → leb (next + increment) all ≡ true
-  address-fits h k = le-leb (next + increment) all (omega arith)
-
--- ---- a head that was read is legal
 pub record LegalHead (c : HeadContext) (h : MacroblockHead) : Type 0 where
   pub type : legal_type c.coding_type h.macroblock_type ≡ true
   pub increment : legal_increment c h.increment ≡ true

@@ -2,14 +2,14 @@
 use mathlib.Core.Bool.{Bool, true, false}
 use mathlib.Core.Path.{◌≡◌, refl, sym, ap, subst, ◌∙◌}
 use mathlib.Core.List.{List, [], ◌∷◌, ◌++◌, append-nil}
-use Prim.Native.Nat.{ℕ, suc, ◌+◌, ◌<◌, ◌≤◌}
+use Prim.Native.Nat.{ℕ, suc, ◌+◌, ◌-◌, ◌<◌, ◌≤◌, min}
 use native.Mathlib.Numerals.{add-one, unary_clauses}
 use native.Mathlib.Nat.{zero-add, add_assoc, min-eq_left, min-eq_right, le_of_lt}
 use native.Mathlib.Omega.{arith}
 use borrow.Author.Tests.{leb-true, leb-false, lt-leb}
 use lib.Dec.{leb}
-use lib.ListN.{length, get_or, take, drop, set, length-set, take-append-drop, drop_of_length-le}
-use lib.Seq.{length-take-le, take_all, take-append_seam, drop-length, set_out, set_comm, take-set-le, drop-set-lt, sets, sets-eq, drop-cons}
+use lib.ListN.{length, take, drop, set, length-set, take-append-drop}
+use lib.Seq.{length-take-le, take_all, take-append_seam, drop-length, set_out, set_comm, take-set-le, drop-set-lt, sets, sets-eq}
 use Rattle.format3_writer.specs.Written.{written, max_offset, saturating_add}
 
 -- writing does not change the buffer's length
@@ -19,10 +19,10 @@ written-length at [] buffer = refl
 written-length at (byte ∷ bytes) buffer = written-length (at + 1) bytes (set buffer at byte) ∙ length-set buffer at byte
 
 -- at or past the buffer's end, nothing is written
-pub written-past : (at : ℕ) (bytes buffer : List ℕ) → length buffer ≤ at → written at bytes buffer ≡ buffer
+pub written_past : (at : ℕ) (bytes buffer : List ℕ) → length buffer ≤ at → written at bytes buffer ≡ buffer
 unfolding written
-written-past at [] buffer h = refl
-written-past at (byte ∷ bytes) buffer h = rw (set_out buffer at byte h) (written-past (at + 1) bytes buffer (omega arith))
+written_past at [] buffer h = refl
+written_past at (byte ∷ bytes) buffer h = rw (set_out buffer at byte h) (written_past (at + 1) bytes buffer (omega arith))
 
 next-offset : (at n : ℕ) → at + 1 + n ≡ at + suc n
 next-offset at n = omega arith
@@ -78,7 +78,24 @@ written-whole bytes buffer h = rw (zero-add (length bytes)) at (written-fits 0 b
 pub written_back : (bytes buffer : List ℕ) → length bytes ≤ length buffer → take (length bytes) (written 0 bytes buffer) ≡ bytes
 written_back bytes buffer h = rw (written-whole bytes buffer h) (take-append_seam bytes (drop (length bytes) buffer))
 
--- of bytes written at the start, only as many as the buffer holds count
+-- of bytes written, only as many as the buffer still holds count
+pub written-fitting : (at n : ℕ) (bytes buffer : List ℕ) → at ≤ length buffer → n ≡ min (length bytes) (length buffer - at) → written at bytes buffer ≡ take at buffer ++ take n bytes ++ drop (at + n) buffer
+written-fitting at n bytes buffer h same = go (leb (length bytes) (length buffer - at)) refl
+  where
+    go : (t : Bool) → leb (length bytes) (length buffer - at) ≡ t → written at bytes buffer ≡ take at buffer ++ take n bytes ++ drop (at + n) buffer
+    go true e =
+        let whole : n ≡ length bytes = same ∙ min-eq_left (leb-true (length bytes) (length buffer - at) e) in
+        rw (whole, take_all (length bytes) bytes (omega arith)) (written-fits at bytes buffer (omega (arith, leb-true (length bytes) (length buffer - at) e)))
+    go false e =
+        let less : length buffer - at < length bytes = leb-false (length bytes) (length buffer - at) e in
+        let room : n ≡ length buffer - at = same ∙ min-eq_right (le_of_lt less) in
+        let some : length (take n bytes) ≡ n = length-take-le n bytes (omega arith) in
+        ap (λ (l : List ℕ). written at l buffer) (sym (take-append-drop n bytes))
+        ∙ written-append at (take n bytes) (drop n bytes) buffer
+        ∙ written_past (at + length (take n bytes)) (drop n bytes) (written at (take n bytes) buffer) (rw (written-length at (take n bytes) buffer) (omega arith))
+        ∙ written-fits at (take n bytes) buffer (omega arith)
+        ∙ rw some
+
 pub written-clipped : (bytes buffer : List ℕ) → written 0 bytes buffer ≡ written 0 (take (length buffer) bytes) buffer
 written-clipped bytes buffer = go (leb (length buffer) (length bytes)) refl
   where
@@ -90,7 +107,7 @@ written-clipped bytes buffer = go (leb (length buffer) (length bytes)) refl
         let whole = length-take-le (length buffer) bytes (leb-true (length buffer) (length bytes) e) in
         ap (λ (l : List ℕ). written 0 l buffer) (sym (take-append-drop (length buffer) bytes))
         ∙ written-append 0 some (drop (length buffer) bytes) buffer
-        ∙ written-past (0 + length some) _ (written 0 some buffer) (rw (written-length 0 some buffer) (omega (arith, whole)))
+        ∙ written_past (0 + length some) _ (written 0 some buffer) (rw (written-length 0 some buffer) (omega (arith, whole)))
     go false e = rw (take_all (length buffer) bytes (omega (arith, leb-false (length buffer) (length bytes) e)))
 
 -- writing back what the buffer starts with changes nothing
@@ -126,26 +143,13 @@ module _ (at n : ℕ) where
   pub written-at-max-offset : (bytes buffer : List ℕ) → length buffer ≤ max_offset → written (saturating_add at n) bytes buffer ≡ written (at + n) bytes buffer
   written-at-max-offset bytes buffer h =
       both-far (λ (k m : ℕ). written k bytes buffer ≡ written m bytes buffer) (λ k. refl)
-      (λ far. written-past max_offset bytes buffer h ∙ sym (written-past (at + n) bytes buffer (omega (arith, far))))
+      (λ far. written_past max_offset bytes buffer h ∙ sym (written_past (at + n) bytes buffer (omega (arith, far))))
 
   pub fits-max-offset : (size : ℕ) → size < max_offset → leb (saturating_add at n) size ≡ leb (at + n) size
   fits-max-offset size h =
       both-far (λ (k m : ℕ). leb k size ≡ leb m size) (λ k. refl) (λ far. lt-leb max_offset size h ∙ sym (lt-leb (at + n) size (omega (arith, far))))
 
 -- three bytes, stored one by one
-pub written-three : (at a b c : ℕ) (buffer : List ℕ) → set (set (set buffer at a) (at + 1) b) (at + 2) c ≡ written at (a ∷ b ∷ c ∷ []) buffer
+pub written_three : (at a b c : ℕ) (buffer : List ℕ) → set (set (set buffer at a) (at + 1) b) (at + 2) c ≡ written at (a ∷ b ∷ c ∷ []) buffer
 unfolding written
-written-three at a b c buffer = rw (← add_assoc at 1 1)
-
--- ---- invariant of a loop that writes byte k at `at + k`: writing the remaining bytes gives the final buffer
-pub written_start : (at : ℕ) (bytes buffer : List ℕ) → written (at + 0) (drop 0 bytes) buffer ≡ written at bytes buffer
-written_start at bytes buffer = simp unary_clauses
-
-module _ (at k : ℕ) (bytes buffer : List ℕ) where
-  pub written-none-left : length bytes ≤ k → written (at + k) (drop k bytes) buffer ≡ buffer
-  unfolding written
-  written-none-left h = rw (drop_of_length-le bytes h)
-
-  pub written-one-more : k < length bytes → written (at + k) (drop k bytes) buffer ≡ written (at + (k + 1)) (drop (k + 1) bytes) (set buffer (at + k) (get_or bytes k 0))
-  unfolding written
-  written-one-more h = rw (drop-cons bytes k 0 h, ← add-one k, ← add_assoc at k 1)
+written_three at a b c buffer = rw (← add_assoc at 1 1)

@@ -1,12 +1,14 @@
 -- How the first reading of a slice decides the answer, and which header numbers are legal. Assumes nothing.
 use mathlib.Core.Bool.{true}
 use mathlib.Core.List.{List, ◌++◌}
-use mathlib.Core.Path.{◌≡◌, sym, ap, subst, ◌∙◌}
+use mathlib.Core.Path.{◌≡◌, refl, sym, ap, ◌∙◌}
+use Rattle.std.specs.Prelude.{Result, Ok, Err}
 use Prim.Native.Nat.{ℕ, ◌+◌, ◌<◌, ◌≤◌}
 use native.Mathlib.Omega.{arith}
+use lib.Dec.{leb}
 use lib.ListN.{length, take, drop, length-append}
 use lib.Seq.{length-take-le}
-use borrow.Author.Tests.{le-leb, lt-leb}
+use borrow.Author.Tests.{le-leb, lt-leb, leb-false}
 use Rattle.refusals.specs.declared.Refusal.{Refusal}
 use Rattle.math.specs.Joined.{joined}
 use Rattle.symbols.specs.Guard.{require◌else◌then◌}
@@ -15,7 +17,6 @@ use Rattle.symbols.specs.Size.{max_width, max_height, legal_size}
 use Rattle.symbols.specs.Header.{legal_header, header_value, header_with}
 use Rattle.symbols.specs.declared.header.Header.{Header}
 use Rattle.symbols.specs.declared.header.HeaderFields.{HeaderFields}
-use Rattle.symbols.specs.declared.header.HeaderAnswer.TheVariants as Header
 use Rattle.symbols.specs.Slice.{Slice}
 use Rattle.symbols.proofs.Guard.{both}
 use Rattle.symbols.proofs.Parsed.{all-at}
@@ -26,51 +27,35 @@ use Rattle.format3_writer.proofs.Laws.Written.{written-append, written-take, wri
 use Rattle.format3_writer.specs.Records.{macroblock_record, slice_bytes}
 use Rattle.mpeg1_bits.specs.declared.BitPosition.{BitPosition}
 use Rattle.mpeg1_tables.proofs.Laws.Prefix.{case}
-use Rattle.mpeg1_slice.specs.Read.{Read, stop}
+use Rattle.mpeg1_slice.specs.declared.refused.RefusedAt.{RefusedAt}
+use Rattle.mpeg1_slice.specs.Read.{Read}
 use Rattle.mpeg1_slice.specs.Slice.{first_bit, macroblocks_at}
 use Rattle.mpeg1_reader.specs.WriteAnswer.{WrittenAt}
-use Rattle.mpeg1_reader.specs.declared.write_answer.Checkpoint.{Checkpoint}
-use Rattle.mpeg1_reader.specs.declared.write_answer.RecordsAnswer.{RecordsAnswer}
-use Rattle.mpeg1_reader.specs.declared.write_answer.RecordsAnswer.TheVariants.{Done, Refused}
+use Rattle.mpeg1_reader.specs.declared.write_answer.WrittenRecords.{WrittenRecords}
 use Rattle.mpeg1_reader.specs.RecordOffsets.{ResumesAt, RecordsAnswered, done, stopped}
-use Rattle.mpeg1_reader.specs.Answer.{refused_outcome, accepted_with, fitted, read_outcome}
+use Rattle.mpeg1_reader.specs.declared.entry.PictureParameters.{PictureParameters}
+use Rattle.mpeg1_reader.specs.Answer.{given_fields, byte_given, refused_outcome, accepted_with, fitted, read_outcome}
 
 -- ---- the result of the first reading: where the slice ends, how long its records are, and a checkpoint
-pub record Measured (h : Header) (bytes : List ℕ) (capacity : ℕ) (x : Read Slice) (p : BitPosition) (n : ℕ) (checkpoint : Checkpoint) : Type 0 where
+pub record Measured (h : Header) (bytes : List ℕ) (capacity : ℕ) (x : Read Slice) (w : WrittenRecords) : Type 0 where
   pub slice : Slice
-  pub is : x ≡ parsed slice p
-  pub size : n ≡ saturating_add 0 (length (slice_bytes slice))
-  pub resumes : ResumesAt h bytes 0 capacity (slice_bytes slice) p checkpoint
+  pub is : x ≡ parsed slice w.at
+  pub size : w.end ≡ saturating_add 0 (length (slice_bytes slice))
+  pub resumes : ResumesAt h bytes 0 capacity (slice_bytes slice) w.at w.whole
 
 module _ {h : Header} {bytes : List ℕ} {capacity : ℕ} where
-  pub measured : (x : Read Slice) {r : RecordsAnswer} {p : BitPosition} {n : ℕ} {checkpoint : Checkpoint} → RecordsAnswered slice_bytes h bytes 0 capacity x r → r ≡ Done p n checkpoint
-      → Measured h bytes capacity x p n checkpoint
-  measured (parsed a q) {r} {p} {n} {checkpoint} (done {checkpoint = c} resumes) f = record {
-    slice = a;
-    is = ap (λ (y : BitPosition). parsed a y) end;
-    size = sym (ap size_of f);
-    resumes = subst (λ (y : BitPosition). ResumesAt h bytes 0 capacity (slice_bytes a) y checkpoint) end (subst (ResumesAt h bytes 0 capacity (slice_bytes a) q) (ap checkpoint_of f) resumes);
-  }
-    where
-      end_of : RecordsAnswer → BitPosition
-      end_of (Done y size c) = y
-      end_of (Refused refusal y) = y
+  pub measured : (x : Read Slice) {w : WrittenRecords} → RecordsAnswered slice_bytes h bytes 0 capacity x (Ok w) → Measured h bytes capacity x w
+  measured (parsed a q) (done {checkpoint = c} resumes) = record { slice = a; is = refl; size = refl; resumes = resumes }
+  measured (refused _) x = elim x [ ]
 
-      size_of : RecordsAnswer → ℕ
-      size_of (Done y size c) = size
-      size_of (Refused refusal y) = 0
+  pub unmeasured : (x : Read Slice) {reason : RefusedAt} → RecordsAnswered slice_bytes h bytes 0 capacity x (Err reason) → x ≡ refused reason
+  unmeasured (refused reason) stopped = refl
+  unmeasured (parsed _ _) x = elim x [ ]
 
-      checkpoint_of : RecordsAnswer → Checkpoint
-      checkpoint_of (Done y size c) = c
-      checkpoint_of (Refused refusal y) = checkpoint
-
-      end : q ≡ p
-      end = ap end_of f
-  measured (refused (stop refusal q)) stopped f = let z : ◌≡◌ {A = ℕ} 0 1 = cc in absurd (omega arith)
-
-  pub unmeasured : (x : Read Slice) {r : RecordsAnswer} {refusal : Refusal} {p : BitPosition} → RecordsAnswered slice_bytes h bytes 0 capacity x r → r ≡ Refused refusal p → x ≡ refused (stop refusal p)
-  unmeasured (parsed a q) (done resumes) f = let z : ◌≡◌ {A = ℕ} 0 1 = cc in absurd (omega arith)
-  unmeasured (refused (stop refusal q)) stopped f = cc
+  -- what is read once isn't refused again
+  pub never-refused : {A : Type 0} {records_of : A → List ℕ} {offset : ℕ} (x : Read A) {reason : RefusedAt} {a : A} {p : BitPosition} → RecordsAnswered records_of h bytes offset capacity x (Err reason) → x ≡ parsed a p → ⊥
+  never-refused (refused _) stopped e = let z : ◌≡◌ {A = ℕ} 0 1 = cc in omega arith
+  never-refused (parsed _ _) x e = elim x [ ]
 
 past : {n k room : ℕ} → n ≡ saturating_add 0 k → room < n → room < k
 unfolding saturating_add
@@ -104,32 +89,32 @@ put-resumed front rest first buffer {at} {full} {between} {last} counted inside 
     between_is : between ≡ written 0 front buffer
     between_is = put ∙ rw (size, front_of) (sym (written-whole front buffer (omega (arith, size))))
 
-module _ {h : Header} {bytes : List ℕ} {capacity : ℕ} (x : Read Slice) {p : BitPosition} {n : ℕ} {checkpoint : Checkpoint} (m : Measured h bytes capacity x p n checkpoint) (buffer : List ℕ) (room : length buffer < max_offset) where
-  pub too_long : length buffer < n → read_outcome x buffer ≡ refused_outcome Refusal.RecordsLength first_bit buffer
+module _ {h : Header} {bytes : List ℕ} {capacity : ℕ} (x : Read Slice) {w : WrittenRecords} (m : Measured h bytes capacity x w) (buffer : List ℕ) (room : length buffer < max_offset) where
+  pub too_long : length buffer < w.end → read_outcome x buffer ≡ refused_outcome Refusal.RecordsLength first_bit buffer
   unfolding fitted require◌else◌then◌
   too_long k = rw (m.is, lt-leb (length (slice_bytes m.slice)) (length buffer) longer)
     where
       longer : length buffer < length (slice_bytes m.slice)
       longer = past m.size k
 
-  short-enough : n ≤ length buffer → length (slice_bytes m.slice) ≤ length buffer
+  short-enough : w.end ≤ length buffer → length (slice_bytes m.slice) ≤ length buffer
   short-enough k = not-past m.size k room
 
-  pub whole-size : n ≤ length buffer → n ≡ length (slice_bytes m.slice)
+  pub whole-size : w.end ≤ length buffer → w.end ≡ length (slice_bytes m.slice)
   whole-size k = whole m.size k room
 
-  pub it-fits : n ≤ length buffer → read_outcome x buffer ≡ accepted_with (slice_bytes m.slice) p buffer
+  pub it-fits : w.end ≤ length buffer → read_outcome x buffer ≡ accepted_with (slice_bytes m.slice) w.at buffer
   unfolding fitted require◌else◌then◌
   it-fits k = rw (m.is, le-leb (length (slice_bytes m.slice)) (length buffer) (short-enough k))
 
-  pub checkpoint-fits : n ≤ length buffer → checkpoint.offset ≤ length buffer
+  pub checkpoint-fits : w.end ≤ length buffer → w.whole.offset ≤ length buffer
   checkpoint-fits k =
       let c = m.resumes in
       omega (arith, short-enough k, ap length c.same, length-append c.front (joined macroblock_record c.rest), c.counted)
 
   -- what the room has up to the checkpoint, and then the rest written after it, are the slice's records
-  pub resumed-there : (first : List ℕ) {full between last : List ℕ} → capacity ≡ length first → n ≤ length buffer → WrittenAt slice_bytes 0 first full x → between ≡ take checkpoint.offset full ++ drop checkpoint.offset buffer
-      → WrittenAt (joined macroblock_record) checkpoint.offset between last (macroblocks_at h bytes checkpoint.at) → last ≡ slice_bytes m.slice ++ drop (length (slice_bytes m.slice)) buffer
+  pub resumed-there : (first : List ℕ) {full between last : List ℕ} → capacity ≡ length first → w.end ≤ length buffer → WrittenAt slice_bytes 0 first full x → between ≡ take w.whole.offset full ++ drop w.whole.offset buffer
+      → WrittenAt (joined macroblock_record) w.whole.offset between last (macroblocks_at h bytes w.whole.at) → last ≡ slice_bytes m.slice ++ drop (length (slice_bytes m.slice)) buffer
   resumed-there first same-room k read put again =
       let c = m.resumes in
       let records = slice_bytes m.slice in
@@ -146,7 +131,7 @@ pub record Small (f : HeaderFields) : Type 0 where
   pub forward : f.forward_f_code ≤ 7
   pub backward : f.backward_f_code ≤ 7
 
-legal-made : (f : HeaderFields) → legal_header f ≡ true → header_with f ≡ Header.Legal (header_value f)
+legal-made : (f : HeaderFields) → legal_header f ≡ true → header_with f ≡ Ok (header_value f)
 unfolding header_with require◌else◌then◌
 legal-made f e = rw e
 
@@ -160,13 +145,33 @@ legal-small f e =
     let within = (made-within f).within (header_value f) (legal-made f e) in
     record { wide = size.1; high = size.3; type = within.last-type; forward = within.forward.most; backward = within.backward.most }
 
-pub illegal : (f : HeaderFields) → (Small f → ⊥) → Header.Refused Refusal.Header ≡ header_with f
+pub illegal : (f : HeaderFields) → (Small f → ⊥) → Err Refusal.Header ≡ header_with f
 unfolding header_with require◌else◌then◌
 illegal f large = case (legal_header f) (λ t. absurd (large (legal-small f t))) (λ t. rw t)
 
-pub legal-height : (f : HeaderFields) {h : Header} → header_with f ≡ Header.Legal h → h.size.height ≤ max_height
+pub legal-height : (f : HeaderFields) {h : Header} → header_with f ≡ Ok h → h.size.height ≤ max_height
 unfolding header_with require◌else◌then◌
 legal-height f {h} e =
     case (legal_header f)
     (λ t. let same : header_value f ≡ h = cc (rw t at e) in omega (arith, ap (λ (x : Header). x.size.height) same, (legal-small f t).high))
     (λ t. let z : ◌≡◌ {A = ℕ} 0 1 = cc (rw t at e) in absurd (omega arith))
+
+-- ---- a given number above 255 is refused, and the others are the fields' numbers
+pub byte-refused : (n : ℕ) {refusal : Refusal} → Err refusal ≡ byte_given n → (255 < n) × (refusal ≡ Refusal.Header)
+unfolding byte_given
+byte-refused n {refusal} e =
+    case (leb n 255)
+    (λ t. let same : ◌≡◌ {A = Result ℕ Refusal} (Err refusal) (Ok n) = rw t at e in absurd (let z : ◌≡◌ {A = ℕ} 0 1 = cc in omega arith))
+    (λ t. let same : ◌≡◌ {A = Result ℕ Refusal} (Err refusal) (Err Refusal.Header) = rw t at e in (leb-false n 255 t, cc))
+
+byte-kept : (n : ℕ) {b : ℕ} → Ok b ≡ byte_given n → b ≡ n
+unfolding byte_given
+byte-kept n {b} e =
+    case (leb n 255)
+    (λ t. let same : ◌≡◌ {A = Result ℕ Refusal} (Ok b) (Ok n) = rw t at e in cc)
+    (λ t. let same : ◌≡◌ {A = Result ℕ Refusal} (Ok b) (Err Refusal.Header) = rw t at e in absurd (let z : ◌≡◌ {A = ℕ} 0 1 = cc in omega arith))
+
+pub fields-kept : (given : PictureParameters) {width height type forward backward : ℕ} → Ok width ≡ byte_given given.width → Ok height ≡ byte_given given.height → Ok type ≡ byte_given given.coding_type
+    → Ok forward ≡ byte_given given.forward_f_code → Ok backward ≡ byte_given given.backward_f_code
+    → ◌≡◌ {A = HeaderFields} (record { width = width; height = height; coding_type = type; full_pel_forward = 0; forward_f_code = forward; full_pel_backward = 0; backward_f_code = backward }) (given_fields given)
+fields-kept given a b c d e = rw (byte-kept _ a, byte-kept _ b, byte-kept _ c, byte-kept _ d, byte-kept _ e) refl

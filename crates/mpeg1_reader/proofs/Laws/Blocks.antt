@@ -2,6 +2,7 @@
 use mathlib.Core.Bool.{Bool}
 use mathlib.Core.List.{List, [], ◌∷◌, ◌++◌, append-nil}
 use mathlib.Core.Path.{◌≡◌, refl, sym, ap, subst, ◌∙◌}
+use Rattle.std.specs.Prelude.{Result, Ok}
 use Prim.Native.Nat.{ℕ, zero, suc, ◌+◌, ◌-◌, ◌*◌, ◌<◌, ◌≤◌}
 use native.Mathlib.Omega.{arith}
 use lib.ListN.{length, length-append}
@@ -18,19 +19,25 @@ use Rattle.format3_writer.proofs.Laws.Writing.{written-more}
 use Rattle.format3_writer.proofs.Laws.Lengths.{block-short}
 use Rattle.mpeg1_bits.specs.Requires.{InBytes}
 use Rattle.mpeg1_bits.specs.declared.BitPosition.{BitPosition}
-use Rattle.mpeg1_slice.specs.Read.{Stop, Read}
+use Rattle.mpeg1_slice.specs.declared.refused.RefusedAt.{RefusedAt}
+use Rattle.mpeg1_slice.specs.Read.{Read}
 use Rattle.mpeg1_slice.specs.Blocks.{given_block_at, blocks_from}
 use Rattle.mpeg1_reader.specs.WriteAnswer.{write_answer, WrittenAt}
-use Rattle.mpeg1_reader.specs.declared.write_answer.WriteAnswer.{WriteAnswer}
-use Rattle.mpeg1_reader.proofs.Laws.Writing.{Part}
+use Rattle.mpeg1_reader.specs.declared.write_answer.Written.{Written}
+use Rattle.mpeg1_reader.proofs.Laws.Writing.{Part, part-done}
 use Rattle.mpeg1_reader.proofs.Laws.Few.{given-short}
 
 -- replaces the test whether the macroblock is intra by an equal one
-pub blocks-as : (bytes : List ℕ) (at : BitPosition) (a b : Bool) (pattern offset : ℕ) (before : List ℕ) {r : WriteAnswer} {now : List ℕ} → a ≡ b
+pub blocks-as : (bytes : List ℕ) (at : BitPosition) (a b : Bool) (pattern offset : ℕ) (before : List ℕ) {r : Result Written RefusedAt} {now : List ℕ} → a ≡ b
     → (r ≡ write_answer (blocks_bytes a) (blocks_from a pattern 6 0 bytes at)) × WrittenAt (blocks_bytes a) offset before now (blocks_from a pattern 6 0 bytes at)
     → (r ≡ write_answer (blocks_bytes b) (blocks_from b pattern 6 0 bytes at)) × WrittenAt (blocks_bytes b) offset before now (blocks_from b pattern 6 0 bytes at)
 blocks-as bytes at a b pattern offset before {r} {now} e h =
     subst (λ (x : Bool). (r ≡ write_answer (blocks_bytes x) (blocks_from x pattern 6 0 bytes at)) × WrittenAt (blocks_bytes x) offset before now (blocks_from x pattern 6 0 bytes at)) e h
+
+pub coded-block-size : (given intra : Bool) (block : ℕ) (bytes : List ℕ) (at : BitPosition) {w : Written} → Ok w ≡ write_answer (block_bytes intra) (given_block_at given intra block bytes at) → w.size ≤ 195
+coded-block-size given intra block bytes at e =
+    let some = part-done (block_bytes intra) (given_block_at given intra block bytes at) e in
+    omega (arith, some.size, block-short intra some.value (all-at (given-short given intra block bytes at) some.is).few)
 
 -- ---- loop invariant: the blocks written so far, then reading the rest, give the whole
 pub record Passed (bytes : List ℕ) (intra : Bool) (pattern : ℕ) (whole : Read (List Block)) (offset : ℕ) (before now : List ℕ) (at : BitPosition) (size block : ℕ) : Type 0 where
@@ -60,7 +67,7 @@ module _ (bytes : List ℕ) (intra : Bool) (pattern : ℕ) (at : BitPosition) wh
   }
 
   module _ (block : ℕ) where
-    from-refused : (n : ℕ) {reason : Stop} → n + block ≡ 6 → block < 6 → given_block_at (is_coded pattern block) intra block bytes at ≡ refused reason
+    from-refused : (n : ℕ) {reason : RefusedAt} → n + block ≡ 6 → block < 6 → given_block_at (is_coded pattern block) intra block bytes at ≡ refused reason
         → blocks_from intra pattern n block bytes at ≡ refused reason
     unfolding blocks_from
     from-refused zero h k e = absurd (omega arith)
@@ -77,17 +84,17 @@ module _ (bytes : List ℕ) (intra : Bool) (pattern : ℕ) (at : BitPosition) wh
     from_end (suc n) h k = absurd (omega arith)
 
     module _ {whole : Read (List Block)} {offset : ℕ} {before now : List ℕ} {size : ℕ} (s : Passed bytes intra pattern whole offset before now at size block) where
-      pub passed-refused : {reason : Stop} → block < 6 → given_block_at (is_coded pattern block) intra block bytes at ≡ refused reason → whole ≡ refused reason
+      pub passed-refused : {reason : RefusedAt} → block < 6 → given_block_at (is_coded pattern block) intra block bytes at ≡ refused reason → whole ≡ refused reason
       passed-refused h e = sym s.same ∙ rw (from-refused s.fuel s.left h e)
 
       pub passed-end : 6 ≤ block → whole ≡ parsed s.blocks at
       passed-end h = sym s.same ∙ rw (from_end s.fuel s.left h) (ap (λ (l : List Block). parsed l at) (append-nil s.blocks))
 
-      pub passed-more : {p : BitPosition} {n : ℕ} {later : List ℕ} → block < 6 → (some : Part (block_bytes intra) (given_block_at (is_coded pattern block) intra block bytes at) p n)
-          → WrittenAt (block_bytes intra) (offset + size) now later (given_block_at (is_coded pattern block) intra block bytes at) → InBytes bytes p
-          → Passed bytes intra pattern whole offset before later p (size + n) (block + 1)
+      pub passed-more : {w : Written} {later : List ℕ} → block < 6 → (some : Part (block_bytes intra) (given_block_at (is_coded pattern block) intra block bytes at) w)
+          → WrittenAt (block_bytes intra) (offset + size) now later (given_block_at (is_coded pattern block) intra block bytes at) → InBytes bytes w.at
+          → Passed bytes intra pattern whole offset before later w.at (size + w.size) (block + 1)
       unfolding joined
-      passed-more {p} {n} {later} h some f within = record {
+      passed-more {w} {later} h some f within = record {
         blocks = s.blocks ++ (some.value ∷ []);
         fuel = s.fuel - 1;
         left = omega (arith, s.left);
@@ -96,7 +103,7 @@ module _ (bytes : List ℕ) (intra : Bool) (pattern : ℕ) (at : BitPosition) wh
         inside = within;
         there = there-now;
         long = ap length there-now ∙ written-length offset (blocks_bytes intra (s.blocks ++ (some.value ∷ []))) before;
-        same = sym (after-after s.blocks (some.value ∷ []) (blocks_from intra pattern (s.fuel - 1) (block + 1) bytes p)) ∙ rw (sym step) s.same;
+        same = sym (after-after s.blocks (some.value ∷ []) (blocks_from intra pattern (s.fuel - 1) (block + 1) bytes w.at)) ∙ rw (sym step) s.same;
       }
         where
           bytes_of : blocks_bytes intra (s.blocks ++ (some.value ∷ [])) ≡ blocks_bytes intra s.blocks ++ block_bytes intra some.value
@@ -108,5 +115,5 @@ module _ (bytes : List ℕ) (intra : Bool) (pattern : ℕ) (at : BitPosition) wh
           more-fuel : s.fuel ≡ suc (s.fuel - 1)
           more-fuel = omega (arith, s.left, h)
 
-          step : blocks_from intra pattern s.fuel block bytes at ≡ after (some.value ∷ []) (blocks_from intra pattern (s.fuel - 1) (block + 1) bytes p)
+          step : blocks_from intra pattern s.fuel block bytes at ≡ after (some.value ∷ []) (blocks_from intra pattern (s.fuel - 1) (block + 1) bytes w.at)
           step = ap (λ (k : ℕ). blocks_from intra pattern k block bytes at) more-fuel ∙ from-read (s.fuel - 1) some.is

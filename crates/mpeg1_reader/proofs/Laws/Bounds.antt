@@ -1,6 +1,7 @@
 -- How many bytes the records of a slice that is read take at most. Assumes nothing.
 use mathlib.Core.List.{List, []}
-use mathlib.Core.Path.{ap}
+use mathlib.Core.Path.{◌≡◌, ap}
+use Rattle.std.specs.Prelude.{Ok}
 use Prim.Native.Nat.{ℕ, zero, suc, ◌+◌, ◌*◌, ◌≤◌}
 use native.Mathlib.Omega.{arith}
 use lib.ListN.{length, length-append}
@@ -8,7 +9,7 @@ use Rattle.math.specs.Joined.{joined}
 use Rattle.symbols.specs.declared.header.Header.{Header}
 use Rattle.symbols.specs.Macroblock.{Macroblock}
 use Rattle.symbols.specs.Slice.{Slice}
-use Rattle.symbols.proofs.Parsed.{All, here, all_then, all-cond, all_any}
+use Rattle.symbols.proofs.Parsed.{All, here, all_then, all-cond, all_any, all-at}
 use Rattle.format3_records.specs.Record.{macroblock_kind}
 use Rattle.format3_writer.specs.Records.{head_bytes, macroblock_body, macroblock_record, slice_bytes}
 use Rattle.format3_writer.proofs.Laws.Lengths.{record-length, head-short}
@@ -17,7 +18,9 @@ use Rattle.mpeg1_bits.specs.declared.BitPosition.{BitPosition}
 use Rattle.mpeg1_slice.specs.Increment.{increment_at}
 use Rattle.mpeg1_slice.specs.Macroblock.{HeadFields, VectorsAndBlocks, head_at, macroblock_of_fields, macroblock_at}
 use Rattle.mpeg1_slice.specs.Slice.{next_macroblock_at, macroblocks_from, start_address, first_bit, slice_head_at, after_head_at, raw_slice_of}
-use Rattle.mpeg1_reader.specs.WriteAnswer.{vectors_and_blocks_bytes}
+use Rattle.mpeg1_reader.specs.declared.write_answer.Written.{Written}
+use Rattle.mpeg1_reader.proofs.Laws.Writing.{part-done}
+use Rattle.mpeg1_reader.specs.WriteAnswer.{write_answer, vectors_and_blocks_bytes}
 use Rattle.mpeg1_reader.specs.RecordLengths.{slice_record_bytes, max_macroblock_record_bytes}
 use Rattle.mpeg1_reader.proofs.Laws.Few.{rest-short}
 use Rattle.mpeg1_reader.proofs.Laws.Macroblock.{body_of}
@@ -44,6 +47,12 @@ macroblock-short h increment bytes at =
           head-short head.macroblock_type increment head.scale,
           k,
         )
+
+pub macroblock-size : (h : Header) (increment : ℕ) (bytes : List ℕ) (at : BitPosition) {w : Written} → Ok w ≡ write_answer macroblock_record (macroblock_at h increment bytes at)
+    → w.size ≤ max_macroblock_record_bytes
+macroblock-size h increment bytes at e =
+    let part = part-done macroblock_record (macroblock_at h increment bytes at) e in
+    omega (arith, part.size, (all-at (macroblock-short h increment bytes at) part.is).short)
 
 next-short : (h : Header) (bytes : List ℕ) (at : BitPosition) → All (λ m p. ShortRecord m) (next_macroblock_at h bytes at)
 unfolding next_macroblock_at

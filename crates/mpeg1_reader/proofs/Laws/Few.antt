@@ -2,6 +2,7 @@
 use mathlib.Core.Bool.{Bool, true, false, not}
 use mathlib.Core.List.{List}
 use mathlib.Core.Path.{◌≡◌, refl, ap, subst}
+use Rattle.std.specs.Prelude.{Ok}
 use Prim.Native.Nat.{ℕ, zero, suc, ◌+◌, ◌*◌, ◌≤◌}
 use native.Mathlib.Omega.{arith}
 use lib.IntN.{ℤ}
@@ -12,16 +13,18 @@ use Rattle.symbols.specs.Pair.{first_position}
 use Rattle.symbols.specs.declared.pair.Pair.{Pair}
 use Rattle.symbols.specs.Block.{Block, uncoded, coded}
 use Rattle.symbols.specs.Pattern.{is_coded}
-use Rattle.symbols.proofs.Parsed.{All, here, none, all_then, all-cond, all_any}
+use Rattle.symbols.proofs.Parsed.{All, here, none, all_then, all-cond, all_any, all-at}
 use Rattle.format3_writer.specs.Bytes.{big_endian_bytes}
-use Rattle.format3_writer.specs.Records.{block_bytes, pattern_bytes, blocks_bytes}
+use Rattle.format3_writer.specs.Records.{levels_bytes, block_bytes, pattern_bytes, blocks_bytes}
 use Rattle.format3_writer.proofs.Laws.Lengths.{FewIn, FewPairs, levels-length, pattern-short}
 use Rattle.format3_writer.proofs.Laws.Lengths as Few
 use Rattle.mpeg1_bits.specs.declared.BitPosition.{BitPosition}
 use Rattle.mpeg1_slice.specs.Blocks.{pairs_from, pairs_at, given_difference_at, block_at, given_block_at, blocks_from}
 use Rattle.mpeg1_slice.specs.Macroblock.{PatternAndBlocks, VectorsAndBlocks, vectors_at, pattern_at, pattern_and_blocks_at, vectors_and_blocks_at}
 use Rattle.mpeg1_slice.proofs.Laws.Coefficient.{Lands, position, next-lands, all-until}
-use Rattle.mpeg1_reader.specs.WriteAnswer.{vectors_field_bytes, pattern_and_blocks_field_bytes, vectors_and_blocks_bytes}
+use Rattle.mpeg1_reader.specs.declared.write_answer.Written.{Written}
+use Rattle.mpeg1_reader.proofs.Laws.Writing.{part-done}
+use Rattle.mpeg1_reader.specs.WriteAnswer.{write_answer, vectors_field_bytes, pattern_and_blocks_field_bytes, vectors_and_blocks_bytes}
 use Rattle.mpeg1_reader.proofs.Laws.Lengths.{both-short}
 
 -- ---- pairs
@@ -43,6 +46,11 @@ position-near false = omega arith
 pub pairs-few : (intra : Bool) (bytes : List ℕ) (at : BitPosition) → All (λ pairs p. length pairs + first_position intra ≤ 64) (pairs_at intra bytes at)
 unfolding pairs_at
 pairs-few intra bytes at = pairs-from 65 (not intra) (first_position intra) (position-near intra) bytes at
+
+pub pairs-size : (intra : Bool) (bytes : List ℕ) (at : BitPosition) {w : Written} → Ok w ≡ write_answer levels_bytes (pairs_at intra bytes at) → w.size ≤ 193
+pairs-size intra bytes at e =
+    let part = part-done levels_bytes (pairs_at intra bytes at) e in
+    omega (arith, part.size, levels-length part.value, all-at (pairs-few intra bytes at) part.is)
 
 -- ---- blocks: at most 64 pairs and 193 bytes. An intra block has a difference of two bytes, but one pair fewer
 pub record ShortBlock (intra : Bool) (block : Block) : Type 0 where
@@ -87,6 +95,11 @@ blocks-few intra pattern (suc n) block bytes at =
       short = omega (arith, length-append (block_bytes intra b) (blocks_bytes intra blocks), h.short, k.short);
     })
 
+pub blocks-size : (intra : Bool) (pattern : ℕ) (bytes : List ℕ) (at : BitPosition) {w : Written} → Ok w ≡ write_answer (blocks_bytes intra) (blocks_from intra pattern 6 0 bytes at) → w.size ≤ 1158
+blocks-size intra pattern bytes at e =
+    let part = part-done (blocks_bytes intra) (blocks_from intra pattern 6 0 bytes at) e in
+    omega (arith, part.size, (all-at (blocks-few intra pattern 6 0 bytes at) part.is).short)
+
 -- ---- bytes
 pub record ShortPatternAndBlocks (type : ℕ) (pattern_and_blocks : PatternAndBlocks) : Type 0 where
   pub short : length (pattern_and_blocks_field_bytes type pattern_and_blocks) ≤ 1159
@@ -98,6 +111,11 @@ pattern-and-blocks-short type bytes at =
     all_then (blocks-few (is_intra type) pattern 6 0 bytes p) λ blocks q h.
     here (record { short = rw (length-append (pattern_bytes type pattern) (blocks_bytes (is_intra type) blocks)) (omega (arith, h.short, pattern-short type pattern)) })
 
+pub pattern-and-blocks-size : (type : ℕ) (bytes : List ℕ) (at : BitPosition) {w : Written} → Ok w ≡ write_answer (pattern_and_blocks_field_bytes type) (pattern_and_blocks_at type bytes at) → w.size ≤ 1159
+pattern-and-blocks-size type bytes at e =
+    let part = part-done (pattern_and_blocks_field_bytes type) (pattern_and_blocks_at type bytes at) e in
+    omega (arith, part.size, (all-at (pattern-and-blocks-short type bytes at) part.is).short)
+
 pub record ShortRest (type : ℕ) (rest : VectorsAndBlocks) : Type 0 where
   pub short : length (vectors_and_blocks_bytes type rest) ≤ 1167
 
@@ -107,3 +125,8 @@ rest-short type forward backward bytes at =
     all_then (all_any (vectors_at type forward backward bytes at)) λ vectors p t.
     all_then (pattern-and-blocks-short type bytes p) λ pattern_and_blocks q h.
     here (record { short = rw (length-append (vectors_field_bytes type vectors) (pattern_and_blocks_field_bytes type pattern_and_blocks)) (omega (arith, h.short, both-short type vectors)) })
+
+pub rest-size : (type forward backward : ℕ) (bytes : List ℕ) (at : BitPosition) {w : Written} → Ok w ≡ write_answer (vectors_and_blocks_bytes type) (vectors_and_blocks_at type forward backward bytes at) → w.size ≤ 1167
+rest-size type forward backward bytes at e =
+    let part = part-done (vectors_and_blocks_bytes type) (vectors_and_blocks_at type forward backward bytes at) e in
+    omega (arith, part.size, (all-at (rest-short type forward backward bytes at) part.is).short)

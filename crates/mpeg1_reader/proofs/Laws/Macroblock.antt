@@ -12,7 +12,7 @@ use Rattle.format3_writer.specs.Records.{record_head, record_bytes, head_bytes, 
 use Rattle.format3_writer.proofs.Laws.Writing.{written-record}
 use Rattle.format3_writer.proofs.Laws.Lengths.{record-length}
 use Rattle.mpeg1_bits.specs.declared.BitPosition.{BitPosition}
-use Rattle.mpeg1_slice.specs.Read.{Stop}
+use Rattle.mpeg1_slice.specs.declared.refused.RefusedAt.{RefusedAt}
 use Rattle.mpeg1_slice.specs.Macroblock.{HeadFields, VectorsAndBlocks, head_at, vectors_and_blocks_at, macroblock_of_fields, macroblock_at}
 use Rattle.mpeg1_reader.specs.WriteAnswer.{vectors_and_blocks_bytes}
 
@@ -37,12 +37,12 @@ unfolding macroblock_body
 body_of increment head rest = refl
 
 module _ (h : Header) (increment : ℕ) (bytes : List ℕ) (at : BitPosition) where
-  pub head-refused : {reason : Stop} → head_at h.coding_type bytes at ≡ refused reason → macroblock_at h increment bytes at ≡ refused reason
+  pub head-refused : {reason : RefusedAt} → head_at h.coding_type bytes at ≡ refused reason → macroblock_at h increment bytes at ≡ refused reason
   unfolding macroblock_at
   head-refused e = rw e
 
   module _ {head : HeadFields} {p : BitPosition} (e : head_at h.coding_type bytes at ≡ parsed head p) where
-    pub rest-refused : {reason : Stop} → vectors_and_blocks_at head.macroblock_type h.forward.f_code h.backward.f_code bytes p ≡ refused reason
+    pub rest-refused : {reason : RefusedAt} → vectors_and_blocks_at head.macroblock_type h.forward.f_code h.backward.f_code bytes p ≡ refused reason
         → macroblock_at h increment bytes at ≡ refused reason
     unfolding macroblock_at
     rest-refused f = rw (e, f)

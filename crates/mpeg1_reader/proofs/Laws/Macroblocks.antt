@@ -22,13 +22,15 @@ use Rattle.mpeg1_bits.specs.Requires.{InBytes}
 use Rattle.mpeg1_bits.specs.declared.BitPosition.{BitPosition}
 use Rattle.mpeg1_bits.proofs.Rest.{rest-length}
 use Rattle.mpeg1_tables.proofs.Laws.Prefix.{case}
-use Rattle.mpeg1_slice.specs.Read.{Stop, Read}
+use Rattle.mpeg1_slice.specs.declared.refused.RefusedAt.{RefusedAt}
+use Rattle.mpeg1_slice.specs.Read.{Read}
 use Rattle.mpeg1_slice.specs.Increment.{increment_at}
 use Rattle.mpeg1_slice.specs.Slice.{next_macroblock_at, macroblocks_from, macroblocks_at}
 use Rattle.mpeg1_slice.proofs.Laws.Read.{Ahead, standing}
 use Rattle.mpeg1_slice.proofs.Laws.Onward as Onward
 use Rattle.mpeg1_reader.specs.WriteAnswer.{WrittenAt}
 use Rattle.mpeg1_reader.specs.RecordOffsets.{last_whole, ResumesAt}
+use Rattle.mpeg1_reader.specs.declared.write_answer.Written.{Written}
 use Rattle.mpeg1_reader.specs.declared.write_answer.Checkpoint.{Checkpoint}
 use Rattle.mpeg1_reader.proofs.Laws.Writing.{Part}
 
@@ -69,7 +71,7 @@ module _ (bytes : List ℕ) (h : Header) where
     from_end zero k z = absurd (omega arith)
     from_end (suc n) k z = rw z
 
-    from-refused : (n : ℕ) {reason : Stop} → length (bits_from bytes at) < n → all_zeros (bits_from bytes at) ≡ false → next_macroblock_at h bytes at ≡ refused reason
+    from-refused : (n : ℕ) {reason : RefusedAt} → length (bits_from bytes at) < n → all_zeros (bits_from bytes at) ≡ false → next_macroblock_at h bytes at ≡ refused reason
         → macroblocks_from n h bytes at ≡ refused reason
     unfolding macroblocks_from
     from-refused zero k z e = absurd (omega arith)
@@ -172,19 +174,19 @@ module _ (bytes : List ℕ) (h : Header) (from at : BitPosition) {offset : ℕ} 
   pub passed-end : all_zeros (bits_from bytes at) ≡ true → macroblocks_at h bytes from ≡ parsed s.some at
   passed-end z = sym s.same ∙ rw (from_end bytes h at (1 + length (bits_from bytes at)) (omega arith) z) (ap (λ (l : List Macroblock). parsed l at) (append-nil s.some))
 
-  pub passed-refused : {reason : Stop} → all_zeros (bits_from bytes at) ≡ false → next_macroblock_at h bytes at ≡ refused reason → macroblocks_at h bytes from ≡ refused reason
+  pub passed-refused : {reason : RefusedAt} → all_zeros (bits_from bytes at) ≡ false → next_macroblock_at h bytes at ≡ refused reason → macroblocks_at h bytes from ≡ refused reason
   passed-refused z e = sym s.same ∙ rw (from-refused bytes h at (1 + length (bits_from bytes at)) (omega arith) z e)
 
   pub passed-ahead : {m : Macroblock} {p : BitPosition} → next_macroblock_at h bytes at ≡ parsed m p → Ahead bytes (1 + bit_offset at) p
   passed-ahead e = next-ahead bytes h at s.inside e
 
-  pub passed-more : {p : BitPosition} {n : ℕ} {later : List ℕ} → length before < max_offset → all_zeros (bits_from bytes at) ≡ false → (one : Part macroblock_record (next_macroblock_at h bytes at) p n)
+  pub passed-more : {w : Written} {later : List ℕ} → length before < max_offset → all_zeros (bits_from bytes at) ≡ false → (one : Part macroblock_record (next_macroblock_at h bytes at) w)
       → WrittenAt macroblock_record end now later (next_macroblock_at h bytes at)
-      → Passed bytes h from offset before later p (saturating_add end n) (last_whole last (record { at = p; offset = saturating_add end n }) (length before))
-  passed-more {p} {n} {later} room z one f = record {
+      → Passed bytes h from offset before later w.at (saturating_add end w.size) (last_whole last (record { at = w.at; offset = saturating_add end w.size }) (length before))
+  passed-more {w} {later} room z one f = record {
     some = s.some ++ (one.value ∷ []);
     inside = ahead.inside;
-    near = offset_near end n;
+    near = offset_near end w.size;
     counted = counted-now;
     there = there-now;
     long = ap length there-now ∙ written-length offset (records (s.some ++ (one.value ∷ []))) before;
@@ -192,7 +194,7 @@ module _ (bytes : List ℕ) (h : Header) (from at : BitPosition) {offset : ℕ} 
     split = last-split s.split λ fits. record { front = s.some ++ (one.value ∷ []); inside = ahead.inside; same = same-now; counted = offset-exact offset _ room counted-now fits; whole = fits };
   }
     where
-      ahead : Ahead bytes (1 + bit_offset at) p
+      ahead : Ahead bytes (1 + bit_offset at) w.at
       ahead = passed-ahead one.is
 
       single : records (one.value ∷ []) ≡ macroblock_record one.value
@@ -201,7 +203,7 @@ module _ (bytes : List ℕ) (h : Header) (from at : BitPosition) {offset : ℕ} 
       bytes_of : length (records s.some) + length (macroblock_record one.value) ≡ length (records (s.some ++ (one.value ∷ [])))
       bytes_of = rw (joined-append macroblock_record s.some (one.value ∷ []), single) (sym (length-append (records s.some) (macroblock_record one.value)))
 
-      counted-now : saturating_add end n ≡ saturating_add offset (length (records (s.some ++ (one.value ∷ []))))
+      counted-now : saturating_add end w.size ≡ saturating_add offset (length (records (s.some ++ (one.value ∷ []))))
       counted-now = rw (s.counted, one.size, offset-twice offset (length (records s.some)) (length (macroblock_record one.value))) (ap (saturating_add offset) bytes_of)
 
       behind : written end (macroblock_record one.value) now ≡ written (offset + length (records s.some)) (macroblock_record one.value) now
@@ -213,10 +215,10 @@ module _ (bytes : List ℕ) (h : Header) (from at : BitPosition) {offset : ℕ} 
       there-now : later ≡ written offset (records (s.some ++ (one.value ∷ []))) before
       there-now = all-at f one.is ∙ behind ∙ joined-there
 
-      same-now : after (s.some ++ (one.value ∷ [])) (macroblocks_at h bytes p) ≡ macroblocks_at h bytes from
-      same-now = sym (after-after s.some (one.value ∷ []) (macroblocks_at h bytes p)) ∙ ap (after s.some) (sym (splits bytes h at s.inside z one.is)) ∙ s.same
+      same-now : after (s.some ++ (one.value ∷ [])) (macroblocks_at h bytes w.at) ≡ macroblocks_at h bytes from
+      same-now = sym (after-after s.some (one.value ∷ []) (macroblocks_at h bytes w.at)) ∙ ap (after s.some) (sym (splits bytes h at s.inside z one.is)) ∙ s.same
 
 -- if the increment is refused, so is the macroblock
-pub no-increment : (h : Header) (bytes : List ℕ) (at : BitPosition) {reason : Stop} → increment_at bytes at ≡ refused reason → next_macroblock_at h bytes at ≡ refused reason
+pub no-increment : (h : Header) (bytes : List ℕ) (at : BitPosition) {reason : RefusedAt} → increment_at bytes at ≡ refused reason → next_macroblock_at h bytes at ≡ refused reason
 unfolding next_macroblock_at
 no-increment h bytes at e = rw e

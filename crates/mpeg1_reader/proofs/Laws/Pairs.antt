@@ -2,6 +2,7 @@
 use mathlib.Core.Bool.{Bool, true, false, not}
 use mathlib.Core.List.{List, [], ◌∷◌, ◌++◌, append-nil}
 use mathlib.Core.Path.{◌≡◌, refl, sym, ap, ◌∙◌}
+use Rattle.std.specs.Prelude.{Some, None}
 use Prim.Native.Nat.{ℕ, zero, suc, ◌+◌, ◌-◌, ◌*◌, ◌≤◌}
 use native.Mathlib.Omega.{arith}
 use lib.ListN.{length, length-append}
@@ -17,8 +18,9 @@ use Rattle.format3_writer.proofs.Laws.Writing.{written_count_lem, written-more}
 use Rattle.format3_writer.proofs.Laws.Lengths.{pairs-length, levels-length}
 use Rattle.mpeg1_bits.specs.Requires.{InBytes}
 use Rattle.mpeg1_bits.specs.declared.BitPosition.{BitPosition}
-use Rattle.mpeg1_slice.specs.Read.{Stop, Read}
-use Rattle.mpeg1_slice.specs.Blocks.{next_pair, block_end, next_pair_at, pairs_from, pairs_at}
+use Rattle.mpeg1_slice.specs.declared.refused.RefusedAt.{RefusedAt}
+use Rattle.mpeg1_slice.specs.Read.{Read}
+use Rattle.mpeg1_slice.specs.Blocks.{next_pair_at, pairs_from, pairs_at}
 use Rattle.mpeg1_slice.proofs.Laws.Read.{standing}
 use Rattle.mpeg1_slice.proofs.Laws.Coefficient.{position, next-lands, next-onward}
 
@@ -57,17 +59,17 @@ module _ (bytes : List ℕ) (intra : Bool) (offset : ℕ) (buffer : List ℕ) (a
   }
 
 module _ (bytes : List ℕ) (at : BitPosition) (first : Bool) (next : ℕ) where
-  from-refused : (n : ℕ) {reason : Stop} → 65 ≤ n + next → next ≤ 64 → next_pair_at first next bytes at ≡ refused reason → pairs_from n first next bytes at ≡ refused reason
+  from-refused : (n : ℕ) {reason : RefusedAt} → 65 ≤ n + next → next ≤ 64 → next_pair_at first next bytes at ≡ refused reason → pairs_from n first next bytes at ≡ refused reason
   unfolding pairs_from
   from-refused zero h k e = absurd (omega arith)
   from-refused (suc n) h k e = rw e
 
-  from_end : (n : ℕ) {p : BitPosition} → 65 ≤ n + next → next ≤ 64 → next_pair_at first next bytes at ≡ parsed block_end p → pairs_from n first next bytes at ≡ parsed [] p
+  from_end : (n : ℕ) {p : BitPosition} → 65 ≤ n + next → next ≤ 64 → next_pair_at first next bytes at ≡ parsed None p → pairs_from n first next bytes at ≡ parsed [] p
   unfolding pairs_from
   from_end zero h k e = absurd (omega arith)
   from_end (suc n) h k e = rw e
 
-  from-pair : (n : ℕ) {pair : Pair} {p : BitPosition} → next_pair_at first next bytes at ≡ parsed (next_pair pair) p
+  from-pair : (n : ℕ) {pair : Pair} {p : BitPosition} → next_pair_at first next bytes at ≡ parsed (Some pair) p
       → pairs_from (suc n) first next bytes at ≡ after (pair ∷ []) (pairs_from n false (next + pair.run + 1) bytes p)
   unfolding pairs_from
   from-pair n e = rw e
@@ -77,11 +79,11 @@ module _ (bytes : List ℕ) (at : BitPosition) (first : Bool) (next : ℕ) where
     pub begun-same : length now ≡ length before
     begun-same = ap length s.there ∙ written-length (offset + 1) (pairs_bytes s.pairs) before
 
-    pub begun-refused : {reason : Stop} → next_pair_at first next bytes at ≡ refused reason → whole ≡ refused reason
+    pub begun-refused : {reason : RefusedAt} → next_pair_at first next bytes at ≡ refused reason → whole ≡ refused reason
     begun-refused e = sym s.same ∙ rw (from-refused s.fuel s.enough s.near e)
 
     -- at the end of the block, the count goes in front of the pairs
-    pub begun-end : {p : BitPosition} → next_pair_at first next bytes at ≡ parsed block_end p → whole ≡ parsed s.pairs p
+    pub begun-end : {p : BitPosition} → next_pair_at first next bytes at ≡ parsed None p → whole ≡ parsed s.pairs p
     begun-end {p} e = sym s.same ∙ rw (from_end s.fuel s.enough s.near e) (ap (λ (l : List Pair). parsed l p) (append-nil s.pairs))
 
     pub begun-length : end ≡ offset + length (levels_bytes s.pairs)
@@ -90,7 +92,7 @@ module _ (bytes : List ℕ) (at : BitPosition) (first : Bool) (next : ℕ) where
     pub begun-written : {last : List ℕ} → last ≡ written offset (count ∷ []) now → last ≡ written offset (levels_bytes s.pairs) before
     begun-written e = e ∙ rw (← s.counted, s.there) (written_count_lem offset s.pairs before)
 
-    module _ {pair : Pair} {p : BitPosition} (e : next_pair_at first next bytes at ≡ parsed (next_pair pair) p) where
+    module _ {pair : Pair} {p : BitPosition} (e : next_pair_at first next bytes at ≡ parsed (Some pair) p) where
       pub begun-lands : next + pair.run ≤ 63
       begun-lands = position (all-at (next-lands first next bytes at) e)
 
@@ -100,7 +102,7 @@ module _ (bytes : List ℕ) (at : BitPosition) (first : Bool) (next : ℕ) where
     more-fuel : (n : ℕ) → 65 ≤ n + next → n ≡ suc (n - 1)
     more-fuel n h = omega (arith, s.near)
 
-    pub begun_more : {pair : Pair} {p : BitPosition} {later : List ℕ} → next_pair_at first next bytes at ≡ parsed (next_pair pair) p → later ≡ written end (pair_bytes pair.run pair.level) now
+    pub begun_more : {pair : Pair} {p : BitPosition} {later : List ℕ} → next_pair_at first next bytes at ≡ parsed (Some pair) p → later ≡ written end (pair_bytes pair.run pair.level) now
         → Begun bytes whole offset before later p false (next + pair.run + 1) (count + 1) (end + 3)
     begun_more {pair} {p} {later} e f =
         let n = s.fuel in

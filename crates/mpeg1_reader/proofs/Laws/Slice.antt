@@ -1,6 +1,7 @@
 -- A slice's records: its own, its first macroblock's, and those of the others. Assumes nothing.
 use mathlib.Core.List.{List, ◌∷◌, ◌++◌, append_assoc}
 use mathlib.Core.Path.{◌≡◌, refl, sym, ap, subst, ◌∙◌}
+use Rattle.std.specs.Prelude.{Result, Ok}
 use Prim.Native.Nat.{ℕ, zero, suc, ◌+◌, ◌≤◌}
 use native.Mathlib.Omega.{arith}
 use lib.Dec.{eqb, leb}
@@ -21,15 +22,15 @@ use Rattle.mpeg1_bits.specs.Bits.{bits_from}
 use Rattle.mpeg1_bits.specs.declared.BitPosition.{BitPosition}
 use Rattle.mpeg1_tables.specs.AnnexB.{stuffing, increment_escape}
 use Rattle.mpeg1_vlc.proofs.Laws.Range.{increment-read, increment-after-escape-read}
-use Rattle.mpeg1_slice.specs.Read.{Stop, stop, Read}
+use Rattle.mpeg1_slice.specs.declared.refused.RefusedAt.{RefusedAt}
+use Rattle.mpeg1_slice.specs.Read.{Read}
 use Rattle.mpeg1_slice.specs.Increment.{after_stuffing, amount_of, after_escape, increment_at}
 use Rattle.mpeg1_slice.specs.Macroblock.{macroblock_at}
 use Rattle.mpeg1_slice.specs.Slice.{macroblocks_at, start_address, first_bit, slice_head_at, after_head_at, raw_slice_of}
 use Rattle.mpeg1_slice.proofs.Laws.Read.{word-between}
 use Rattle.mpeg1_reader.specs.WriteAnswer.{WrittenAt}
 use Rattle.mpeg1_reader.specs.declared.write_answer.Checkpoint.{Checkpoint}
-use Rattle.mpeg1_reader.specs.declared.write_answer.RecordsAnswer.{RecordsAnswer}
-use Rattle.mpeg1_reader.specs.declared.write_answer.RecordsAnswer.TheVariants.{Done}
+use Rattle.mpeg1_reader.specs.declared.write_answer.WrittenRecords.{WrittenRecords}
 use Rattle.mpeg1_reader.specs.RecordLengths.{slice_record_bytes}
 use Rattle.mpeg1_reader.specs.RecordOffsets.{ResumesAt, RecordsAnswered, done, stopped}
 
@@ -63,12 +64,12 @@ increment-legal bytes at =
 
 -- ---- the parts of a slice after its head
 module _ (h : Header) (row scale : ℕ) (bytes : List ℕ) (at : BitPosition) where
-  pub no-increment : {reason : Stop} → increment_at bytes at ≡ refused reason → after_head_at h row scale bytes at ≡ refused reason
+  pub no-increment : {reason : RefusedAt} → increment_at bytes at ≡ refused reason → after_head_at h row scale bytes at ≡ refused reason
   unfolding after_head_at
   no-increment e = rw e
 
   module _ {increment : ℕ} {p : BitPosition} (e : increment_at bytes at ≡ parsed increment p) where
-    pub no-first : {reason : Stop} → macroblock_at h 1 bytes p ≡ refused reason → after_head_at h row scale bytes at ≡ refused reason
+    pub no-first : {reason : RefusedAt} → macroblock_at h 1 bytes p ≡ refused reason → after_head_at h row scale bytes at ≡ refused reason
     unfolding after_head_at
     no-first f = rw (e, f)
 
@@ -77,7 +78,7 @@ module _ (h : Header) (row scale : ℕ) (bytes : List ℕ) (at : BitPosition) wh
     unfolding after_head_at
     first_read f = rw (e, f)
 
-pub no_start : (h : Header) (bytes : List ℕ) {reason : Stop} → slice_head_at h.size.height bytes first_bit ≡ refused reason → raw_slice_of h bytes ≡ refused reason
+pub no_start : (h : Header) (bytes : List ℕ) {reason : RefusedAt} → slice_head_at h.size.height bytes first_bit ≡ refused reason → raw_slice_of h bytes ≡ refused reason
 unfolding raw_slice_of
 no_start h bytes e = rw e
 
@@ -134,7 +135,7 @@ module _ (scale start : ℕ) (first : Macroblock) where
       others : List ℕ
       others = joined macroblock_record c.rest
 
-  pub slice-together : {h : Header} {bytes : List ℕ} (x : Read (List Macroblock)) {r : RecordsAnswer} {n : ℕ} (before : List ℕ) {one two three : List ℕ} → n ≡ length (macroblock_record first)
+  pub slice-together : {h : Header} {bytes : List ℕ} (x : Read (List Macroblock)) {r : Result WrittenRecords RefusedAt} {n : ℕ} (before : List ℕ) {one two three : List ℕ} → n ≡ length (macroblock_record first)
       → one ≡ written 0 (slice_record scale start) before → two ≡ written 6 (macroblock_record first) one
       → RecordsAnswered (joined macroblock_record) h bytes (6 + n) (length two) x r × WrittenAt (joined macroblock_record) (6 + n) two three x
       → RecordsAnswered slice_bytes h bytes 0 (length before) (whole x) r × WrittenAt slice_bytes 0 before three (whole x)
@@ -146,8 +147,8 @@ module _ (scale start : ℕ) (first : Macroblock) where
       size : (m : ℕ) → m ≡ length (macroblock_record first) → saturating_add 0 (length (slice_records scale start (first ∷ rest))) ≡ saturating_add (6 + m) (length (joined macroblock_record rest))
       size m d = sym (offset-sum 6 m (length (joined macroblock_record rest)) ∙ ap (saturating_add 0) (rw d (sym (slice-length rest))))
 
-      of_slice : (m : ℕ) (s : RecordsAnswer) → m ≡ length (macroblock_record first) → RecordsAnswered (joined macroblock_record) h bytes (6 + m) (length two) (parsed rest p) s
+      of_slice : (m : ℕ) (s : Result WrittenRecords RefusedAt) → m ≡ length (macroblock_record first) → RecordsAnswered (joined macroblock_record) h bytes (6 + m) (length two) (parsed rest p) s
           → RecordsAnswered slice_bytes h bytes 0 (length before) (whole (parsed rest p)) s
       of_slice m s d (done {checkpoint = c} resumes) =
-          subst (λ (end : ℕ). RecordsAnswered slice_bytes h bytes 0 (length before) (whole (parsed rest p)) (Done p end c)) (size m d) (done (slice-resumes rest d same-room resumes))
-  slice-together (refused (stop refusal p)) before e f g (stopped, none) = (stopped, none)
+          subst (λ (end : ℕ). RecordsAnswered slice_bytes h bytes 0 (length before) (whole (parsed rest p)) (Ok (record { at = p; end = end; whole = c }))) (size m d) (done (slice-resumes rest d same-room resumes))
+  slice-together (refused reason) before e f g (stopped, none) = (stopped, none)

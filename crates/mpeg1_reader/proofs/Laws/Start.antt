@@ -1,46 +1,30 @@
 -- From what the readers of a slice's head return to what the definitions read. Assumes nothing.
 use mathlib.Core.List.{List}
-use mathlib.Core.Path.{◌≡◌, ap}
+use mathlib.Core.Path.{◌≡◌, refl}
+use Rattle.std.specs.Prelude.{Ok}
 use Prim.Native.Nat.{ℕ, ◌≤◌}
-use native.Mathlib.Omega.{arith}
-use Rattle.refusals.specs.declared.Refusal.{Refusal}
-use Rattle.symbols.specs.Parsed.{parsed, refused}
+use Rattle.symbols.specs.Parsed.{parsed}
 use Rattle.symbols.proofs.Parsed.{All, here, all_then}
 use Rattle.mpeg1_bits.specs.Requires.{InBytes}
 use Rattle.mpeg1_bits.specs.Bits.{bits_from}
 use Rattle.mpeg1_bits.specs.declared.BitPosition.{BitPosition}
 use Rattle.mpeg1_bits.proofs.Rest.{rest-binary, in-bytes-advanced}
 use Rattle.mpeg1_vlc.specs.SliceStart.{slice_start_of}
-use Rattle.mpeg1_slice.specs.Read.{stop, Read}
+use Rattle.mpeg1_slice.specs.Read.{Read}
 use Rattle.mpeg1_slice.specs.Slice.{SliceHead, first_bit, slice_start_at, slice_head_at}
-use Rattle.mpeg1_slice.specs.Answers.{extra_answer}
-use Rattle.mpeg1_slice.specs.declared.extra.ExtraAnswer.{ExtraAnswer}
 use Rattle.mpeg1_slice.proofs.Laws.Read.{all-code, first-inside, standing, field-onward}
 use Rattle.mpeg1_slice.proofs.Laws.Onward.{extra-onward}
 use Rattle.mpeg1_slice.proofs.Laws.Words.{start-read}
+use Rattle.mpeg1_reader.proofs.Laws.Writing.{read-is}
 use Rattle.mpeg1_reader.specs.RecordOffsets.{slice_head_answer}
-use Rattle.mpeg1_reader.specs.declared.slice_head.SliceHeadAnswer.{SliceHeadAnswer}
-use Rattle.mpeg1_reader.specs.declared.slice_head.SliceHeadAnswer.TheVariants as Head
+use Rattle.mpeg1_reader.specs.declared.slice_head.SliceHead as Head
 
-pub skipped-to : {r : ExtraAnswer} (x : Read (Unit {0})) {p : BitPosition} → r ≡ extra_answer x → r ≡ ExtraAnswer.To p → x ≡ parsed tt p
-skipped-to (parsed u q) {p} e f = let end : q ≡ p = cc in ap (λ (y : BitPosition). parsed tt y) end
-skipped-to (refused (stop refusal q)) e f = let z : ◌≡◌ {A = ℕ} 0 1 = cc in absurd (omega arith)
+-- from what the head's reader returns to what the definition reads
+abbrev pub head_in : Head.SliceHead → SliceHead
+head_in head = record { row = head.row; scale = head.scale }
 
-pub skipped-refused : {r : ExtraAnswer} (x : Read (Unit {0})) {refusal : Refusal} {p : BitPosition} → r ≡ extra_answer x → r ≡ ExtraAnswer.Refused refusal p → x ≡ refused (stop refusal p)
-skipped-refused (parsed a q) e f = let z : ◌≡◌ {A = ℕ} 0 1 = cc in absurd (omega arith)
-skipped-refused (refused (stop refusal q)) e f = cc
-
-pub head-found : {r : SliceHeadAnswer} (x : Read SliceHead) {row scale : ℕ} {p : BitPosition} → r ≡ slice_head_answer x → r ≡ Head.Read row scale p → x ≡ parsed (record { row = row; scale = scale }) p
-head-found (parsed a q) {row} {scale} {p} e f =
-    let c : a.row ≡ row = cc in
-    let d : a.scale ≡ scale = cc in
-    let end : q ≡ p = cc in
-    λ i. parsed (record { row = c i; scale = d i }) (end i)
-head-found (refused (stop refusal q)) e f = let z : ◌≡◌ {A = ℕ} 0 1 = cc in absurd (omega arith)
-
-pub head-refused : {r : SliceHeadAnswer} (x : Read SliceHead) {refusal : Refusal} {p : BitPosition} → r ≡ slice_head_answer x → r ≡ Head.Refused refusal p → x ≡ refused (stop refusal p)
-head-refused (parsed a q) e f = let z : ◌≡◌ {A = ℕ} 0 1 = cc in absurd (omega arith)
-head-refused (refused (stop refusal q)) e f = cc
+pub head-found : (x : Read SliceHead) {head : Head.SliceHead} → Ok head ≡ slice_head_answer x → x ≡ parsed (head_in head) head.at
+head-found = read-is (λ head p. record { row = head.row; scale = head.scale; at = p }) head_in (λ head. head.at) (λ a p. refl)
 
 -- ---- the start code with its row and end; then the whole head
 module _ (height : ℕ) (bytes : List ℕ) where

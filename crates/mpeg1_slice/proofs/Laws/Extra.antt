@@ -11,7 +11,8 @@ use Rattle.mpeg1_bits.specs.Bits.{bit_offset, bits_from}
 use Rattle.mpeg1_bits.specs.Requires.{InBytes}
 use Rattle.mpeg1_bits.specs.declared.BitPosition.{BitPosition}
 use Rattle.mpeg1_bits.proofs.Rest.{rest-length}
-use Rattle.mpeg1_slice.specs.Read.{Stop, Read, field_at}
+use Rattle.mpeg1_slice.specs.declared.refused.RefusedAt.{RefusedAt}
+use Rattle.mpeg1_slice.specs.Read.{Read, field_at}
 use Rattle.mpeg1_slice.specs.Slice.{after_extra}
 use Rattle.mpeg1_slice.proofs.Laws.Read.{Ahead, standing, field-ahead}
 
@@ -27,7 +28,7 @@ module _ (bytes : List ℕ) (at : BitPosition) where
   extra-start within = record { fuel = 1 + length (bits_from bytes at); enough = omega arith; inside = within; same = refl }
 
   module _ {whole : Read (Unit {0})} where
-    refused-from : (n : ℕ) {reason : Stop} → length (bits_from bytes at) < n → after_extra n bytes at ≡ whole
+    refused-from : (n : ℕ) {reason : RefusedAt} → length (bits_from bytes at) < n → after_extra n bytes at ≡ whole
         → field_at 1 bytes at ≡ refused reason → whole ≡ refused reason
     unfolding after_extra
     refused-from zero h f e = absurd (omega arith)
@@ -39,7 +40,7 @@ module _ (bytes : List ℕ) (at : BitPosition) where
     read-from zero h f e g = absurd (omega arith)
     read-from (suc n) {v} h f e g = sym (rw (e, eq-eqb v 0 g) at f)
 
-    cut-from : (n : ℕ) {v : ℕ} {p : BitPosition} {reason : Stop} → length (bits_from bytes at) < n → after_extra n bytes at ≡ whole
+    cut-from : (n : ℕ) {v : ℕ} {p : BitPosition} {reason : RefusedAt} → length (bits_from bytes at) < n → after_extra n bytes at ≡ whole
         → field_at 1 bytes at ≡ parsed v p → (v ≡ 0 → ⊥) → field_at 8 bytes p ≡ refused reason → whole ≡ refused reason
     unfolding after_extra
     cut-from zero h f e g k = absurd (omega arith)
@@ -57,13 +58,13 @@ module _ (bytes : List ℕ) (at : BitPosition) where
     }
 
     module _ (s : Extra bytes whole at) where
-      pub extra-refused : {reason : Stop} → field_at 1 bytes at ≡ refused reason → whole ≡ refused reason
+      pub extra-refused : {reason : RefusedAt} → field_at 1 bytes at ≡ refused reason → whole ≡ refused reason
       extra-refused e = refused-from s.fuel s.enough s.same e
 
       pub extra-read : {v : ℕ} {p : BitPosition} → field_at 1 bytes at ≡ parsed v p → v ≡ 0 → whole ≡ parsed tt p
       extra-read e g = read-from s.fuel s.enough s.same e g
 
-      pub extra-cut : {v : ℕ} {p : BitPosition} {reason : Stop} → field_at 1 bytes at ≡ parsed v p → (v ≡ 0 → ⊥) → field_at 8 bytes p ≡ refused reason → whole ≡ refused reason
+      pub extra-cut : {v : ℕ} {p : BitPosition} {reason : RefusedAt} → field_at 1 bytes at ≡ parsed v p → (v ≡ 0 → ⊥) → field_at 8 bytes p ≡ refused reason → whole ≡ refused reason
       extra-cut e g k = cut-from s.fuel s.enough s.same e g k
 
       pub bit-ahead : {v : ℕ} {p : BitPosition} → field_at 1 bytes at ≡ parsed v p → Ahead bytes (1 + bit_offset at) p

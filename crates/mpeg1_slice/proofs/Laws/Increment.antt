@@ -1,7 +1,7 @@
 -- Stuffing skipped and escapes added up, code by code. Assumes nothing.
 use mathlib.Core.List.{List}
 use mathlib.Core.Path.{◌≡◌, refl, sym}
-use Prim.Native.Nat.{ℕ, zero, suc, ◌+◌, ◌*◌, ◌<◌, ◌≤◌}
+use Prim.Native.Nat.{ℕ, zero, suc, ◌+◌, ◌-◌, ◌*◌, ◌<◌, ◌≤◌}
 use native.Mathlib.Omega.{arith}
 use lib.ListN.{length}
 use borrow.Author.Tests.{eq-eqb, ne_eqb, le-leb, lt-leb}
@@ -16,7 +16,8 @@ use Rattle.mpeg1_bits.specs.declared.BitPosition.{BitPosition}
 use Rattle.mpeg1_bits.proofs.Rest.{rest-length}
 use Rattle.mpeg1_tables.specs.AnnexB.{increments, increments_after_escape, stuffing, increment_escape}
 use Rattle.mpeg1_vlc.proofs.Laws.Range.{increment-read, increment-after-escape-read}
-use Rattle.mpeg1_slice.specs.Read.{Stop, stop, Read, word_at}
+use Rattle.mpeg1_slice.specs.declared.refused.RefusedAt.{RefusedAt}
+use Rattle.mpeg1_slice.specs.Read.{stop, Read, word_at}
 use Rattle.mpeg1_slice.specs.Increment.{after_stuffing, amount_of, after_escape}
 use Rattle.mpeg1_slice.proofs.Laws.Read.{Ahead, standing, word-ahead}
 
@@ -31,7 +32,7 @@ module _ (bytes : List ℕ) (at : BitPosition) where
   pub stuffed-start : InBytes bytes at → Stuffed bytes (after_stuffing (1 + length (bits_from bytes at)) bytes at) at
   stuffed-start within = record { fuel = 1 + length (bits_from bytes at); enough = omega arith; inside = within; same = refl }
 
-  refused-from : (n : ℕ) {whole : Read ℕ} {reason : Stop} → length (bits_from bytes at) < n → after_stuffing n bytes at ≡ whole
+  refused-from : (n : ℕ) {whole : Read ℕ} {reason : RefusedAt} → length (bits_from bytes at) < n → after_stuffing n bytes at ≡ whole
       → word_at increments bytes at ≡ refused reason → whole ≡ refused reason
   unfolding after_stuffing
   refused-from zero h f e = absurd (omega arith)
@@ -55,7 +56,7 @@ module _ (bytes : List ℕ) (at : BitPosition) where
   }
 
   module _ {whole : Read ℕ} (s : Stuffed bytes whole at) where
-    pub stuffed-refused : {reason : Stop} → word_at increments bytes at ≡ refused reason → whole ≡ refused reason
+    pub stuffed-refused : {reason : RefusedAt} → word_at increments bytes at ≡ refused reason → whole ≡ refused reason
     stuffed-refused e = refused-from s.fuel s.enough s.same e
 
     pub stuffed-read : {v : ℕ} {p : BitPosition} → word_at increments bytes at ≡ parsed v p → (v ≡ stuffing → ⊥) → whole ≡ parsed v p
@@ -88,7 +89,7 @@ module _ (bytes : List ℕ) (at : BitPosition) where
   escaped-start within = record { fuel = 12; left = refl; small = omega arith; inside = within; same = refl }
 
   module _ {whole : Read ℕ} (sum : ℕ) where
-    escape-refused-from : (n : ℕ) {reason : Stop} → sum + 33 * n ≡ 429 → sum ≤ max_macroblocks → after_escape n sum bytes at ≡ whole
+    escape-refused-from : (n : ℕ) {reason : RefusedAt} → sum + 33 * n ≡ 429 → sum ≤ max_macroblocks → after_escape n sum bytes at ≡ whole
         → word_at increments_after_escape bytes at ≡ refused reason → whole ≡ refused reason
     unfolding after_escape
     escape-refused-from zero h k f e = absurd (omega arith)
@@ -119,17 +120,21 @@ module _ (bytes : List ℕ) (at : BitPosition) where
     }
 
     module _ (s : Escaped bytes whole sum at) where
-      pub escaped-refused : {reason : Stop} → word_at increments_after_escape bytes at ≡ refused reason → whole ≡ refused reason
+      pub escaped-refused : {reason : RefusedAt} → word_at increments_after_escape bytes at ≡ refused reason → whole ≡ refused reason
       escaped-refused e = escape-refused-from s.fuel s.left s.small s.same e
 
-      pub escaped-past : {v : ℕ} {p : BitPosition} → word_at increments_after_escape bytes at ≡ parsed v p → max_macroblocks < sum + amount_of v → whole ≡ refused (stop SliceCode at)
-      escaped-past e g = escape-past-from s.fuel s.left s.small s.same e g
+      -- what the code adds, `more`, takes the sum past the most, or fits
+      pub escaped-past : {v more : ℕ} {p : BitPosition} → word_at increments_after_escape bytes at ≡ parsed v p → more ≡ amount_of v → max_macroblocks - sum < more → whole ≡ refused (stop SliceCode at)
+      escaped-past e m g = escape-past-from s.fuel s.left s.small s.same e (omega (arith, m, g, s.small))
 
-      pub escaped-read : {v : ℕ} {p : BitPosition} → word_at increments_after_escape bytes at ≡ parsed v p → sum + amount_of v ≤ max_macroblocks → (v ≡ increment_escape → ⊥) → whole ≡ parsed (sum + amount_of v) p
-      escaped-read e g i = escape-read-from s.fuel s.left s.small s.same e g i
+      pub escaped-read : {v more : ℕ} {p : BitPosition} → word_at increments_after_escape bytes at ≡ parsed v p → more ≡ amount_of v → more ≤ max_macroblocks - sum → (v ≡ increment_escape → ⊥) → whole ≡ parsed (sum + more) p
+      escaped-read e m g i = rw m (escape-read-from s.fuel s.left s.small s.same e (omega (arith, m, g, s.small)) i)
 
       pub after-escape-ahead : {v : ℕ} {p : BitPosition} → word_at increments_after_escape bytes at ≡ parsed v p → Ahead bytes (1 + bit_offset at) p
       after-escape-ahead e = all-at (word-ahead (standing s.inside) _ increment-after-escape-read) e
 
-      pub escaped-again : {v : ℕ} {p : BitPosition} → word_at increments_after_escape bytes at ≡ parsed v p → sum + amount_of v ≤ max_macroblocks → v ≡ increment_escape → Escaped bytes whole (sum + amount_of v) p
-      escaped-again e g i = escape-again-from s.fuel s.left s.small s.same e g i (after-escape-ahead e).inside
+      pub escaped-again : {v more : ℕ} {p : BitPosition} → word_at increments_after_escape bytes at ≡ parsed v p → more ≡ amount_of v → more ≤ max_macroblocks - sum → v ≡ increment_escape → Escaped bytes whole (sum + more) p
+      escaped-again e m g i = rw m (escape-again-from s.fuel s.left s.small s.same e (omega (arith, m, g, s.small)) i (after-escape-ahead e).inside)
+
+      pub escaped-closer : {v more : ℕ} → more ≡ amount_of v → more ≤ max_macroblocks - sum → v ≡ increment_escape → max_macroblocks - (sum + more) < max_macroblocks - sum
+      escaped-closer {v} m g i = omega (arith, m, g, escape-amount v i, s.small)

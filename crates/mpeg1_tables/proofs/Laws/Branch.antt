@@ -9,35 +9,37 @@ use lib.Arith.{digits_div}
 use lib.Dec.{eqb}
 use lib.ListN.{length}
 use borrow.Author.Tests.{eqb-true, eqb-false, eq-eqb, ne_eqb}
+use Rattle.std.specs.Prelude.{Result, Err}
 use Rattle.math.specs.Tab.{tab}
 use Rattle.math.proofs.Tab.{tab-ext}
 use Rattle.mpeg1_bits.specs.Bits.{bits_of}
 use Rattle.mpeg1_bits.proofs.Number.{bits-low}
 use Rattle.mpeg1_tables.specs.declared.code.Code.{Code}
-use Rattle.mpeg1_tables.specs.declared.code.Code.TheVariants.{Value, NoCode, Truncated}
-use Rattle.mpeg1_tables.specs.Code.{Word, is_prefix, code_of}
+use Rattle.mpeg1_tables.specs.declared.code.CodeError.{CodeError}
+use Rattle.mpeg1_tables.specs.declared.code.CodeError.TheVariants.{NoCode, Truncated}
+use Rattle.mpeg1_tables.specs.Code.{Word, is_prefix, code_of, found}
 use Rattle.mpeg1_tables.specs.Table.{TableRow, packed, entry_of}
 use Rattle.mpeg1_tables.proofs.Laws.Prefix.{case}
 
 -- the rest of a word, and its code
 pub record Branch : Type 0 where
   pub bits : List ℕ
-  pub code : Code
+  pub code : Result Code CodeError
 
-unfoldable pub branch_of : List Branch → List ℕ → Code
-branch_of [] b = NoCode
-branch_of (t ∷ ts) b = cond (is_prefix t.bits b) t.code (cond (is_prefix b t.bits) Truncated (branch_of ts b))
+unfoldable pub branch_of : List Branch → List ℕ → Result Code CodeError
+branch_of [] b = Err NoCode
+branch_of (t ∷ ts) b = cond (is_prefix t.bits b) t.code (cond (is_prefix b t.bits) (Err Truncated) (branch_of ts b))
 
 unfoldable pub branches : List Word → List Branch
 branches [] = []
-branches (w ∷ words) = record { bits = w.bits; code = Value w.value (length w.bits) } ∷ branches words
+branches (w ∷ words) = record { bits = w.bits; code = found w.value (length w.bits) } ∷ branches words
 
 pub branches-code : (words : List Word) (b : List ℕ) → code_of words b ≡ branch_of (branches words) b
 unfolding code_of branch_of branches
 branches-code [] b = refl
-branches-code (w ∷ words) b = ap (λ (c : Code). cond (is_prefix w.bits b) (Value w.value (length w.bits)) (cond (is_prefix b w.bits) Truncated c)) (branches-code words b)
+branches-code (w ∷ words) b = ap (λ (c : Result Code CodeError). cond (is_prefix w.bits b) (found w.value (length w.bits)) (cond (is_prefix b w.bits) (Err Truncated) c)) (branches-code words b)
 
-unfoldable pub grown : ℕ → List ℕ → Code → List Branch → List Branch
+unfoldable pub grown : ℕ → List ℕ → Result Code CodeError → List Branch → List Branch
 grown x [] c ts = record { bits = []; code = c } ∷ ts
 grown x (y ∷ a) c ts = cond (eqb y x) (record { bits = a; code = c } ∷ ts) ts
 
@@ -46,7 +48,7 @@ unfoldable pub after : ℕ → List Branch → List Branch
 after x [] = []
 after x (t ∷ ts) = grown x t.bits t.code (after x ts)
 
-grown-code : (x : ℕ) (b a : List ℕ) (c : Code) (ts us : List Branch) → branch_of ts (x ∷ b) ≡ branch_of us b → cond (is_prefix a (x ∷ b)) c (cond (is_prefix (x ∷ b) a) Truncated (branch_of ts (x ∷ b))) ≡ branch_of (grown x a c us) b
+grown-code : (x : ℕ) (b a : List ℕ) (c : Result Code CodeError) (ts us : List Branch) → branch_of ts (x ∷ b) ≡ branch_of us b → cond (is_prefix a (x ∷ b)) c (cond (is_prefix (x ∷ b) a) (Err Truncated) (branch_of ts (x ∷ b))) ≡ branch_of (grown x a c us) b
 unfolding branch_of grown is_prefix
 grown-code x b [] c ts us e = refl
 grown-code x b (y ∷ a) c ts us e =

@@ -9,9 +9,12 @@ use lib.Dec.{T, eqb, leb, leb→le}
 use lib.ListN.{length, take, drop, take-append-drop}
 use lib.Seq.{length-take-le, take_all}
 use borrow.Author.Tests.{eqb-true, eq-eqb}
+use Rattle.std.specs.Prelude.{Result, Ok, Err}
 use Rattle.math.proofs.Test.{and_left, and_right, clash, refuted}
-use Rattle.mpeg1_tables.specs.declared.code.Code.TheVariants.{Value, NoCode, Truncated}
-use Rattle.mpeg1_tables.specs.Code.{Word, is_prefix, code_of}
+use Rattle.mpeg1_tables.specs.declared.code.Code.{Code}
+use Rattle.mpeg1_tables.specs.declared.code.CodeError.{CodeError}
+use Rattle.mpeg1_tables.specs.declared.code.CodeError.TheVariants.{NoCode, Truncated}
+use Rattle.mpeg1_tables.specs.Code.{Word, is_prefix, code_of, found}
 
 -- case split on a Bool
 pub case : {A : Type 0} (b : Bool) → (b ≡ true → A) → (b ≡ false → A) → A
@@ -76,11 +79,11 @@ and_both false b s t = s
 
 -- the three cases of `code_of` for the first word of a list
 module _ (w : Word) (words : List Word) (b : List ℕ) where
-  pub code-found : is_prefix w.bits b ≡ true → code_of (w ∷ words) b ≡ Value w.value (length w.bits)
+  pub code-found : is_prefix w.bits b ≡ true → code_of (w ∷ words) b ≡ found w.value (length w.bits)
   unfolding code_of
   code-found e = rw e
 
-  pub code-truncated : is_prefix w.bits b ≡ false → is_prefix b w.bits ≡ true → code_of (w ∷ words) b ≡ Truncated
+  pub code-truncated : is_prefix w.bits b ≡ false → is_prefix b w.bits ≡ true → code_of (w ∷ words) b ≡ Err Truncated
   unfolding code_of
   code-truncated e f = rw (e, f)
 
@@ -89,7 +92,7 @@ module _ (w : Word) (words : List Word) (b : List ℕ) where
   code-later e f = rw (e, f)
 
 -- more bits don't change a code that isn't truncated
-pub code-stable : (words : List Word) (a c : List ℕ) → (code_of words a ≡ Truncated → ⊥) → code_of words (a ++ c) ≡ code_of words a
+pub code-stable : (words : List Word) (a c : List ℕ) → (code_of words a ≡ Err Truncated → ⊥) → code_of words (a ++ c) ≡ code_of words a
 unfolding code_of
 code-stable [] a c n = refl
 code-stable (w ∷ words) a c n =
@@ -121,14 +124,26 @@ every-other test other f (w ∷ words) t =
 abbrev pub no_longer : ℕ → List Word → Bool
 no_longer k = every_word (λ v n. leb n k)
 
-value-not-truncated : {v n : ℕ} → Value v n ≡ Truncated → ⊥
+value-not-truncated : {v n : ℕ} → found v n ≡ Err Truncated → ⊥
 value-not-truncated e = let z : ◌≡◌ {A = ℕ} 0 1 = cc in omega arith
 
-none-not-truncated : NoCode ≡ Truncated → ⊥
+none-not-truncated : ◌≡◌ {A = Result Code CodeError} (Err NoCode) (Err Truncated) → ⊥
 none-not-truncated e = let z : ◌≡◌ {A = ℕ} 0 1 = cc in omega arith
 
+-- the same code has the same value and length
+pub found-same : {v n x m : ℕ} → found v n ≡ found x m → (v ≡ x) × (n ≡ m)
+found-same e = (ap value_of e, ap length_of e)
+  where
+    value_of : Result Code CodeError → ℕ
+    value_of (Ok code) = code.value
+    value_of (Err error) = 0
+
+    length_of : Result Code CodeError → ℕ
+    length_of (Ok code) = code.length
+    length_of (Err error) = 0
+
 -- as many bits as the longest word has are never truncated
-pub long-enough : (words : List Word) (a : List ℕ) → T (no_longer (length a) words) → code_of words a ≡ Truncated → ⊥
+pub long-enough : (words : List Word) (a : List ℕ) → T (no_longer (length a) words) → code_of words a ≡ Err Truncated → ⊥
 unfolding every_word code_of
 long-enough [] a t e = none-not-truncated e
 long-enough (w ∷ words) a t e =
@@ -147,26 +162,25 @@ code-take words k b t = elim (dec_le k (length b)) [
 ]
 
 -- a code is not longer than the bits left
-pub code_inside : (words : List Word) (b : List ℕ) (v n : ℕ) → code_of words b ≡ Value v n → n ≤ length b
+pub code_inside : (words : List Word) (b : List ℕ) (v n : ℕ) → code_of words b ≡ found v n → n ≤ length b
 unfolding code_of
-code_inside [] b v n e = let z : ◌≡◌ {A = ℕ} 0 1 = cc in omega arith
+code_inside [] b v n e = absurd (let z : ◌≡◌ {A = ℕ} 0 1 = cc in omega arith)
 code_inside (w ∷ words) b v n e =
     case (is_prefix w.bits b)
-    (λ f. let same : length w.bits ≡ n = cc (code-found w words b f) in omega (arith, prefix-length w.bits b f))
+    (λ f. omega (arith, (found-same (sym (code-found w words b f) ∙ e)).1, prefix-length w.bits b f))
     (λ f. case (is_prefix b w.bits)
     (λ g. absurd (value-not-truncated (sym e ∙ code-truncated w words b f g)))
     (λ g. code_inside words b v n (sym (code-later w words b f g) ∙ e)))
 
 -- a test that every word passes holds for each code read
-pub code-tested : (test : ℕ → ℕ → Bool) (words : List Word) (b : List ℕ) (v n : ℕ) → T (every_word test words) → code_of words b ≡ Value v n → T (test v n)
+pub code-tested : (test : ℕ → ℕ → Bool) (words : List Word) (b : List ℕ) (v n : ℕ) → T (every_word test words) → code_of words b ≡ found v n → T (test v n)
 unfolding every_word code_of
 code-tested test [] b v n t e = absurd (let z : ◌≡◌ {A = ℕ} 0 1 = cc in omega arith)
 code-tested test (w ∷ words) b v n t e =
     case (is_prefix w.bits b)
     (λ f.
-    let value : w.value ≡ v = cc (code-found w words b f) in
-    let long : length w.bits ≡ n = cc (code-found w words b f) in
-    subst (λ (x : ℕ). T (test x n)) value (subst (λ (x : ℕ). T (test w.value x)) long (and_left (test w.value (length w.bits)) (every_word test words) t)))
+    let same = found-same (sym (code-found w words b f) ∙ e) in
+    subst (λ (x : ℕ). T (test x n)) same.0 (subst (λ (x : ℕ). T (test w.value x)) same.1 (and_left (test w.value (length w.bits)) (every_word test words) t)))
     (λ f. case (is_prefix b w.bits)
     (λ g. absurd (value-not-truncated (sym e ∙ code-truncated w words b f g)))
     (λ g. code-tested test words b v n (and_right (test w.value (length w.bits)) (every_word test words) t) (sym (code-later w words b f g) ∙ e)))

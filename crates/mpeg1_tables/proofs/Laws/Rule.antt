@@ -7,11 +7,14 @@ use native.Mathlib.Omega.{arith}
 use lib.Dec.{T, eqb}
 use lib.ListN.{length, get_or}
 use borrow.Author.Tests.{eqb-true, eq-eqb}
+use Rattle.std.specs.Prelude.{Result, Err}
 use Rattle.math.specs.Tab.{tab}
 use Rattle.math.proofs.Test.{and_left, and_right, clash, refuted}
 use Rattle.mpeg1_bits.specs.Bits.{bits_of}
-use Rattle.mpeg1_tables.specs.declared.code.Code.TheVariants.{Value, NoCode, Truncated}
-use Rattle.mpeg1_tables.specs.Code.{Word, word, digits_of, is_prefix, code_of}
+use Rattle.mpeg1_tables.specs.declared.code.Code.{Code}
+use Rattle.mpeg1_tables.specs.declared.code.CodeError.{CodeError}
+use Rattle.mpeg1_tables.specs.declared.code.CodeError.TheVariants.{NoCode, Truncated}
+use Rattle.mpeg1_tables.specs.Code.{Word, word, digits_of, is_prefix, code_of, found}
 use Rattle.mpeg1_tables.specs.AnnexB.{increment_words, increments, increments_after_escape, intra_types, predicted_types, bidirectional_types, patterns, motion_codes, luminance_sizes, chrominance_sizes, shared_words, first_coefficients, next_coefficients, byte_words, large_positive, large_negative}
 use Rattle.mpeg1_tables.specs.Rule.{Rule, rule, rules, apart_from, prefix_free, begin_no_code, all_hold}
 use Rattle.mpeg1_tables.proofs.Laws.Prefix.{case, and-true, code-found, code-truncated, code-later}
@@ -31,10 +34,10 @@ pub prefix-free : (k : ℕ) → k < 13 → T (prefix_free (get_or rules k (rule 
 prefix-free k h = free-at rules (rule [] []) k rules-hold h
 
 -- ---- what a code read from bits means
-value-not-none : {v n : ℕ} → Value v n ≡ NoCode → ⊥
+value-not-none : {v n : ℕ} → found v n ≡ Err NoCode → ⊥
 value-not-none e = let z : ◌≡◌ {A = ℕ} 0 1 = cc in omega arith
 
-truncated-not-none : Truncated ≡ NoCode → ⊥
+truncated-not-none : ◌≡◌ {A = Result Code CodeError} (Err Truncated) (Err NoCode) → ⊥
 truncated-not-none e = let z : ◌≡◌ {A = ℕ} 0 1 = cc in omega arith
 
 pub data In (w : Word) : List Word → Type 0 where
@@ -76,7 +79,7 @@ apart a {w} t (here {words = words}) =
 apart a t (there {x = x} {words = words} p) = apart a (and_right (not (is_prefix a x.bits) && not (is_prefix x.bits a)) (apart_from a words) t) p
 
 -- a word that is a prefix of the bits is the code, wherever it is in the list
-pub found-exactly : (b : List ℕ) {w : Word} {words : List Word} → T (prefix_free words) → In w words → is_prefix w.bits b ≡ true → code_of words b ≡ Value w.value (length w.bits)
+pub found-exactly : (b : List ℕ) {w : Word} {words : List Word} → T (prefix_free words) → In w words → is_prefix w.bits b ≡ true → code_of words b ≡ found w.value (length w.bits)
 unfolding prefix_free
 found-exactly b {w} t (here {words = words}) e = code-found w words b e
 found-exactly b {w} t (there {x = x} {words = words} p) e =
@@ -87,7 +90,7 @@ found-exactly b {w} t (there {x = x} {words = words} p) e =
     ∙ found-exactly b (and_right (apart_from x.bits words) (prefix_free words) t) p e
 
 -- bits that are a proper prefix of a word are truncated
-pub truncated-exactly : (b : List ℕ) {w : Word} {words : List Word} → T (prefix_free words) → In w words → is_prefix b w.bits ≡ true → is_prefix w.bits b ≡ false → code_of words b ≡ Truncated
+pub truncated-exactly : (b : List ℕ) {w : Word} {words : List Word} → T (prefix_free words) → In w words → is_prefix b w.bits ≡ true → is_prefix w.bits b ≡ false → code_of words b ≡ Err Truncated
 unfolding prefix_free
 truncated-exactly b {w} t (here {words = words}) e f = code-truncated w words b f e
 truncated-exactly b {w} t (there {x = x} {words = words} p) e f =
@@ -98,12 +101,12 @@ truncated-exactly b {w} t (there {x = x} {words = words} p) e f =
     (λ g. code-later x words b none g ∙ truncated-exactly b (and_right (apart_from x.bits words) (prefix_free words) t) p e f)
 
 -- "no code of this place is a prefix of b and b is a prefix of none": exactly then there is no code
-pub none-exactly : (b : List ℕ) (words : List Word) → ((w : Word) → In w words → (is_prefix w.bits b ≡ false) × (is_prefix b w.bits ≡ false)) → code_of words b ≡ NoCode
+pub none-exactly : (b : List ℕ) (words : List Word) → ((w : Word) → In w words → (is_prefix w.bits b ≡ false) × (is_prefix b w.bits ≡ false)) → code_of words b ≡ Err NoCode
 unfolding code_of
 none-exactly b [] h = refl
 none-exactly b (w ∷ words) h = let p = h w here in code-later w words b p.0 p.1 ∙ none-exactly b words (λ x i. h x (there i))
 
-pub none-means : (b : List ℕ) {w : Word} {words : List Word} → code_of words b ≡ NoCode → In w words → (is_prefix w.bits b ≡ false) × (is_prefix b w.bits ≡ false)
+pub none-means : (b : List ℕ) {w : Word} {words : List Word} → code_of words b ≡ Err NoCode → In w words → (is_prefix w.bits b ≡ false) × (is_prefix b w.bits ≡ false)
 none-means b {w} e (here {words = words}) =
     let f = refuted {b = is_prefix w.bits b} (λ g. value-not-none (sym (code-found w words b g) ∙ e)) in
     (f, refuted (λ g. truncated-not-none (sym (code-truncated w words b f g) ∙ e)))

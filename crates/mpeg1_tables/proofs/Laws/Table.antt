@@ -9,13 +9,14 @@ use lib.Dec.{T, ltb, ltb→lt, lt→ltb}
 use lib.ListN.{length, get_or, get_or-append}
 use lib.Seq.{get_or-append-add}
 use borrow.Author.Tests.{ne_eqb}
+use Rattle.std.specs.Prelude.{Err}
 use Rattle.math.specs.Joined.{joined}
 use Rattle.math.specs.Tab.{tab}
 use Rattle.math.proofs.Tab.{tab-length, tab-at}
 use Rattle.math.proofs.Test.{and_left, and_right}
 use Rattle.mpeg1_bits.specs.Bits.{bits_of}
-use Rattle.mpeg1_tables.specs.declared.code.Code.TheVariants.{Value, Truncated}
-use Rattle.mpeg1_tables.specs.Code.{Word, word, digits_of, is_prefix, code_of}
+use Rattle.mpeg1_tables.specs.declared.code.CodeError.TheVariants.{Truncated}
+use Rattle.mpeg1_tables.specs.Code.{Word, word, digits_of, is_prefix, code_of, found}
 use Rattle.mpeg1_tables.specs.AnnexB.{increment_words, increments, increments_after_escape, intra_types, predicted_types, bidirectional_types, patterns, motion_codes, luminance_sizes, chrominance_sizes, shared_words, next_coefficients}
 use Rattle.mpeg1_tables.specs.Table.{TableRow, table_row, table_rows, table_row_at, packed, unpacked_of, entry_of, code_table}
 use Rattle.mpeg1_tables.proofs.Laws.Prefix.{case, and_both, code-found, code-truncated, code-later, every_word, every-other, code-tested}
@@ -36,14 +37,14 @@ joined_at f (r ∷ rs) d e (suc k) i h b = get_d_after (f r) (joined f rs) 256 (
 abbrev packable : ℕ → ℕ → Bool
 packable v n = ltb 0 n && ltb n 31
 
-unpack-value : (v n : ℕ) → 0 < n → n < 31 → unpacked_of (32 * v + n) ≡ Value v n
+unpack-value : (v n : ℕ) → 0 < n → n < 31 → unpacked_of (32 * v + n) ≡ found v n
 unfolding unpacked_of
 unpack-value v n h k =
     let low : (32 * v + n) % 32 ≡ n = omega arith in
     let high : (32 * v + n) / 32 ≡ v = omega arith in
     rw (low, high, ne_eqb n 0 (λ e. omega arith), ne_eqb n 31 (λ e. omega arith))
 
-unpack-truncated : unpacked_of 31 ≡ Truncated
+unpack-truncated : unpacked_of 31 ≡ Err Truncated
 unfolding unpacked_of
 unpack-truncated = refl
 
@@ -100,7 +101,7 @@ pub record Sized (v n : ℕ) : Type 0 where
   pub value : v < 2048
   pub long : n < 17
 
-pub code-sized : (r : ℕ) (b : List ℕ) {v n : ℕ} → r < 16 → code_of (table_row_at r).words b ≡ Value v n → Sized v n
+pub code-sized : (r : ℕ) (b : List ℕ) {v n : ℕ} → r < 16 → code_of (table_row_at r).words b ≡ found v n → Sized v n
 code-sized r b {v} {n} h e =
     let t = code-tested sized (table_row_at r).words b v n (row_sized r h) e in
     record { value = sized-value v n t; long = sized-length v n t }

@@ -11,15 +11,16 @@ use lib.IntN.{pos, ◌-ℤ◌}
 use lib.ListN.{drop, take-append-drop}
 use lib.Seq.{drop-drop}
 use borrow.Author.Tests.{eqb-true, eqb-false, leb-true, leb-false, eq-eqb}
+use Rattle.std.specs.Prelude.{Ok, Err}
 use Rattle.mpeg1_bits.specs.declared.Window.{Window}
 use Rattle.mpeg1_bits.specs.Bits.{bits_of, bits_in}
 use Rattle.mpeg1_bits.proofs.Rest.{window-take, window-length, window-drop}
-use Rattle.mpeg1_tables.specs.declared.code.Code.TheVariants.{Value}
-use Rattle.mpeg1_tables.specs.Code.{word, digits_of, is_prefix, code_of}
+use Rattle.mpeg1_tables.specs.declared.code.CodeError.TheVariants.{Truncated}
+use Rattle.mpeg1_tables.specs.Code.{word, digits_of, is_prefix, found, code_of}
 use Rattle.mpeg1_tables.specs.AnnexB.{coefficient_escape, shared_words, first_coefficients, next_coefficients, large_positive, large_negative}
 use Rattle.mpeg1_tables.proofs.Laws.Prefix.{every_word, code-tested, code_inside}
 use Rattle.mpeg1_tables.proofs.Laws.Table.{code-sized}
-use Rattle.mpeg1_vlc.specs.declared.coefficient.Coefficient.TheVariants.{Pair, Truncated}
+use Rattle.mpeg1_vlc.specs.declared.coefficient.Coefficient.TheVariants.{Pair}
 use Rattle.mpeg1_vlc.specs.Requires.{WordIn}
 use Rattle.mpeg1_vlc.specs.Coefficient.{is_one_alone, signed_of, large_of, level_of, escaped_of, finished_of, words_of, coefficient_code_of}
 use Rattle.mpeg1_vlc.proofs.Laws.Field.{field-short, field-value}
@@ -32,22 +33,22 @@ module _ (next : Window) (most : next.count ≤ 32) where
   unfolding escaped_of
   run-part h = rw (field-value next most 6 6 20 h refl, drop-drop 6 6 (bits_in next))
 
-  no_run : 6 ≤ next.count → next.count < 12 → escaped_of 6 (drop 6 (bits_in next)) ≡ Truncated
+  no_run : 6 ≤ next.count → next.count < 12 → escaped_of 6 (drop 6 (bits_in next)) ≡ Err Truncated
   unfolding escaped_of
   no_run h k = rw (field-short next most 6 6 h k)
 
-  no-level : 12 ≤ next.count → next.count < 20 → level_of (next.bits / 1048576 % 64) 12 (drop 12 (bits_in next)) ≡ Truncated
+  no-level : 12 ≤ next.count → next.count < 20 → level_of (next.bits / 1048576 % 64) 12 (drop 12 (bits_in next)) ≡ Err Truncated
   unfolding level_of
   no-level h k = rw (field-short next most 12 8 h k)
 
-  pub escape-short : 6 ≤ next.count → next.count < 20 → escaped_of 6 (drop 6 (bits_in next)) ≡ Truncated
+  pub escape-short : 6 ≤ next.count → next.count < 20 → escaped_of 6 (drop 6 (bits_in next)) ≡ Err Truncated
   escape-short h g = elim (dec_le 12 next.count) [
     | yes k ↦ run-part k ∙ no-level k g
     | no k ↦ no_run h (omega arith)
   ]
 
   -- all first eight bits of the level exist
-  pub escape-level : 20 ≤ next.count → escaped_of 6 (drop 6 (bits_in next)) ≡ cond (eqb (next.bits / 4096 % 256) 0) (large_of large_positive 0 (next.bits / 1048576 % 64) 20 (drop 20 (bits_in next))) (cond (eqb (next.bits / 4096 % 256) 128) (large_of large_negative 256 (next.bits / 1048576 % 64) 20 (drop 20 (bits_in next))) (Pair (next.bits / 1048576 % 64) (cond (ltb (next.bits / 4096 % 256) 128) (pos (next.bits / 4096 % 256)) (pos (next.bits / 4096 % 256) -ℤ pos 256)) 20))
+  pub escape-level : 20 ≤ next.count → escaped_of 6 (drop 6 (bits_in next)) ≡ cond (eqb (next.bits / 4096 % 256) 0) (large_of large_positive 0 (next.bits / 1048576 % 64) 20 (drop 20 (bits_in next))) (cond (eqb (next.bits / 4096 % 256) 128) (large_of large_negative 256 (next.bits / 1048576 % 64) 20 (drop 20 (bits_in next))) (Ok (Pair (next.bits / 1048576 % 64) (cond (ltb (next.bits / 4096 % 256) 128) (pos (next.bits / 4096 % 256)) (pos (next.bits / 4096 % 256) -ℤ pos 256)) 20)))
   unfolding level_of
   escape-level h = run-part (omega arith) ∙ rw (field-value next most 12 8 12 h refl, drop-drop 8 12 (bits_in next))
 
@@ -63,7 +64,7 @@ pub six : (v n : ℕ) → T (escape-length v n) → v ≡ coefficient_escape →
 unfolding escape-length
 six v n t e = eqb→eq n 6 (subst (λ (b : Bool). T (cond b (eqb n 6) true)) (eq-eqb v coefficient_escape e) t)
 
-pub word-found : (next : Window) {v n : ℕ} → next.count ≤ 32 → code_of next_coefficients (bits_in next) ≡ Value v n → WordIn v n next
+pub word-found : (next : Window) {v n : ℕ} → next.count ≤ 32 → code_of next_coefficients (bits_in next) ≡ found v n → WordIn v n next
 word-found next {v} {n} most e =
     let s = code-sized 13 (bits_in next) (omega arith) e in
     record {

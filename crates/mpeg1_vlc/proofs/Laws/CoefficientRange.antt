@@ -8,6 +8,7 @@ use lib.Dec.{T, eqb, ltb, leb, leb→le}
 use lib.IntN.{ℤ, pos, neg_ℤ, ◌-ℤ◌}
 use lib.ListN.{length, drop, length-drop}
 use borrow.Author.Tests.{eqb-true}
+use Rattle.std.specs.Prelude.{Result, Ok, Err}
 use Rattle.math.specs.Tab.{tab}
 use Rattle.math.specs.Bound.{Within}
 use Rattle.math.proofs.Bound.{abs-le, within-cond}
@@ -16,14 +17,13 @@ use Rattle.math.proofs.Test.{by-test}
 use Rattle.mpeg1_bits.specs.Bits.{bits_of}
 use Rattle.mpeg1_bits.proofs.Number.{Binary, binary-drop}
 use Rattle.mpeg1_tables.specs.declared.code.Code.{Code}
-use Rattle.mpeg1_tables.specs.declared.code.Code.TheVariants as C
-use Rattle.mpeg1_tables.specs.Code.{Word, code_of, field_of}
+use Rattle.mpeg1_tables.specs.declared.code.CodeError.{CodeError}
+use Rattle.mpeg1_tables.specs.Code.{Word, found, code_of, field_of, after_code}
 use Rattle.mpeg1_tables.specs.AnnexB.{coefficient_escape, end_of_block, first_coefficients, next_coefficients, byte_words, large_positive, large_negative}
 use Rattle.mpeg1_tables.proofs.Laws.Prefix.{every_word, no_longer, code_inside, code-tested}
 use Rattle.mpeg1_tables.proofs.Laws.Table.{sized, row_sized, sized-length, sized-value}
-use Rattle.mpeg1_vlc.specs.declared.coefficient.Coefficient.{Coefficient}
-use Rattle.mpeg1_vlc.specs.declared.coefficient.Coefficient.TheVariants.{Pair, EndOfBlock, NoCode, Truncated}
-use Rattle.mpeg1_vlc.specs.Coefficient.{after_part, signed_of, large_of, level_of, escaped_of, finished_of, coefficient_code_of}
+use Rattle.mpeg1_vlc.specs.declared.coefficient.Coefficient.TheVariants.{Pair, EndOfBlock}
+use Rattle.mpeg1_vlc.specs.Coefficient.{CoefficientRead, signed_of, large_of, level_of, escaped_of, finished_of, coefficient_code_of}
 use Rattle.mpeg1_vlc.proofs.Laws.Range.{field-read}
 use Rattle.mpeg1_vlc.proofs.Laws.Coefficient.{escape-length, escapes-have-six, six}
 use Rattle.mpeg1_vlc.proofs.Laws.CoefficientRest.{positive-eight, negative-eight, first-sized, first-escapes}
@@ -39,16 +39,14 @@ pub record EndRead (m n : ℕ) : Type 0 where
   pub few : n ≤ 28
   pub inside : n ≤ m
 
-abbrev pub WellRead : ℕ → Coefficient → Type 0
-WellRead m (Pair run level n) = PairRead m run level n
-WellRead m (EndOfBlock n) = EndRead m n
-WellRead m NoCode = Unit {0}
-WellRead m Truncated = Unit {0}
+abbrev pub WellRead : ℕ → CoefficientRead → Type 0
+WellRead m (Ok (Pair run level n)) = PairRead m run level n
+WellRead m (Ok (EndOfBlock n)) = EndRead m n
+WellRead m (Err error) = Unit {0}
 
-after-well-read : (m : ℕ) (c : Code) (b : List ℕ) (f : ℕ → ℕ → List ℕ → Coefficient) → ((v n : ℕ) → c ≡ C.Value v n → WellRead m (f v n (drop n b))) → WellRead m (after_part c b f)
-after-well-read m (C.Value v n) b f h = h v n refl
-after-well-read m C.NoCode b f h = tt
-after-well-read m C.Truncated b f h = tt
+after-well-read : (m : ℕ) (c : Result Code CodeError) (b : List ℕ) (f : ℕ → ℕ → List ℕ → CoefficientRead) → ((v n : ℕ) → c ≡ found v n → WellRead m (f v n (drop n b))) → WellRead m (after_code c b f)
+after-well-read m (Ok code) b f h = h code.value code.length refl
+after-well-read m (Err error) b f h = tt
 
 -- ---- levels
 below-within : (v : ℕ) → v ≤ 256 → Within 256 (pos v)

@@ -9,21 +9,23 @@ use lib.Dec.{ltb}
 use lib.ListN.{length, take, drop, length-take, length-drop}
 use lib.Pow.{pow-add, pow_pos}
 use borrow.Author.Tests.{lt-ltb, le-ltb}
+use Rattle.std.specs.Prelude.{Result, Ok, Err}
 use Rattle.mpeg1_bits.specs.declared.Window.{Window}
 use Rattle.mpeg1_bits.specs.declared.BitPosition.{BitPosition}
 use Rattle.mpeg1_bits.specs.Bits.{leading_number, bits_in, bits_from, window_of}
 use Rattle.mpeg1_bits.proofs.Number.{number-take}
 use Rattle.mpeg1_bits.proofs.Rest.{window-length, window-part, window-bits, rest-binary, drop-take}
 use Rattle.mpeg1_tables.specs.declared.code.Code.{Code}
-use Rattle.mpeg1_tables.specs.declared.code.Code.TheVariants.{Value, NoCode, Truncated}
-use Rattle.mpeg1_tables.specs.Code.{field_of, after_code}
-use Rattle.mpeg1_tables.proofs.Laws.Prefix.{case}
+use Rattle.mpeg1_tables.specs.declared.code.CodeError.{CodeError}
+use Rattle.mpeg1_tables.specs.declared.code.CodeError.TheVariants.{Truncated}
+use Rattle.mpeg1_tables.specs.Code.{found, field_of, after_code}
+use Rattle.mpeg1_tables.proofs.Laws.Prefix.{case, found-same}
 
 module _ (next : Window) (most : next.count ≤ 32) (from n : ℕ) where
   left : length (drop from (bits_in next)) ≡ next.count - from
   left = length-drop from (bits_in next) ∙ ap (λ (c : ℕ). c - from) (window-length next most)
 
-  pub field-short : from ≤ next.count → next.count < from + n → field_of n (drop from (bits_in next)) ≡ Truncated
+  pub field-short : from ≤ next.count → next.count < from + n → field_of n (drop from (bits_in next)) ≡ Err Truncated
   unfolding field_of
   field-short h g = rw (lt-ltb _ _ few)
     where
@@ -31,9 +33,9 @@ module _ (next : Window) (most : next.count ≤ 32) (from n : ℕ) where
       few = omega (arith, left, h, g)
 
   -- a number from bit `from` on, when d bits of the window follow it
-  pub field-value : (d : ℕ) → from + n ≤ next.count → from + n + d ≡ 32 → field_of n (drop from (bits_in next)) ≡ Value (next.bits / 2 ^ d % 2 ^ n) n
+  pub field-value : (d : ℕ) → from + n ≤ next.count → from + n + d ≡ 32 → field_of n (drop from (bits_in next)) ≡ found (next.bits / 2 ^ d % 2 ^ n) n
   unfolding field_of
-  field-value d h e = rw (le-ltb _ _ enough, window-part next from n h most) (ap (λ (k : ℕ). Value (next.bits / 2 ^ k % 2 ^ n) n) past)
+  field-value d h e = rw (le-ltb _ _ enough, window-part next from n h most) (ap (λ (k : ℕ). found (next.bits / 2 ^ k % 2 ^ n) n) past)
     where
       enough : n ≤ length (drop from (bits_in next))
       enough = omega (arith, left, h)
@@ -73,23 +75,22 @@ module _ (bytes : List ℕ) (p : BitPosition) (next : Window) (e : next ≡ wind
       ∙ ap (field_of n) (window-bits (rest-binary bytes p))
       ∙ field-take n 32 (bits_from bytes p) (omega (arith, few))
 
-  pub rest-short : next.count ≤ 32 → next.count < n → field_of n (bits_from bytes p) ≡ Truncated
+  pub rest-short : next.count ≤ 32 → next.count < n → field_of n (bits_from bytes p) ≡ Err Truncated
   rest-short most h = sym whole-field ∙ field-short next most 0 n (omega arith) (omega (arith, h))
 
-  pub rest-value : next.count ≤ 32 → next.bits < 4294967296 → n ≤ next.count → field_of n (bits_from bytes p) ≡ Value (next.bits / 2 ^ (32 - n)) n
+  pub rest-value : next.count ≤ 32 → next.bits < 4294967296 → n ≤ next.count → field_of n (bits_from bytes p) ≡ found (next.bits / 2 ^ (32 - n)) n
   rest-value most fits h =
       sym whole-field ∙ field-value next most 0 n (32 - n) (omega (arith, h)) (omega (arith, few))
-      ∙ ap (λ (v : ℕ). Value v n) (mod-eq_of_lt (front-small next.bits n fits (omega (arith, few))))
+      ∙ ap (λ (v : ℕ). found v n) (mod-eq_of_lt (front-small next.bits n fits (omega (arith, few))))
 
   pub value-fits : next.bits < 4294967296 → next.bits / 2 ^ (32 - n) < 65536
   value-fits fits = lt_of_lt_of_le (front-small next.bits n fits (omega (arith, few))) (pow-le-pow_right {n = 2} (suc-le-suc zero-le) {i = n} {j = 16} few)
 
 -- ---- codes of several parts
 -- two readings agree if they agree on what follows the first part
-pub after_same : {A : Type 0} (none short : A) (c : Code) (a b : List ℕ) (f : ℕ → ℕ → List ℕ → A) → ((v n : ℕ) → c ≡ Value v n → f v n (drop n a) ≡ f v n (drop n b)) → after_code none short c a f ≡ after_code none short c b f
-after_same none short (Value v n) a b f h = h v n refl
-after_same none short NoCode a b f h = refl
-after_same none short Truncated a b f h = refl
+pub after_same : {A : Type 0} (c : Result Code CodeError) (a b : List ℕ) (f : ℕ → ℕ → List ℕ → Result A CodeError) → ((v n : ℕ) → c ≡ found v n → f v n (drop n a) ≡ f v n (drop n b)) → after_code c a f ≡ after_code c b f
+after_same (Ok code) a b f h = h code.value code.length refl
+after_same (Err error) a b f h = refl
 
 pub drop_of_take : (n m : ℕ) (l : List ℕ) → n ≤ m → drop n (take m l) ≡ take (m - n) (drop n l)
 drop_of_take n m l h = ap (λ (k : ℕ). drop n (take k l)) whole ∙ drop-take n (m - n) l
@@ -97,9 +98,12 @@ drop_of_take n m l h = ap (λ (k : ℕ). drop n (take k l)) whole ∙ drop-take 
     whole : m ≡ n + (m - n)
     whole = omega (arith, h)
 
-pub field-length : (k : ℕ) (l : List ℕ) (v n : ℕ) → field_of k l ≡ Value v n → n ≡ k
+pub not_found : {v n : ℕ} {error : CodeError} → Err error ≡ found v n → ⊥
+not_found e = let z : ◌≡◌ {A = ℕ} 0 1 = cc in omega arith
+
+pub field-length : (k : ℕ) (l : List ℕ) (v n : ℕ) → field_of k l ≡ found v n → n ≡ k
 unfolding field_of
 field-length k l v n e =
     case (ltb (length l) k)
-    (λ t. let bad : Truncated ≡ Value v n = rw t at e in absurd (let z : ◌≡◌ {A = ℕ} 0 1 = cc in omega arith))
-    (λ t. let good : Value (leading_number k l) k ≡ Value v n = rw t at e in cc)
+    (λ t. absurd (not_found (rw t at e)))
+    (λ t. let good : found (leading_number k l) k ≡ found v n = rw t at e in sym (found-same good).1)

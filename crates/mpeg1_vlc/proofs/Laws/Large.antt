@@ -1,40 +1,42 @@
 -- The code of a large level's second eight bits, by comparison with the lowest and the highest number. Assumes nothing.
-use mathlib.Core.Path.{◌≡◌, ap, ap₂, ◌∙◌, sym}
+use mathlib.Core.Path.{◌≡◌, refl, ap, ap₂, ◌∙◌, sym}
 use mathlib.Core.Bool.{Bool, cond, ◌&&◌}
 use mathlib.Core.List.{List, []}
-use Prim.Native.Nat.{ℕ, zero, suc, ◌+◌, ◌*◌, ◌-◌, ◌/◌, ◌^◌, ◌<◌, ◌≤◌, min}
+use Prim.Native.Nat.{ℕ, zero, suc, ◌+◌, ◌*◌, ◌-◌, ◌/◌, ◌%◌, ◌^◌, ◌<◌, ◌≤◌, min}
 use native.Mathlib.Nat.{pow-suc, min-eq_left, min-eq_right, min-le_left, mul-le-mul_right}
 use native.Mathlib.Decide.{dec_le}
 use native.Mathlib.Omega.{arith}
 use lib.Dec.{T, ltb, leb}
-use lib.ListN.{length, take}
+use lib.ListN.{length, take, drop}
 use lib.Pow.{pow-add}
 use lib.Seq.{take_all}
+use Rattle.std.specs.Prelude.{Result, Err}
 use Rattle.math.specs.Tab.{tab}
 use Rattle.math.proofs.Test.{and_left, and_right}
 use Rattle.mpeg1_bits.specs.declared.Window.{Window}
 use Rattle.mpeg1_bits.specs.Bits.{bits_of, leading_number, bits_in}
 use Rattle.mpeg1_bits.proofs.Number.{Binary, none, more, bits-binary, bits-length, number-of-bits}
-use Rattle.mpeg1_bits.proofs.Rest.{window-take, window-length}
+use Rattle.mpeg1_bits.proofs.Rest.{window-take, window-length, window-drop}
 use Rattle.mpeg1_tables.specs.declared.code.Code.{Code}
-use Rattle.mpeg1_tables.specs.declared.code.Code.TheVariants.{Value, NoCode, Truncated}
-use Rattle.mpeg1_tables.specs.Code.{is_prefix, code_of}
+use Rattle.mpeg1_tables.specs.declared.code.CodeError.{CodeError}
+use Rattle.mpeg1_tables.specs.declared.code.CodeError.TheVariants.{NoCode, Truncated}
+use Rattle.mpeg1_tables.specs.Code.{is_prefix, found, code_of}
 use Rattle.mpeg1_tables.specs.AnnexB.{byte_words}
 use Rattle.mpeg1_tables.proofs.Laws.Prefix.{every_word, no_longer, code-take, code-tested}
 use Rattle.mpeg1_tables.proofs.Laws.Branch.{Branch, branch_of, branches, branches-code, grown, after, after-code}
 use Rattle.mpeg1_tables.proofs.Laws.Table.{Sized, sized, sized-value, sized-length}
-use Rattle.mpeg1_vlc.specs.Requires.{lowest_large}
-use Rattle.mpeg1_vlc.specs.LookUp.{is_one_of}
+use Rattle.mpeg1_vlc.specs.declared.coefficient.LargeLevels.{LargeLevels}
+use Rattle.mpeg1_vlc.specs.declared.coefficient.LargeLevels.TheVariants.{Negative, Positive}
+use Rattle.mpeg1_vlc.specs.Large.{lowest_of, added_to}
 use Rattle.mpeg1_vlc.proofs.Laws.Field.{front-small}
-use Rattle.mpeg1_vlc.proofs.Laws.Level.{All, none_of, more_of, one_of}
 use Rattle.mpeg1_vlc.proofs.Laws.Padding.{same_code, same_code_lem}
 
 -- v is the first bits of a byte, to which p bits are missing: no code if no such byte is in the range, truncated if a bit is missing
-unfoldable pub range_of : ℕ → ℕ → ℕ → Code
+unfoldable pub range_of : ℕ → ℕ → ℕ → Result Code CodeError
 range_of low p v =
-    cond (leb (v * 2 ^ p + 2 ^ p) low) NoCode
-    (cond (ltb (low + 127) (v * 2 ^ p)) NoCode
-    (cond (ltb 0 p) Truncated (Value (v * 2 ^ p) 8)))
+    cond (leb (v * 2 ^ p + 2 ^ p) low) (Err NoCode)
+    (cond (ltb (low + 127) (v * 2 ^ p)) (Err NoCode)
+    (cond (ltb 0 p) (Err Truncated) (found (v * 2 ^ p) 8)))
 
 unfoldable ranged : ℕ → ℕ → ℕ → List Branch → Bool
 ranged low zero v ts = same_code (branch_of ts []) (range_of low 0 v)
@@ -95,22 +97,26 @@ record Range (low : ℕ) : Type 0 where
   lengths : T (no_longer 8 (byte_words low 128))
   sizes : T (every_word sized (byte_words low 128))
 
-ranges : All Range lowest_large
+range_of_levels : (levels : LargeLevels) → Range (lowest_of levels)
 unfolding every_word byte_words tab bits_of
-ranges = more_of {k = 1} (record { small = omega arith; test = negative-ranged; lengths = tt; sizes = tt }) (more_of {k = 128} (record { small = omega arith; test = positive-ranged; lengths = tt; sizes = tt }) none_of)
+range_of_levels Negative = record { small = omega arith; test = negative-ranged; lengths = tt; sizes = tt }
+range_of_levels Positive = record { small = omega arith; test = positive-ranged; lengths = tt; sizes = tt }
 
-pub large-sized : (low : ℕ) (b : List ℕ) {v n : ℕ} → T (is_one_of low lowest_large) → code_of (byte_words low 128) b ≡ Value v n → Sized v n
-large-sized low b {v} {n} t e =
-    let s = code-tested sized (byte_words low 128) b v n (one_of low ranges t).sizes e in
+pub large-sized : (levels : LargeLevels) (b : List ℕ) {v n : ℕ} → code_of (byte_words (lowest_of levels) 128) b ≡ found v n → Sized v n
+large-sized levels b {v} {n} e =
+    let s = code-tested sized (byte_words (lowest_of levels) 128) b v n (range_of_levels levels).sizes e in
     record { value = sized-value v n s; long = sized-length v n s }
 
 -- the code of a large level's second eight bits, from those that the window has
-module _ (low : ℕ) (next : Window) (t : T (is_one_of low lowest_large)) (fits : next.bits < 4294967296) (most : next.count ≤ 32) where
+module _ (levels : LargeLevels) (next : Window) (fits : next.bits < 4294967296) (most : next.count ≤ 32) where
+  abbrev low : ℕ
+  low = lowest_of levels
+
   abbrev n : ℕ
   n = min 8 next.count
 
   range : Range low
-  range = one_of low ranges t
+  range = range_of_levels levels
 
   front : take 8 (bits_in next) ≡ bits_of n (next.bits / 2 ^ (32 - n))
   front = elim (dec_le 8 next.count) [
@@ -144,3 +150,16 @@ module _ (low : ℕ) (next : Window) (t : T (is_one_of low lowest_large)) (fits 
 
       powers : 2 ^ n * 2 ^ (8 - n) ≡ 256
       powers = sym (pow-add 2 n (8 - n)) ∙ ap (λ (m : ℕ). 2 ^ m) all
+
+  -- with the numbers that the code computes: how many of the eight bits the window has, what pads them, and the first number
+  pub large-padded : (lowest known padding : ℕ) → lowest ≡ low → known ≡ n → padding ≡ 2 ^ (8 - known) → code_of (byte_words low 128) (bits_in next) ≡ cond (leb (next.bits / 2 ^ (32 - known) * padding + padding) lowest) (Err NoCode) (cond (ltb (lowest + 127) (next.bits / 2 ^ (32 - known) * padding)) (Err NoCode) (cond (ltb 0 (8 - known)) (Err Truncated) (found (next.bits / 2 ^ (32 - known) * padding) 8)))
+  unfolding range_of
+  large-padded lowest known padding e f g = rw (g, f, e) large-range
+
+-- the answer of a read from a window without its first 20 bits
+pub large-after : (levels : LargeLevels) (next : Window) {answer : Result Code CodeError} → next.count ≤ 32 → 20 ≤ next.count → answer ≡ code_of (byte_words (lowest_of levels) 128) (bits_in (record { bits = next.bits % 4096 * 1048576; count = next.count - 20 })) → code_of (byte_words (lowest_of levels) 128) (drop 20 (bits_in next)) ≡ answer
+large-after levels next most h e = ap (code_of (byte_words (lowest_of levels) 128)) (sym (window-drop next 20 12 refl h most)) ∙ sym e
+
+pub less-added : (levels : LargeLevels) → added_to levels ≤ 256
+less-added Negative = omega arith
+less-added Positive = omega arith

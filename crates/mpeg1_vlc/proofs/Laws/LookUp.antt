@@ -3,15 +3,14 @@ use mathlib.Core.Path.{◌≡◌, ap, ◌∙◌, sym, subst}
 use Prim.Native.Nat.{ℕ, zero, suc, ◌+◌, ◌*◌, ◌-◌, ◌/◌, ◌^◌, ◌<◌, ◌≤◌}
 use native.Mathlib.Nat.{div-lt_iff_lt-mul, div-div-eq-div-mul, mul-le-mul_right}
 use native.Mathlib.Omega.{arith}
-use lib.ListN.{take, get_or}
+use lib.ListN.{take}
 use lib.Pow.{pow-add, pow_pos}
 use lib.Seq.{take_all}
 use Rattle.mpeg1_bits.specs.declared.Window.{Window}
 use Rattle.mpeg1_bits.specs.Bits.{bits_of, bits_in}
 use Rattle.mpeg1_bits.proofs.Rest.{window-take, window-length}
 use Rattle.mpeg1_tables.specs.Code.{code_of}
-use Rattle.mpeg1_tables.specs.Table.{table_row_at, unpacked_of, code_table}
-use Rattle.mpeg1_tables.proofs.Laws.Table.{code-entry}
+use Rattle.mpeg1_tables.specs.Table.{table_row_at}
 use Rattle.mpeg1_vlc.specs.Requires.{LookUpFits}
 use Rattle.mpeg1_vlc.specs.LookUp.{unpadded_of}
 use Rattle.mpeg1_vlc.proofs.Laws.Padding.{code-unpadded}
@@ -33,8 +32,8 @@ module _ (k zeros : ℕ) (next : Window) (f : LookUpFits k zeros next) where
       same : 32 - (zeros + 8) ≡ 24 - zeros
       same = omega (arith, f.few)
 
-  pub looked-up : zeros + 8 ≤ next.count → unpacked_of (get_or code_table (256 * k + next.bits / 2 ^ (24 - zeros)) 0) ≡ code_of (table_row_at k).words (take (zeros + 8) (bits_in next))
-  looked-up h = code-entry k (next.bits / 2 ^ (24 - zeros)) f.there f.low ∙ ap (code_of (table_row_at k).words) (sym (next-index h))
+  pub looked-up : zeros + 8 ≤ next.count → code_of (table_row_at k).words (bits_of ((table_row_at k).zeros + 8) (next.bits / 2 ^ (24 - zeros))) ≡ code_of (table_row_at k).words (take (zeros + 8) (bits_in next))
+  looked-up h = ap (code_of (table_row_at k).words) (sym (next-index h))
 
   -- fewer than eight bits: v is these bits, which leave room for p more
   module _ (h : next.count < zeros + 8) where
@@ -68,9 +67,9 @@ module _ (k zeros : ℕ) (next : Window) (f : LookUpFits k zeros next) where
     pub padded-below : next.bits / 2 ^ (32 - next.count) * 2 ^ (zeros + 8 - next.count) + (2 ^ (zeros + 8 - next.count) - 1) < 256
     padded-below = omega (arith, powers, pow_pos p, mul-le-mul_right (2 ^ p) small)
 
-    pub looked-up-at-end : unpadded_of next.count (unpacked_of (get_or code_table (256 * k + next.bits / 2 ^ (32 - next.count) * 2 ^ (zeros + 8 - next.count)) 0)) (unpacked_of (get_or code_table (256 * k + (next.bits / 2 ^ (32 - next.count) * 2 ^ (zeros + 8 - next.count) + (2 ^ (zeros + 8 - next.count) - 1))) 0)) ≡ code_of (table_row_at k).words (take (zeros + 8) (bits_in next))
+    pub looked-up-at-end : unpadded_of next.count (code_of (table_row_at k).words (bits_of ((table_row_at k).zeros + 8) (next.bits / 2 ^ (32 - next.count) * 2 ^ (zeros + 8 - next.count)))) (code_of (table_row_at k).words (bits_of ((table_row_at k).zeros + 8) (next.bits / 2 ^ (32 - next.count) * 2 ^ (zeros + 8 - next.count) + (2 ^ (zeros + 8 - next.count) - 1)))) ≡ code_of (table_row_at k).words (take (zeros + 8) (bits_in next))
     looked-up-at-end =
-        (λ i. unpadded_of (sym count i) (code-entry k (v * 2 ^ p) f.there (omega (arith, padded-below)) i) (code-entry k (v * 2 ^ p + (2 ^ p - 1)) f.there padded-below i))
+        ap (λ (m : ℕ). unpadded_of m (code_of (table_row_at k).words (bits_of ((table_row_at k).zeros + 8) (v * 2 ^ p))) (code_of (table_row_at k).words (bits_of ((table_row_at k).zeros + 8) (v * 2 ^ p + (2 ^ p - 1))))) (sym count)
         ∙ sym (code-unpadded k n p v f.there full (omega arith) small (rw (count, f.begins) f.enough))
         ∙ ap (code_of (table_row_at k).words) (ap (λ (m : ℕ). bits_of m v) count ∙ sym (window-take next next.count (omega arith) f.most) ∙ all ∙ sym (take_all (zeros + 8) (bits_in next) (omega (arith, h, window-length next f.most))))
       where

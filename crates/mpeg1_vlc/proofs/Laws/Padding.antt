@@ -11,12 +11,14 @@ use lib.Dec.{T, eqb, ltb}
 use lib.ListN.{length, take-append-drop}
 use lib.Pow.{pow-add, pow_pos}
 use borrow.Author.Tests.{eqb-true, le-ltb}
+use Rattle.std.specs.Prelude.{Result, Ok, Err}
 use Rattle.math.proofs.Test.{and_left, and_right}
 use Rattle.mpeg1_bits.specs.Bits.{bits_of}
 use Rattle.mpeg1_bits.proofs.Number.{Binary, none, more, bits-binary, bits-length, bits-take, bits-drop, bits-low}
 use Rattle.mpeg1_tables.specs.declared.code.Code.{Code}
-use Rattle.mpeg1_tables.specs.declared.code.Code.TheVariants.{Value, NoCode, Truncated}
-use Rattle.mpeg1_tables.specs.Code.{word, digits_of, is_prefix, code_of}
+use Rattle.mpeg1_tables.specs.declared.code.CodeError.{CodeError}
+use Rattle.mpeg1_tables.specs.declared.code.CodeError.TheVariants.{NoCode, Truncated}
+use Rattle.mpeg1_tables.specs.Code.{word, digits_of, is_prefix, found, code_of}
 use Rattle.mpeg1_tables.specs.AnnexB.{increment_words, increments, increments_after_escape, intra_types, predicted_types, bidirectional_types, patterns, motion_codes, luminance_sizes, chrominance_sizes, shared_words, next_coefficients}
 use Rattle.mpeg1_tables.specs.Table.{TableRow, table_row, table_rows, table_row_at}
 use Rattle.mpeg1_tables.proofs.Laws.Branch.{Branch, branch_of, branches, branches-code, grown, after, after-code, descended, descended-code, front-zero}
@@ -25,35 +27,31 @@ use Rattle.mpeg1_vlc.specs.Requires.{fewest_bits}
 use Rattle.mpeg1_vlc.specs.LookUp.{unpadded_of}
 
 -- whether two codes are equal
-unfoldable pub same_code : Code → Code → Bool
-same_code (Value v n) (Value w m) = eqb v w && eqb n m
-same_code (Value v n) NoCode = false
-same_code (Value v n) Truncated = false
-same_code NoCode (Value w m) = false
-same_code NoCode NoCode = true
-same_code NoCode Truncated = false
-same_code Truncated (Value w m) = false
-same_code Truncated NoCode = false
-same_code Truncated Truncated = true
+unfoldable pub same_code : Result Code CodeError → Result Code CodeError → Bool
+same_code (Ok c) (Ok d) = eqb c.value d.value && eqb c.length d.length
+same_code (Ok c) (Err e) = false
+same_code (Err e) (Ok d) = false
+same_code (Err NoCode) (Err NoCode) = true
+same_code (Err NoCode) (Err Truncated) = false
+same_code (Err Truncated) (Err NoCode) = false
+same_code (Err Truncated) (Err Truncated) = true
 
 truth : (b : Bool) → T b → b ≡ true
 truth true t = refl
 truth false t = absurd t
 
-pub same_code_lem : (c d : Code) → T (same_code c d) → c ≡ d
+pub same_code_lem : (c d : Result Code CodeError) → T (same_code c d) → c ≡ d
 unfolding same_code
-same_code_lem (Value v n) (Value w m) t = ap₂ Value (eqb-true v w (truth (eqb v w) (and_left (eqb v w) (eqb n m) t))) (eqb-true n m (truth (eqb n m) (and_right (eqb v w) (eqb n m) t)))
-same_code_lem (Value v n) NoCode t = absurd t
-same_code_lem (Value v n) Truncated t = absurd t
-same_code_lem NoCode (Value w m) t = absurd t
-same_code_lem NoCode NoCode t = refl
-same_code_lem NoCode Truncated t = absurd t
-same_code_lem Truncated (Value w m) t = absurd t
-same_code_lem Truncated NoCode t = absurd t
-same_code_lem Truncated Truncated t = refl
+same_code_lem (Ok c) (Ok d) t = ap₂ found (eqb-true c.value d.value (truth (eqb c.value d.value) (and_left (eqb c.value d.value) (eqb c.length d.length) t))) (eqb-true c.length d.length (truth (eqb c.length d.length) (and_right (eqb c.value d.value) (eqb c.length d.length) t)))
+same_code_lem (Ok c) (Err e) t = absurd t
+same_code_lem (Err e) (Ok d) t = absurd t
+same_code_lem (Err NoCode) (Err NoCode) t = refl
+same_code_lem (Err NoCode) (Err Truncated) t = absurd t
+same_code_lem (Err Truncated) (Err NoCode) t = absurd t
+same_code_lem (Err Truncated) (Err Truncated) t = refl
 
 -- ---- the code after n more bits that all are x
-unfoldable filled_with : ℕ → ℕ → List Branch → Code
+unfoldable filled_with : ℕ → ℕ → List Branch → Result Code CodeError
 filled_with x zero ts = branch_of ts []
 filled_with x (suc n) ts = filled_with x n (after x ts)
 
@@ -105,7 +103,7 @@ module _ (from all p : ℕ) (enough : from ≤ all - suc p) (c d : List ℕ) (ze
   unfolding decides_here
   decided-here ts t = rw (zeroed ts, filled ts) (same_code_lem (branch_of ts []) here (subst (λ (b : Bool). T (cond b true (same_code (branch_of ts []) here))) (le-ltb (all - suc p) from enough) t))
     where
-      here : Code
+      here : Result Code CodeError
       here = unpadded_of (all - suc p) (filled_with 0 (suc p) ts) (filled_with 1 (suc p) ts)
 
   decided-after : (x : ℕ) (b : List ℕ) (ts : List Branch) → branch_of (after x ts) b ≡ unpadded_of (all - suc p) (branch_of (after x ts) (b ++ c)) (branch_of (after x ts) (b ++ d)) → branch_of ts (x ∷ b) ≡ unpadded_of (all - suc p) (branch_of ts (x ∷ b ++ c)) (branch_of ts (x ∷ b ++ d))

@@ -22,17 +22,17 @@ returns-in_default-clause-text_after c =
 
 pub loop-position-smaller : goal.loop-position-smaller
 loop-position-smaller c =
-    let Found : Type 0 = PictureNext 0 c.args.reel.now c.loop-position.position c.loop-position.older c.loop-position.newer c.loop-position.output c.loop-position-test.true c.loop-position.invariant.1 c.in-Picture.played c.in-Picture.length c.in-Picture.after in
-    let found : Found = next-picture _ _ _ _ _ _ _ _ (sym c.play_next-next.ensures.value ∙ c.in-Picture.is) in
+    let Found : Type 0 = PictureNext 0 c.args.reel.now c.loop-position.position c.loop-position.older c.loop-position.newer c.loop-position.output c.loop-position-test.true c.loop-position.invariant.1 c.in-Some.picture.played c.in-Some.picture.length c.in-Some.picture.position in
+    let found : Found = next-picture _ _ _ _ _ _ _ _ (sym c.play_next-next.ensures.value ∙ c.in-Some.is) in
     omega (arith, found.moved, c.loop-position-test.true)
 
 pub loop-position-preserved : goal.loop-position-preserved
 loop-position-preserved c =
-    let Found : Type 0 = PictureNext 0 c.args.reel.now c.loop-position.position c.loop-position.older c.loop-position.newer c.loop-position.output c.loop-position-test.true c.loop-position.invariant.1 c.in-Picture.played c.in-Picture.length c.in-Picture.after in
-    let found : Found = next-picture _ _ _ _ _ _ _ _ (sym c.play_next-next.ensures.value ∙ c.in-Picture.is) in
+    let Found : Type 0 = PictureNext 0 c.args.reel.now c.loop-position.position c.loop-position.older c.loop-position.newer c.loop-position.output c.loop-position-test.true c.loop-position.invariant.1 c.in-Some.picture.played c.in-Some.picture.length c.in-Some.picture.position in
+    let found : Found = next-picture _ _ _ _ _ _ _ _ (sym c.play_next-next.ensures.value ∙ c.in-Some.is) in
     let one = found in
-    let line = rw (c.first.ensures, c.play_next-next.ensures.output_after) at c.put_picture-end.ensures in
-    let more = printed-more _ _ _ _ _ _ _ c.loop-position.invariant.0 c.loop-position.output c.loop-position-test.true c.loop-position.invariant.1 (sym c.play_next-next.ensures.value ∙ c.in-Picture.is) line.upper_bound (put line.value line.buffer_after) in
+    let line = rw (c.first-pels.ensures, c.play_next-next.ensures.output_after) at c.put_picture-end.ensures in
+    let more = printed-more _ _ _ _ _ _ _ c.loop-position.invariant.0 c.loop-position.output c.loop-position-test.true c.loop-position.invariant.1 (sym c.play_next-next.ensures.value ∙ c.in-Some.is) line.upper_bound (put line.value line.buffer_after) in
     rw (c.play_next-next.ensures.older_after, c.play_next-next.ensures.newer_after, c.play_next-next.ensures.output_after) (more, one.buffers, one.within, c.text-in-loop-position-1.given ∙ c.loop-position.invariant.3)
 
 pub returns-clause-text_after : goal.returns-clause-text_after

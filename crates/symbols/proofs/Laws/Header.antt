@@ -5,10 +5,10 @@ use Prim.Native.Nat.{ℕ}
 use native.Mathlib.Omega.{arith}
 use lib.Dec.{leb, eqb}
 use borrow.Author.Tests.{leb-true, eqb-true}
+use Rattle.std.specs.Prelude.{Result, Ok}
+use Rattle.refusals.specs.declared.Refusal.{Refusal}
 use Rattle.symbols.specs.declared.header.HeaderFields.{HeaderFields}
 use Rattle.symbols.specs.declared.header.Header.{Header}
-use Rattle.symbols.specs.declared.header.HeaderAnswer.{HeaderAnswer}
-use Rattle.symbols.specs.declared.header.HeaderAnswer.TheVariants.{Legal}
 use Rattle.symbols.specs.Header.{type_i, type_b, uses_forward, uses_backward, legal_coding, legal_codings, legal_header, vector_coding_of, header_value, header_with}
 use Rattle.symbols.specs.Requires.{CodingWithin, HeaderWithin}
 use Rattle.symbols.specs.Size.{legal_size}
@@ -39,11 +39,11 @@ value-within f e =
       backward = coding-within _ f.full_pel_backward f.backward_f_code backward.1;
     }
 
-pub record LegalHeaderWithin (a : HeaderAnswer) : Type 0 where
-  pub within : (h : Header) → a ≡ Legal h → HeaderWithin h
+pub record LegalHeaderWithin (a : Result Header Refusal) : Type 0 where
+  pub within : (h : Header) → a ≡ Ok h → HeaderWithin h
 
 pub made-within : (f : HeaderFields) → LegalHeaderWithin (header_with f)
 unfolding header_with
-made-within f = require-all LegalHeaderWithin (legal_header f) _ (Legal (header_value f))
+made-within f = require-all LegalHeaderWithin (legal_header f) _ (Ok (header_value f))
     (record { within = λ h e. absurd (let z : ◌≡◌ {A = ℕ} 0 1 = cc in omega arith) })
     (λ legal. record { within = λ h e. let p : ◌≡◌ {A = Header} (header_value f) h = cc in subst HeaderWithin p (value-within f legal) })

@@ -8,7 +8,7 @@ use lib.Dec.{leb}
 use borrow.Author.Tests.{leb-true}
 use Rattle.symbols.specs.Guard.{require◌else◌then◌}
 use Rattle.symbols.specs.declared.size.PictureSize.{PictureSize}
-use Rattle.symbols.specs.declared.size.NewSize.TheVariants.{Fits, Beyond}
+use Rattle.std.specs.Prelude.{Some, None, is_some}
 use Rattle.symbols.specs.Size.{max_width, max_height, max_macroblocks, legal_size, size_of, within_limit, size_within, macroblock_count, picture_bytes, column_of_address, row_of_address}
 use Rattle.symbols.specs.Requires.{SizeWithin}
 use Rattle.symbols.proofs.Guard.{both}
@@ -30,31 +30,39 @@ pub legal-within : (w h : ℕ) → legal_size w h ≡ true → SizeWithin max_ma
 legal-within w h e = let legal = size-legal w h e in record { wide = legal.0; high = legal.2; few = legal.4 }
 
 -- ---- what a constructor's answer implies
-fits-if : (test : Bool) (made s : PictureSize) → (require test else Beyond then Fits made) ≡ Fits s → (test ≡ true) × (s ≡ made)
+some-if : (test : Bool) (made s : PictureSize) → (require test else None then Some made) ≡ Some s → (test ≡ true) × (s ≡ made)
 unfolding require◌else◌then◌
-fits-if true made s e = (refl, cc)
-fits-if false made s e = absurd (let z : ◌≡◌ {A = ℕ} 0 1 = cc in omega arith)
+some-if true made s e = (refl, cc)
+some-if false made s e = absurd (let z : ◌≡◌ {A = ℕ} 0 1 = cc in omega arith)
 
-beyond-if : (test : Bool) (made : PictureSize) → (require test else Beyond then Fits made) ≡ Beyond → test ≡ false
+none-if : (test : Bool) (made : PictureSize) → (require test else None then Some made) ≡ None → test ≡ false
 unfolding require◌else◌then◌
-beyond-if true made e = absurd (let z : ◌≡◌ {A = ℕ} 0 1 = cc in omega arith)
-beyond-if false made e = refl
+none-if true made e = absurd (let z : ◌≡◌ {A = ℕ} 0 1 = cc in omega arith)
+none-if false made e = refl
 
-pub made : (w h : ℕ) (s : PictureSize) → size_of w h ≡ Fits s → (legal_size w h ≡ true) × (s ≡ record { width = w; height = h })
+pub made : (w h : ℕ) (s : PictureSize) → size_of w h ≡ Some s → (legal_size w h ≡ true) × (s ≡ record { width = w; height = h })
 unfolding size_of
-made w h s e = fits-if (legal_size w h) (record { width = w; height = h }) s e
+made w h s e = some-if (legal_size w h) (record { width = w; height = h }) s e
 
-pub not_made : (w h : ℕ) → size_of w h ≡ Beyond → legal_size w h ≡ false
+pub not_made : (w h : ℕ) → size_of w h ≡ None → legal_size w h ≡ false
 unfolding size_of
-not_made w h e = beyond-if (legal_size w h) (record { width = w; height = h }) e
+not_made w h e = none-if (legal_size w h) (record { width = w; height = h }) e
 
-pub kept-within : (limit : ℕ) (t s : PictureSize) → size_within limit t ≡ Fits s → (within_limit limit t ≡ true) × (s ≡ t)
+pub kept-within : (limit : ℕ) (t s : PictureSize) → size_within limit t ≡ Some s → (within_limit limit t ≡ true) × (s ≡ t)
 unfolding size_within
-kept-within limit t s e = fits-if (within_limit limit t) t s e
+kept-within limit t s e = some-if (within_limit limit t) t s e
 
-pub not_within : (limit : ℕ) (t : PictureSize) → size_within limit t ≡ Beyond → within_limit limit t ≡ false
+pub not_within : (limit : ℕ) (t : PictureSize) → size_within limit t ≡ None → within_limit limit t ≡ false
 unfolding size_within
-not_within limit t e = beyond-if (within_limit limit t) t e
+not_within limit t e = none-if (within_limit limit t) t e
+
+pub within_some : (limit : ℕ) (t : PictureSize) → is_some (size_within limit t) ≡ within_limit limit t
+unfolding size_within require◌else◌then◌
+within_some limit t = go (within_limit limit t)
+  where
+    go : (test : Bool) → is_some {T = PictureSize} (require test else None then Some t) ≡ test
+    go true = refl
+    go false = refl
 
 -- a size is within any limit that its count is within, and so within a larger one
 pub few-within : {a b : ℕ} {s : PictureSize} → SizeWithin a s → macroblock_count s ≤ b → SizeWithin b s

@@ -20,7 +20,7 @@ pub put_bytes-requires : goal.put_bytes-requires
 put_bytes-requires c =
     let digits_are : take c.decimal-length.result c.decimal-length.new.out ≡ decimal c.args.number = c.decimal-length.ensures.digits ∙ ap (λ (k : ℕ). last_digits 10 k c.args.number) (fewest c.args.number c.decimal-length.result c.decimal-length.ensures.len) in
     let digits-fit : c.args.at + length (take c.decimal-length.result c.decimal-length.new.out) + 1 ≤ length c.args.text.now = omega (arith, c.requires, ap length digits_are, field-length (pos c.args.number) c.args.after) in
-    omega (arith, digits-fit, c.put_bytes-end.ensures.value, c.text-1.given)
+    omega (arith, digits-fit, c.put_bytes-end.ensures.value)
 
 pub returns-clause-value : goal.returns-clause-value
 returns-clause-value c =

@@ -1,22 +1,14 @@
--- `store_block` meets its contract: before coefficient k, the first k are stored. Assumes nothing.
-use mathlib.Core.Path.{refl, sym, ap, ◌∙◌}
-use Prim.Native.Nat.{◌+◌, ◌*◌}
+-- `store_block` meets its contract: a part of the array overwritten is as many stores. Assumes nothing.
+use Prim.Native.Nat.{◌+◌, ◌-◌, ◌*◌}
+use mathlib.Core.Path.{◌≡◌}
 use native.Mathlib.Omega.{arith}
-use lib.IntN.{ℤ}
-use lib.ListN.{set}
-use mir.Syntax.{w16}
-use Rattle.math.specs.Bound.{at}
-use Rattle.math.proofs.Machine.{returned}
-use Rattle.math.proofs.Scatter.{scatter-none, scatter-next}
+use lib.IntN.{pos}
+use Rattle.math.proofs.Scatter.{part-stored}
+use Rattle.decode_coefficients.specs.BlockArray.{put_block}
 use Rattle.decode_coefficients.proofs.block.store_block.Goals as goal
 
-pub loop-k-init : goal.loop-k-init
-loop-k-init c = (omega arith, sym (scatter-none _ _ _))
-
-pub loop-k-preserved : goal.loop-k-preserved
-loop-k-preserved c =
-    let a = c.args in (
-      omega arith,
-      ap (λ (z : ℤ). set c.loop-k.coefficients (64 * a.block + c.loop-k.k) z) (returned w16 c.coefficients-1.given refl)
-          ∙ scatter-next (λ j. 64 * a.block + j) (λ j. at a.values j) c.loop-k.k (c.loop-k.k + 1) a.coefficients.now c.loop-k.coefficients c.loop-k.invariant.1 (omega arith),
-    )
+pub returns : goal.returns
+unfolding put_block
+returns c =
+    let start : 64 * c.args.block + 64 - 64 * c.args.block ≡ 64 = omega arith in
+    rw (c.copy_from_slice.ensures.after, start) (part-stored (pos 0) (64 * c.args.block) 64 c.args.coefficients.now c.args.values (omega arith) (omega arith))

@@ -1,7 +1,6 @@
 -- `store_level` meets its contract: it sets one coefficient. Assumes nothing.
 use Prim.Native.Nat.{◌<◌, suc-le-suc}
 use native.Mathlib.Omega.{arith}
-use borrow.Author.Rules.{rules}
 use lib.ListN.{get_or}
 use Rattle.tables.proofs.Zigzag.{raster-below}
 use Rattle.decode_coefficients.proofs.block.store_level.Goals as goal
@@ -20,6 +19,3 @@ pub with_coefficient-requires : goal.with_coefficient-requires
 with_coefficient-requires c =
     let below : get_or c.args.order.now c.args.position 0 < 64 = rw c.requires.3 (raster-below c.args.position (suc-le-suc c.requires.0)) in
     below
-
-pub returns-clause-block_after : goal.returns-clause-block_after
-returns-clause-block_after c = search rules

@@ -5,4 +5,4 @@ use Rattle.decode_macroblock.proofs.location.read.Goals as goal
 
 pub returns : goal.returns
 returns c =
-    c.copy_block.ensures ∙ read_is c.args.location c.args.picture.now c.requires
+    c.copy_pels.ensures ∙ read_is c.args.location c.args.picture.now c.requires

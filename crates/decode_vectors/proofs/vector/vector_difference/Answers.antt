@@ -1,32 +1,37 @@
--- `vector::vector_difference` meets its contract: `difference_size` gets the absolute value of the code, and the result its sign. Assumes nothing.
-use mathlib.Core.Path.{◌∙◌}
-use lib.IntN.{ℤ, pos, ◌+ℤ◌, ◌-ℤ◌, ◌*ℤ◌}
+-- `vector::vector_difference` meets its contract: the size of the difference gets the sign of the code, and no step overflows. Assumes nothing.
+use mathlib.Core.Path.{ap, ◌∙◌}
+use lib.IntN.{ℤ, pos, nat_abs, ◌+ℤ◌, ◌-ℤ◌, ◌*ℤ◌}
 use mir.Syntax.{w32}
-use Rattle.math.proofs.Machine.{Held, parameter, literal, result, kept, tested, ◌⊞◌, ◌⊟◌, ◌⊠◌}
-use Rattle.decode_vectors.proofs.VectorLaws.{difference_below, difference-above, difference-none}
+use Rattle.math.specs.Limit.{sign_of}
+use Rattle.math.proofs.Limit.{sign-within, signum-is}
+use Rattle.math.proofs.Machine.{Held, parameter, literal, result, fits, kept, ◌⊞◌, ◌⊟◌, ◌⊠◌}
+use Rattle.decode_vectors.specs.Vector.{vector_difference_of}
 use Rattle.decode_vectors.proofs.vector.vector_difference.Goals as goal
 
-pub returns-then-code-lt0 : goal.returns-then-code-lt0
-returns-then-code-lt0 c =
-    let code : Held c.args.code = parameter c.ranges.code c.requires.1 in
-    let negated : Held (pos 0 -ℤ c.args.code) = literal (pos 0) ⊟ code in
-    let f : Held c.args.f = parameter c.ranges.f c.requires.0 in
-    let residual : Held c.args.residual = parameter c.ranges.residual c.requires.2 in
-    let steps : (size : ℤ) → Held size → Held ((size -ℤ pos 1) *ℤ c.args.f +ℤ c.args.residual +ℤ pos 1) = λ _ size. (size ⊟ literal (pos 1)) ⊠ f ⊞ residual ⊞ literal (pos 1) in
-    let below : let a = c.args in Held (pos 0 -ℤ ((pos 0 -ℤ a.code -ℤ pos 1) *ℤ a.f +ℤ a.residual +ℤ pos 1)) = let p = steps _ (kept w32 negated tt) in literal (pos 0) ⊟ result w32 (c.difference_size.ensures ∙ p.is) p.size tt in
-    (kept w32 below tt).is ∙ difference_below c.args.f c.args.code c.args.residual (tested code (literal (pos 0)) c.if-code-lt0.true)
+abbrev code-size : (c : goal.After-abs) → Held (pos (nat_abs c.args.code))
+code-size c = result w32 (c.abs.ensures.value ∙ ap (λ (z : ℤ). pos (nat_abs z)) (parameter c.ranges.code c.requires.1).is) (record { within = c.requires.1.within }) tt
 
-pub returns-then-code-gt0 : goal.returns-then-code-gt0
-returns-then-code-gt0 c =
-    let code : Held c.args.code = parameter c.ranges.code c.requires.1 in
-    let f : Held c.args.f = parameter c.ranges.f c.requires.0 in
-    let residual : Held c.args.residual = parameter c.ranges.residual c.requires.2 in
-    let steps : (size : ℤ) → Held size → Held ((size -ℤ pos 1) *ℤ c.args.f +ℤ c.args.residual +ℤ pos 1) = λ _ size. (size ⊟ literal (pos 1)) ⊠ f ⊞ residual ⊞ literal (pos 1) in
-    let e = c.difference_size-then-code-gt0.ensures ∙ (steps _ code).is in
-    (result w32 e (steps _ code).size tt).is
-    ∙ difference-above c.args.f c.args.code c.args.residual (tested code (literal (pos 0)) c.if-code-lt0.false) (tested (literal (pos 0)) code c.if-code-gt0.true)
+abbrev scaled : (c : goal.After-abs) → Held ((pos (nat_abs c.args.code) -ℤ pos 1) *ℤ c.args.f)
+scaled c = kept w32 (code-size c ⊟ literal (pos 1)) tt ⊠ parameter c.ranges.f c.requires.0
+
+abbrev with-residual : (c : goal.After-abs) → Held ((pos (nat_abs c.args.code) -ℤ pos 1) *ℤ c.args.f +ℤ c.args.residual)
+with-residual c = kept w32 (scaled c) tt ⊞ parameter c.ranges.residual c.requires.2
+
+abbrev size : (c : goal.After-abs) → Held ((pos (nat_abs c.args.code) -ℤ pos 1) *ℤ c.args.f +ℤ c.args.residual +ℤ pos 1)
+size c = kept w32 (with-residual c) tt ⊞ literal (pos 1)
+
+abbrev difference : (c : goal.After-abs) → Held (sign_of c.args.code *ℤ ((pos (nat_abs c.args.code) -ℤ pos 1) *ℤ c.args.f +ℤ c.args.residual +ℤ pos 1))
+difference c = result w32 (c.signum.ensures.value ∙ signum-is _ ∙ ap sign_of (parameter c.ranges.code c.requires.1).is) (sign-within c.args.code) tt ⊠ kept w32 (size c) tt
+
+pub overflow_add-result : goal.overflow_add-result
+overflow_add-result c = fits (with-residual c) tt
+
+pub overflow_add-result-2 : goal.overflow_add-result-2
+overflow_add-result-2 c = fits (size c) tt
+
+pub overflow_mul-result-2 : goal.overflow_mul-result-2
+overflow_mul-result-2 c = fits (difference c) tt
 
 pub returns : goal.returns
-returns c =
-    let code : Held c.args.code = parameter c.ranges.code c.requires.1 in
-    difference-none c.args.f c.args.code c.args.residual (tested code (literal (pos 0)) c.if-code-lt0.false) (tested (literal (pos 0)) code c.if-code-gt0.false)
+unfolding vector_difference_of
+returns c = (kept w32 (difference c) tt).is

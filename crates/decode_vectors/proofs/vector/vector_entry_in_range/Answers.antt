@@ -1,14 +1,12 @@
--- `vector::vector_entry_in_range` meets its contract: it makes the same tests as the definition, in the same order. Assumes nothing.
-use mathlib.Core.Path.{◌≡◌, sym, ◌∙◌}
-use borrow.Author.Tests.{not-false}
-use mir.Syntax.{w32}
-use mir.ValLaws.{to_z-of_z}
-use Rattle.decode_vectors.specs.Vector.{f_code_and_past_in_range}
+-- `vector::vector_entry_in_range` meets its contract: the first test bounds the f_code. Assumes nothing.
+use mathlib.Core.Path.{sym, ◌∙◌}
+use Rattle.math.proofs.Test.{clash}
 use Rattle.decode_vectors.proofs.VectorLaws.{f-code-and-past-known}
 use Rattle.decode_vectors.proofs.vector.vector_entry_in_range.Goals as goal
+use Rattle.decode_vectors.proofs.vector.vector_entry_in_range.Goals.{then-f_code_and_past_in_range, else-f_code_and_past_in_range}
 
-pub f_of_code-f-requires : goal.f_of_code-f-requires
-f_of_code-f-requires c =
-    let past_is : let a = c.args in f_code_and_past_in_range a.f_code a.past ≡ c.f_code_and_past_in_range.result = sym (c.f_code_and_past_in_range.ensures ∙ (λ i. f_code_and_past_in_range c.args.f_code (to_z-of_z w32 c.args.past c.ranges.past i))) in
-    let known = f-code-and-past-known _ _ (past_is ∙ not-false _ c.if-not-f_code_and_past_in_range.false-raw) in
-    (known.least, known.most)
+pub f_of_code-requires : goal.f_of_code-requires
+f_of_code-requires c = elim c.if-f_code_and_past_in_range.branch [
+  | then-f_code_and_past_in_range w ↦ let known = f-code-and-past-known _ _ (sym c.f_code_and_past_in_range.ensures ∙ w.if-f_code_and_past_in_range.true) in (known.least, known.most)
+  | else-f_code_and_past_in_range w ↦ clash c.if-code_in_range.true (w.value-is ∙ w.if-f_code_and_past_in_range.false)
+]

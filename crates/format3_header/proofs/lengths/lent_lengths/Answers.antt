@@ -25,10 +25,3 @@ returns-then-backward-reference_length c =
     let output : let a = c.args in eqb a.output (picture_bytes a.header.size) ≡ true = rw (← c.bytes.ensures) (eq-eqb _ _ c.if-output-bytes.false) in
     let forward : let a = c.args in eqb a.forward (reference_length (uses_forward a.header.coding_type) a.header.size) ≡ true = rw (← c.uses_forward.ensures, ← c.reference_length.ensures) (eq-eqb _ _ c.if-forward-reference_length.false) in
     rw (output, forward, ← c.uses_backward.ensures, ← c.reference_length-2.ensures, ne_eqb _ _ c.if-backward-reference_length.true)
-
-pub returns : goal.returns
-unfolding lent_lengths require◌else◌then◌
-returns c =
-    let output : let a = c.args in eqb a.output (picture_bytes a.header.size) ≡ true = rw (← c.bytes.ensures) (eq-eqb _ _ c.if-output-bytes.false) in
-    let forward : let a = c.args in eqb a.forward (reference_length (uses_forward a.header.coding_type) a.header.size) ≡ true = rw (← c.uses_forward.ensures, ← c.reference_length.ensures) (eq-eqb _ _ c.if-forward-reference_length.false) in
-    rw (output, forward, ← c.uses_backward.ensures, ← c.reference_length-2.ensures, eq-eqb _ _ c.if-backward-reference_length.false)

@@ -3,8 +3,5 @@
 use Rattle.format3_macroblock.proofs.Laws.Landing.{BetweenPairs}
 use Rattle.format3_macroblock.proofs.pairs.read_pairs.Given as goal
 
-abbrev pub invariant-loop-left : goal.invariant-loop-left
-invariant-loop-left l = BetweenPairs l.coding l.matrix l.count l.rest l.initial.block l.block l.marks l.left l.next l.at
-
-abbrev pub decreases-loop-left : goal.decreases-loop-left
-decreases-loop-left l = l.left
+abbrev pub invariant-loop : goal.invariant-loop
+invariant-loop l = BetweenPairs l.coding.scaling l.coding.matrix.now l.count l.rest l.initial.block l.block l.marks l.counter l.next l.at

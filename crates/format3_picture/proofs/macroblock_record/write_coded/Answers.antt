@@ -1,24 +1,30 @@
 -- `macroblock_record::write_coded` meets its contract: if all fit, it writes the skipped macroblocks, then its own. Assumes nothing.
-use mathlib.Core.Path.{sym, ◌∙◌}
+use mathlib.Core.Path.{◌≡◌, sym, ap, ◌∙◌}
+use Rattle.std.proofs.Common.{rules}
+use Rattle.std.specs.Prelude.{Err}
 use Rattle.decode_coefficients.specs.BlockArray.{six_blocks}
 use Rattle.decode_idct.specs.Transform.{inverse_transform}
 use Rattle.decode_macroblock.specs.Compensation.{references}
 use Rattle.decode_macroblock.proofs.BlocksLaws.{macroblocks-none}
 use Rattle.decode_macroblock.proofs.RowLaws.{macroblock-rows-most}
+use Rattle.format3_picture.specs.MacroblockRecord.{fit_verdict}
 use Rattle.format3_picture.proofs.WriteLaws.{all_fit, each_fits, misfit, plan-rows, made, own-last}
 use Rattle.format3_picture.proofs.macroblock_record.write_coded.Goals as goal
 
-pub returns-in_default-clause-value : goal.returns-in_default-clause-value
-returns-in_default-clause-value c = let e = misfit c.args.picture c.args.plan (six_blocks c.args.coefficients.now) (sym c.requires.1 ∙ c.in_default.is) in
-    rw (e, c.in_default.is)
+pub returns-in_err-fit_verdict-clause-value : goal.returns-in_err-fit_verdict-clause-value
+returns-in_err-fit_verdict-clause-value c =
+    let answer : c.from_residual.result ≡ Err c.in_err-fit_verdict.field-0.0 = search rules in
+    let e = misfit c.args.picture c.args.plan (six_blocks c.args.coefficients.now) (sym (c.in_err-fit_verdict.ensures ∙ ap fit_verdict c.record_fit.ensures)) in
+    rw (answer, e)
 
-pub returns-in_default-clause-output_after : goal.returns-in_default-clause-output_after
-returns-in_default-clause-output_after c = let e = misfit c.args.picture c.args.plan (six_blocks c.args.coefficients.now) (sym c.requires.1 ∙ c.in_default.is) in
+pub returns-in_err-fit_verdict-clause-output_after : goal.returns-in_err-fit_verdict-clause-output_after
+returns-in_err-fit_verdict-clause-output_after c =
+    let e = misfit c.args.picture c.args.plan (six_blocks c.args.coefficients.now) (sym (c.in_err-fit_verdict.ensures ∙ ap fit_verdict c.record_fit.ensures)) in
     rw e (macroblocks-none _ _ _ _)
 
 pub write_macroblock-rows-requires : goal.write_macroblock-rows-requires
 write_macroblock-rows-requires c =
-    let fit = all_fit _ c.args.plan (sym c.requires.1 ∙ c.in-Passed.is) in (
+    let fit = all_fit _ c.args.plan (sym (c.in_ok-fit_verdict.ensures ∙ ap fit_verdict c.record_fit.ensures)) in (
       record {
         size = c.requires.0.planned.within;
         inside = c.requires.0.planned.inside;
@@ -26,21 +32,22 @@ write_macroblock-rows-requires c =
         fits = (each_fits _ _ fit).1;
         lent = record { forward-whole = c.requires.0.lent.own-lent.forward-whole; backward-whole = c.requires.0.lent.own-lent.backward-whole; output-whole = c.write_skipped.auto.output ∙ c.requires.0.lent.own-lent.output-whole };
       },
-      c.requires.2,
+      c.requires.1,
     )
 
-pub state_after-state-requires : goal.state_after-state-requires
-state_after-state-requires c =
+pub state_after-requires : goal.state_after-requires
+state_after-requires c =
     (c.requires.0.follows, rw c.write_macroblock-rows.ensures.value (macroblock-rows-most c.args.plan.pattern (six_blocks c.args.coefficients.now)))
 
 pub returns-clause-value : goal.returns-clause-value
-returns-clause-value c = let r = references c.args.forward.now c.args.backward.now in
+returns-clause-value c =
     let coefficients = six_blocks c.args.coefficients.now in
-    let e = made c.args.picture c.args.plan coefficients (sym c.requires.1 ∙ c.in-Passed.is) in
-    rw (e, c.state_after-state.ensures, c.in-Passed.is, c.write_macroblock-rows.ensures.value, plan-rows c.args.plan coefficients)
+    let e = made c.args.picture c.args.plan coefficients (sym (c.in_ok-fit_verdict.ensures ∙ ap fit_verdict c.record_fit.ensures)) in
+    rw (e, c.state_after.ensures, c.write_macroblock-rows.ensures.value, plan-rows c.args.plan coefficients)
 
 pub returns-clause-output_after : goal.returns-clause-output_after
-returns-clause-output_after c = let r = references c.args.forward.now c.args.backward.now in
+returns-clause-output_after c =
+    let r = references c.args.forward.now c.args.backward.now in
     let coefficients = six_blocks c.args.coefficients.now in
-    let e = made c.args.picture c.args.plan coefficients (sym c.requires.1 ∙ c.in-Passed.is) in
+    let e = made c.args.picture c.args.plan coefficients (sym (c.in_ok-fit_verdict.ensures ∙ ap fit_verdict c.record_fit.ensures)) in
     rw e (c.write_macroblock-rows.ensures.output_after ∙ rw c.write_skipped.ensures (own-last c.args.picture c.args.plan inverse_transform r coefficients c.args.output.now))

@@ -7,10 +7,10 @@ use Rattle.format3_records.proofs.record.shown_body.Goals as goal
 
 pub overflow_add-result : goal.overflow_add-result
 overflow_add-result c =
-    let within : c.in-Found.start + c.in-Found.length ≤ length c.args.file.now = let a = c.args in rw (← c.record_at.ensures, c.in-Found.is) at (inside a.file.now a.offset).fits in
+    let within : c.in-Ok.record.start + c.in-Ok.record.length ≤ length c.args.file.now = let a = c.args in rw (← c.record_at.ensures, c.in-Ok.is) at (inside a.file.now a.offset).fits in
     omega (arith, within)
 
 pub slice_bounds-result-end : goal.slice_bounds-result-end
 slice_bounds-result-end c =
-    let within : c.in-Found.start + c.in-Found.length ≤ length c.args.file.now = let a = c.args in rw (← c.record_at.ensures, c.in-Found.is) at (inside a.file.now a.offset).fits in
+    let within : c.in-Ok.record.start + c.in-Ok.record.length ≤ length c.args.file.now = let a = c.args in rw (← c.record_at.ensures, c.in-Ok.is) at (inside a.file.now a.offset).fits in
     within

@@ -1,20 +1,13 @@
--- `fields::write_bytes` meets its contract: in each round, writing the remaining bytes gives the final buffer. Assumes nothing.
-use mathlib.Core.Path.{sym, ◌∙◌}
+-- `fields::write_bytes` meets its contract: it copies as many bytes as the buffer still holds. Assumes nothing.
+use mathlib.Core.List.{append_assoc}
+use mathlib.Core.Path.{sym}
+use native.Mathlib.Nat.{add-sub_cancel_left}
 use native.Mathlib.Omega.{arith}
-use lib.ListN.{length-set}
-use Rattle.format3_writer.proofs.Laws.Written.{written-past, written-none-left, written-one-more}
+use lib.Seq.{drop-drop}
+use Rattle.format3_writer.proofs.Laws.Written.{written-fitting}
 use Rattle.format3_writer.proofs.fields.write_bytes.Goals as goal
 
-pub returns-then-buffer-at : goal.returns-then-buffer-at
-returns-then-buffer-at c = sym (written-past _ _ _ c.if-buffer-at.true)
-
-pub returns-then-room-k : goal.returns-then-room-k
-returns-then-room-k c = sym (written-past _ _ _ (omega arith)) ∙ c.loop-k.invariant.2
-
-pub loop-k-preserved : goal.loop-k-preserved
-loop-k-preserved c =
-    let at-loop = c.loop-k in
-    (omega arith, simp length-set at-loop.invariant.1, sym (written-one-more _ _ _ _ (omega arith)) ∙ at-loop.invariant.2)
-
 pub returns : goal.returns
-returns c = sym (written-none-left _ _ _ _ (omega arith)) ∙ c.loop-k.invariant.2
+returns c =
+    rw (add-sub_cancel_left, c.copy_from_slice.ensures.after, drop-drop, ← append_assoc)
+    (sym (written-fitting c.args.at c.min-fitting.result c.args.bytes.now c.args.buffer.now (omega arith) c.min-fitting.ensures))

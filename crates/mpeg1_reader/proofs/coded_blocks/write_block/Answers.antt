@@ -1,86 +1,53 @@
 -- `write_block` meets its contract: it writes the pairs after the difference. Assumes nothing.
 use mathlib.Core.List.{List}
 use mathlib.Core.Path.{refl}
-use Prim.Native.Nat.{ℕ, ◌≤◌}
+use Prim.Native.Nat.{ℕ}
 use native.Mathlib.Omega.{arith}
 use lib.IntN.{ℤ}
 use Rattle.symbols.specs.declared.pair.Pair.{Pair}
 use Rattle.symbols.specs.Block.{Block, coded}
-use Rattle.symbols.proofs.Parsed.{all-at, all_none}
-use Rattle.format3_writer.specs.Records.{levels_bytes, difference_bytes, block_bytes}
-use Rattle.format3_writer.proofs.Laws.Lengths.{levels-length}
-use Rattle.mpeg1_bits.specs.Requires.{InBytes}
+use Rattle.symbols.proofs.Parsed.{none}
+use Rattle.format3_writer.specs.Records.{difference_bytes, levels_bytes, block_bytes}
 use Rattle.mpeg1_bits.specs.declared.BitPosition.{BitPosition}
 use Rattle.mpeg1_slice.specs.Read.{Read}
 use Rattle.mpeg1_slice.specs.Blocks.{given_difference_at, pairs_at, block_at}
 use Rattle.mpeg1_slice.proofs.Laws.Read.{standing}
 use Rattle.mpeg1_slice.proofs.Laws.Onward.{given-difference-onward}
-use Rattle.mpeg1_reader.proofs.Laws.Writing.{Part, part-done, part-refused, first-refused, second-refused, both-written}
-use Rattle.mpeg1_reader.proofs.Laws.Lengths.{difference-short}
-use Rattle.mpeg1_reader.proofs.Laws.Few.{pairs-few}
+use Rattle.mpeg1_reader.proofs.Laws.Writing.{part-done, part-refused, ends-inside, both-written}
+use Rattle.mpeg1_reader.proofs.Laws.Lengths.{difference-size}
+use Rattle.mpeg1_reader.proofs.Laws.Few.{pairs-size}
 use Rattle.mpeg1_reader.proofs.coded_blocks.write_block.Goals as goal
 
 abbrev join : ℤ → List Pair → Block
-join = coded
+join difference pairs = coded difference pairs
 
-pub overflow_add-offset : goal.overflow_add-offset
-overflow_add-offset c =
-    let dc : ℤ → List ℕ = difference_bytes c.args.intra in
-    let difference : Read ℤ = given_difference_at c.args.intra c.args.block c.args.bytes.now c.args.at in
-    let front : Part dc difference c.in-Done.next c.in-Done.first = part-done dc difference c.write_difference.ensures.value c.in-Done.is in
-    let few : c.in-Done.first ≤ 2 = omega (arith, front.size, difference-short c.args.intra front.value) in
-    omega (arith, few, c.requires.2)
+pub overflow_add-pairs_offset : goal.overflow_add-pairs_offset
+overflow_add-pairs_offset c = omega (arith, difference-size _ _ c.in_ok-first.ensures.value, c.requires.1)
 
 pub write_pairs-requires : goal.write_pairs-requires
 write_pairs-requires c =
-    let dc : ℤ → List ℕ = difference_bytes c.args.intra in
-    let difference : Read ℤ = given_difference_at c.args.intra c.args.block c.args.bytes.now c.args.at in
-    let front : Part dc difference c.in-Done.next c.in-Done.first = part-done dc difference c.write_difference.ensures.value c.in-Done.is in
-    let few : c.in-Done.first ≤ 2 = omega (arith, front.size, difference-short c.args.intra front.value) in
-    let inside : InBytes c.args.bytes.now c.in-Done.next = (all-at (given-difference-onward c.args.bytes.now c.args.intra c.args.block (standing c.requires.1)) front.is).inside in
-    (c.requires.0, inside, omega (arith, few, c.requires.2))
+    let inside = ends-inside _ _ (given-difference-onward _ _ _ (standing c.requires.0)) c.in_ok-first.ensures.value in
+    (inside, omega (arith, difference-size _ _ c.in_ok-first.ensures.value, c.requires.1))
 
-pub overflow_add-both : goal.overflow_add-both
-overflow_add-both c =
-    let dc : ℤ → List ℕ = difference_bytes c.args.intra in
-    let difference : Read ℤ = given_difference_at c.args.intra c.args.block c.args.bytes.now c.args.at in
-    let front : Part dc difference c.in-Done.next c.in-Done.first = part-done dc difference c.write_difference.ensures.value c.in-Done.is in
-    let few : c.in-Done.first ≤ 2 = omega (arith, front.size, difference-short c.args.intra front.value) in
-    let pairs : ℤ → BitPosition → Read (List Pair) = λ d p. pairs_at c.args.intra c.args.bytes.now p in
-    let back : Part levels_bytes (pairs front.value c.in-Done.next) c.in-Done-write_pairs.end c.in-Done-write_pairs.second = part-done levels_bytes (pairs front.value c.in-Done.next) c.write_pairs.ensures.value c.in-Done-write_pairs.is in
-    omega (arith, few, back.size, levels-length back.value, all-at (pairs-few c.args.intra c.args.bytes.now c.in-Done.next) back.is)
+pub overflow_add-result : goal.overflow_add-result
+overflow_add-result c = omega (arith, difference-size _ _ c.in_ok-first.ensures.value, pairs-size _ _ _ c.in_ok-second.ensures.value)
 
-pub returns-in-Refused-clause-written_at : goal.returns-in-Refused-clause-written_at
+pub returns-in_err-first-clause-written_at : goal.returns-in_err-first-clause-written_at
 unfolding block_at
-returns-in-Refused-clause-written_at c =
-    let dc : ℤ → List ℕ = difference_bytes c.args.intra in
-    let both : Block → List ℕ = block_bytes c.args.intra in
-    let difference : Read ℤ = given_difference_at c.args.intra c.args.block c.args.bytes.now c.args.at in
-    let pairs : ℤ → BitPosition → Read (List Pair) = λ d p. pairs_at c.args.intra c.args.bytes.now p in
-    let e = first-refused dc levels_bytes both difference pairs join (part-refused dc difference c.write_difference.ensures.value c.in-Refused.is) in
-    all_none e
+returns-in_err-first-clause-written_at c = rw (part-refused _ _ c.in_err-first.ensures.value) none
 
-pub returns-in-Refused-write_pairs-clause-written_at : goal.returns-in-Refused-write_pairs-clause-written_at
+pub returns-in_err-second-clause-written_at : goal.returns-in_err-second-clause-written_at
 unfolding block_at
-returns-in-Refused-write_pairs-clause-written_at c =
-    let dc : ℤ → List ℕ = difference_bytes c.args.intra in
-    let both : Block → List ℕ = block_bytes c.args.intra in
-    let difference : Read ℤ = given_difference_at c.args.intra c.args.block c.args.bytes.now c.args.at in
-    let pairs : ℤ → BitPosition → Read (List Pair) = λ d p. pairs_at c.args.intra c.args.bytes.now p in
-    let front : Part dc difference c.in-Done.next c.in-Done.first = part-done dc difference c.write_difference.ensures.value c.in-Done.is in
-    let e =
-    second-refused dc levels_bytes both difference pairs join front
-    (part-refused levels_bytes (pairs front.value c.in-Done.next) c.write_pairs.ensures.value c.in-Refused-write_pairs.is)
-    in
-    all_none e
+returns-in_err-second-clause-written_at c =
+    let front = part-done _ _ c.in_ok-first.ensures.value in
+    rw (front.is, part-refused _ _ c.in_err-second.ensures.value) none
 
-pub returns-in-Done-write_pairs-clause-written_at : goal.returns-in-Done-write_pairs-clause-written_at
+pub returns-clause-written_at : goal.returns-clause-written_at
 unfolding block_at block_bytes
-returns-in-Done-write_pairs-clause-written_at c =
+returns-clause-written_at c =
     let dc : ℤ → List ℕ = difference_bytes c.args.intra in
-    let both : Block → List ℕ = block_bytes c.args.intra in
-    let difference : Read ℤ = given_difference_at c.args.intra c.args.block c.args.bytes.now c.args.at in
+    let difference = given_difference_at c.args.intra c.args.block c.args.bytes.now c.args.from in
     let pairs : ℤ → BitPosition → Read (List Pair) = λ d p. pairs_at c.args.intra c.args.bytes.now p in
-    let front : Part dc difference c.in-Done.next c.in-Done.first = part-done dc difference c.write_difference.ensures.value c.in-Done.is in
-    let back : Part levels_bytes (pairs front.value c.in-Done.next) c.in-Done-write_pairs.end c.in-Done-write_pairs.second = part-done levels_bytes (pairs front.value c.in-Done.next) c.write_pairs.ensures.value c.in-Done-write_pairs.is in
-    (both-written dc levels_bytes both difference pairs join front back c.args.offset _ refl c.write_difference.ensures.written_at c.write_pairs.ensures.written_at).1
+    let front = part-done dc difference c.in_ok-first.ensures.value in
+    let back = part-done levels_bytes (pairs front.value c.in_ok-first.first.at) c.in_ok-second.ensures.value in
+    both-written dc levels_bytes (block_bytes c.args.intra) difference pairs join front back c.args.offset _ refl c.in_ok-first.ensures.written_at c.in_ok-second.ensures.written_at

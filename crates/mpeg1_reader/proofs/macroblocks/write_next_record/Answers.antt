@@ -1,9 +1,6 @@
 -- `write_next_record` meets its contract: it reads the increment, then the macroblock. Assumes nothing.
-use mathlib.Core.Path.{◌≡◌}
-use Rattle.symbols.specs.Parsed.{parsed}
+use Rattle.std.proofs.Common.{refl}
 use Rattle.symbols.proofs.Parsed.{all-at, all_none}
-use Rattle.mpeg1_bits.specs.Requires.{InBytes}
-use Rattle.mpeg1_slice.specs.Increment.{increment_at}
 use Rattle.mpeg1_slice.proofs.Laws.Read.{step-read, step-refused, standing}
 use Rattle.mpeg1_slice.proofs.Laws.Onward.{increment-ahead}
 use Rattle.mpeg1_reader.proofs.Laws.Macroblocks.{no-increment}
@@ -11,10 +8,8 @@ use Rattle.mpeg1_reader.proofs.macroblocks.write_next_record.Goals as goal
 
 pub write_macroblock_record-requires : goal.write_macroblock_record-requires
 write_macroblock_record-requires c =
-    let increment : increment_at c.args.bytes.now c.args.at ≡ parsed c.in-Value.increment c.in-Value.next = step-read _ c.read_address_increment.ensures c.in-Value.is in
-    let inside : InBytes c.args.bytes.now c.in-Value.next = (all-at (increment-ahead c.args.bytes.now (standing c.requires.1)) increment).inside in
-    (c.requires.0, inside, c.requires.2, c.requires.3)
+    let inside = (all-at (increment-ahead _ (standing c.requires.0)) (step-read _ c.in_ok-increment.ensures refl)).inside in
+    (inside, c.requires.1, c.requires.2)
 
-pub returns-in-Refused-clause-written_at : goal.returns-in-Refused-clause-written_at
-returns-in-Refused-clause-written_at c = let e = no-increment c.args.header c.args.bytes.now c.args.at (step-refused (increment_at c.args.bytes.now c.args.at) c.read_address_increment.ensures c.in-Refused.is) in
-    all_none e
+pub returns-in_err-increment-clause-written_at : goal.returns-in_err-increment-clause-written_at
+returns-in_err-increment-clause-written_at c = all_none (no-increment c.args.header _ _ (step-refused _ c.in_err-increment.ensures refl))

@@ -1,15 +1,13 @@
 -- `write_vectors` meets its contract: it writes the backward codes after the forward ones. Assumes nothing.
 use mathlib.Core.List.{List}
 use mathlib.Core.Path.{refl}
-use Prim.Native.Nat.{ℕ, ◌≤◌}
+use Prim.Native.Nat.{ℕ}
 use native.Mathlib.Omega.{arith}
 use Rattle.symbols.specs.declared.vector_codes.VectorCodes.{VectorCodes}
 use Rattle.symbols.specs.declared.vector_codes.Vectors.{Vectors}
 use Rattle.symbols.specs.MacroblockType.{has_forward, has_backward}
-use Rattle.symbols.proofs.Parsed.{all-at, all_none}
+use Rattle.symbols.proofs.Parsed.{none}
 use Rattle.format3_writer.specs.Records.{given_vector_codes_bytes}
-use Rattle.format3_writer.proofs.Laws.Lengths.{given-short}
-use Rattle.mpeg1_bits.specs.Requires.{InBytes}
 use Rattle.mpeg1_bits.specs.declared.BitPosition.{BitPosition}
 use Rattle.mpeg1_slice.specs.Read.{Read}
 use Rattle.mpeg1_slice.specs.Vectors.{given_vector_codes_at}
@@ -17,72 +15,41 @@ use Rattle.mpeg1_slice.specs.Macroblock.{vectors_at}
 use Rattle.mpeg1_slice.proofs.Laws.Read.{standing}
 use Rattle.mpeg1_slice.proofs.Laws.Onward.{given-onward}
 use Rattle.mpeg1_reader.specs.WriteAnswer.{vectors_field_bytes}
-use Rattle.mpeg1_reader.proofs.Laws.Writing.{Part, part-done, part-refused, first-refused, second-refused, both-written}
+use Rattle.mpeg1_reader.proofs.Laws.Writing.{part-done, part-refused, ends-inside, both-written}
+use Rattle.mpeg1_reader.proofs.Laws.Lengths.{given-size}
 use Rattle.mpeg1_reader.proofs.vectors.write_vectors.Goals as goal
 
 abbrev join : VectorCodes → VectorCodes → Vectors
 join first second = record { forward = first; backward = second }
 
 pub overflow_add-offset : goal.overflow_add-offset
-overflow_add-offset c =
-    let ahead : VectorCodes → List ℕ = given_vector_codes_bytes (has_forward c.args.macroblock_type) in
-    let forward : Read VectorCodes = given_vector_codes_at (has_forward c.args.macroblock_type) c.args.forward c.args.bytes.now c.args.at in
-    let front : Part ahead forward c.in-Done.next c.in-Done.first = part-done ahead forward c.write_given_vector_codes.ensures.value c.in-Done.is in
-    let few : c.in-Done.first ≤ 4 = omega (arith, front.size, given-short (has_forward c.args.macroblock_type) front.value) in
-    omega (arith, few, c.requires.4)
+overflow_add-offset c = omega (arith, given-size _ _ c.in_ok-first.ensures.value, c.requires.3)
 
-pub write_given_vector_codes-requires-in-Done : goal.write_given_vector_codes-requires-in-Done
-write_given_vector_codes-requires-in-Done c =
-    let ahead : VectorCodes → List ℕ = given_vector_codes_bytes (has_forward c.args.macroblock_type) in
-    let forward : Read VectorCodes = given_vector_codes_at (has_forward c.args.macroblock_type) c.args.forward c.args.bytes.now c.args.at in
-    let front : Part ahead forward c.in-Done.next c.in-Done.first = part-done ahead forward c.write_given_vector_codes.ensures.value c.in-Done.is in
-    let few : c.in-Done.first ≤ 4 = omega (arith, front.size, given-short (has_forward c.args.macroblock_type) front.value) in
-    let inside : InBytes c.args.bytes.now c.in-Done.next = (all-at (given-onward c.args.bytes.now c.args.forward (has_forward c.args.macroblock_type) (standing c.requires.1)) front.is).inside in
-    (c.requires.0, inside, c.requires.3, omega (arith, few, c.requires.4), omega arith)
+pub write_given_vector_codes-requires-2 : goal.write_given_vector_codes-requires-2
+write_given_vector_codes-requires-2 c =
+    let inside = ends-inside _ _ (given-onward _ _ _ (standing c.requires.0)) c.in_ok-first.ensures.value in
+    (inside, c.requires.2, omega (arith, given-size _ _ c.in_ok-first.ensures.value, c.requires.3), omega arith)
 
-pub overflow_add-both : goal.overflow_add-both
-overflow_add-both c =
-    let ahead : VectorCodes → List ℕ = given_vector_codes_bytes (has_forward c.args.macroblock_type) in
-    let forward : Read VectorCodes = given_vector_codes_at (has_forward c.args.macroblock_type) c.args.forward c.args.bytes.now c.args.at in
-    let front : Part ahead forward c.in-Done.next c.in-Done.first = part-done ahead forward c.write_given_vector_codes.ensures.value c.in-Done.is in
-    let few : c.in-Done.first ≤ 4 = omega (arith, front.size, given-short (has_forward c.args.macroblock_type) front.value) in
-    let behind : VectorCodes → List ℕ = given_vector_codes_bytes (has_backward c.args.macroblock_type) in
-    let backward : VectorCodes → BitPosition → Read VectorCodes = λ codes p. given_vector_codes_at (has_backward c.args.macroblock_type) c.args.backward c.args.bytes.now p in
-    let back : Part behind (backward front.value c.in-Done.next) c.in-Done-write_given_vector_codes.end c.in-Done-write_given_vector_codes.second = part-done behind (backward front.value c.in-Done.next) c.write_given_vector_codes-in-Done.ensures.value c.in-Done-write_given_vector_codes.is in
-    omega (arith, few, back.size, given-short (has_backward c.args.macroblock_type) back.value)
+pub overflow_add-result : goal.overflow_add-result
+overflow_add-result c = omega (arith, given-size _ _ c.in_ok-first.ensures.value, given-size _ _ c.in_ok-second.ensures.value)
 
-pub returns-in-Refused-clause-written_at : goal.returns-in-Refused-clause-written_at
+pub returns-in_err-first-clause-written_at : goal.returns-in_err-first-clause-written_at
 unfolding vectors_at
-returns-in-Refused-clause-written_at c =
-    let ahead : VectorCodes → List ℕ = given_vector_codes_bytes (has_forward c.args.macroblock_type) in
-    let behind : VectorCodes → List ℕ = given_vector_codes_bytes (has_backward c.args.macroblock_type) in
-    let forward : Read VectorCodes = given_vector_codes_at (has_forward c.args.macroblock_type) c.args.forward c.args.bytes.now c.args.at in
-    let backward : VectorCodes → BitPosition → Read VectorCodes = λ codes p. given_vector_codes_at (has_backward c.args.macroblock_type) c.args.backward c.args.bytes.now p in
-    let e = first-refused ahead behind (vectors_field_bytes c.args.macroblock_type) forward backward join (part-refused ahead forward c.write_given_vector_codes.ensures.value c.in-Refused.is) in
-    all_none e
+returns-in_err-first-clause-written_at c = rw (part-refused _ _ c.in_err-first.ensures.value) none
 
-pub returns-in-Refused-write_given_vector_codes-clause-written_at : goal.returns-in-Refused-write_given_vector_codes-clause-written_at
+pub returns-in_err-second-clause-written_at : goal.returns-in_err-second-clause-written_at
 unfolding vectors_at
-returns-in-Refused-write_given_vector_codes-clause-written_at c =
-    let ahead : VectorCodes → List ℕ = given_vector_codes_bytes (has_forward c.args.macroblock_type) in
-    let behind : VectorCodes → List ℕ = given_vector_codes_bytes (has_backward c.args.macroblock_type) in
-    let forward : Read VectorCodes = given_vector_codes_at (has_forward c.args.macroblock_type) c.args.forward c.args.bytes.now c.args.at in
-    let backward : VectorCodes → BitPosition → Read VectorCodes = λ codes p. given_vector_codes_at (has_backward c.args.macroblock_type) c.args.backward c.args.bytes.now p in
-    let front : Part ahead forward c.in-Done.next c.in-Done.first = part-done ahead forward c.write_given_vector_codes.ensures.value c.in-Done.is in
-    let e =
-    second-refused ahead behind (vectors_field_bytes c.args.macroblock_type) forward backward join front
-    (part-refused behind (backward front.value c.in-Done.next) c.write_given_vector_codes-in-Done.ensures.value c.in-Refused-write_given_vector_codes.is)
-    in
-    all_none e
+returns-in_err-second-clause-written_at c =
+    let front = part-done _ _ c.in_ok-first.ensures.value in
+    rw (front.is, part-refused _ _ c.in_err-second.ensures.value) none
 
-pub returns-in-Done-write_given_vector_codes-clause-written_at : goal.returns-in-Done-write_given_vector_codes-clause-written_at
+pub returns-clause-written_at : goal.returns-clause-written_at
 unfolding vectors_at
-returns-in-Done-write_given_vector_codes-clause-written_at c =
+returns-clause-written_at c =
     let ahead : VectorCodes → List ℕ = given_vector_codes_bytes (has_forward c.args.macroblock_type) in
     let behind : VectorCodes → List ℕ = given_vector_codes_bytes (has_backward c.args.macroblock_type) in
-    let forward : Read VectorCodes = given_vector_codes_at (has_forward c.args.macroblock_type) c.args.forward c.args.bytes.now c.args.at in
+    let forward = given_vector_codes_at (has_forward c.args.macroblock_type) c.args.forward c.args.bytes.now c.args.from in
     let backward : VectorCodes → BitPosition → Read VectorCodes = λ codes p. given_vector_codes_at (has_backward c.args.macroblock_type) c.args.backward c.args.bytes.now p in
-    let front : Part ahead forward c.in-Done.next c.in-Done.first = part-done ahead forward c.write_given_vector_codes.ensures.value c.in-Done.is in
-    let back : Part behind (backward front.value c.in-Done.next) c.in-Done-write_given_vector_codes.end c.in-Done-write_given_vector_codes.second = part-done behind (backward front.value c.in-Done.next) c.write_given_vector_codes-in-Done.ensures.value c.in-Done-write_given_vector_codes.is in
-    (both-written ahead behind (vectors_field_bytes c.args.macroblock_type) forward backward join front back c.args.offset _ refl c.write_given_vector_codes.ensures.written_at
-    c.write_given_vector_codes-in-Done.ensures.written_at).1
+    let front = part-done ahead forward c.in_ok-first.ensures.value in
+    let back = part-done behind (backward front.value c.in_ok-first.first.at) c.in_ok-second.ensures.value in
+    both-written ahead behind (vectors_field_bytes c.args.macroblock_type) forward backward join front back c.args.offset _ refl c.in_ok-first.ensures.written_at c.in_ok-second.ensures.written_at

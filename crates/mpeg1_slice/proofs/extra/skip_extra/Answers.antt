@@ -3,39 +3,34 @@ use mathlib.Core.Path.{◌≡◌}
 use native.Mathlib.Omega.{arith}
 use Rattle.symbols.specs.Parsed.{parsed}
 use Rattle.mpeg1_slice.specs.Read.{field_at}
-use Rattle.mpeg1_slice.proofs.Laws.Read.{step-read, step-refused}
+use Rattle.mpeg1_slice.proofs.Laws.Read.{step-read, step-refused, exits}
 use Rattle.mpeg1_slice.proofs.Laws.Extra.{extra-refused, extra-read, extra-cut, extra-again, bit-ahead, byte-ahead}
 use Rattle.mpeg1_slice.proofs.extra.skip_extra.Goals as goal
 
-pub returns-in-Refused : goal.returns-in-Refused
-returns-in-Refused c =
-    rw (extra-refused _ _ c.loop-refusal.invariant (step-refused _ c.next_field.ensures c.in-Refused.is))
+pub returns-in_err-more : goal.returns-in_err-more
+returns-in_err-more c =
+    exits _ _ c.from_residual.ensures.1 (extra-refused _ _ c.loop-more.invariant (step-refused _ c.next_field.ensures c.in_err-more.was))
 
 pub returns-then-more-eq0 : goal.returns-then-more-eq0
 returns-then-more-eq0 c =
-    let bit : field_at 1 c.args.bytes.now c.loop-refusal.at ≡ parsed c.in-Value.more c.in-Value.information = step-read _ c.next_field.ensures c.in-Value.is in
-    rw (extra-read _ _ c.loop-refusal.invariant bit c.if-more-eq0.true)
+    rw (extra-read _ _ c.loop-more.invariant (step-read _ c.next_field.ensures c.in_ok-more.was) c.if-more-eq0.true)
 
-pub next_field-requires-in-Value : goal.next_field-requires-in-Value
-next_field-requires-in-Value c =
-    let bit : field_at 1 c.args.bytes.now c.loop-refusal.at ≡ parsed c.in-Value.more c.in-Value.information = step-read _ c.next_field.ensures c.in-Value.is in
-    ((bit-ahead _ _ c.loop-refusal.invariant bit).inside, omega arith)
+pub next_field-requires-in-loop-more : goal.next_field-requires-in-loop-more
+next_field-requires-in-loop-more c =
+    ((bit-ahead _ _ c.loop-more.invariant (step-read _ c.next_field.ensures c.in_ok-more.was)).inside, omega arith)
 
-pub returns-in-Refused-next_field : goal.returns-in-Refused-next_field
-returns-in-Refused-next_field c =
-    let bit : field_at 1 c.args.bytes.now c.loop-refusal.at ≡ parsed c.in-Value.more c.in-Value.information = step-read _ c.next_field.ensures c.in-Value.is in
-    rw (extra-cut _ _ c.loop-refusal.invariant bit c.if-more-eq0.false (step-refused _ c.next_field-in-Value.ensures c.in-Refused-next_field.is))
+pub returns-in_err-next : goal.returns-in_err-next
+returns-in_err-next c =
+    exits _ _ c.from_residual-in_err-next.ensures.1
+    (extra-cut _ _ c.loop-more.invariant (step-read _ c.next_field.ensures c.in_ok-more.was) c.if-more-eq0.false (step-refused _ c.next_field-in-loop-more.ensures c.in_err-next.was))
 
-pub loop-refusal-smaller : goal.loop-refusal-smaller
-loop-refusal-smaller c =
-    let bit : field_at 1 c.args.bytes.now c.loop-refusal.at ≡ parsed c.in-Value.more c.in-Value.information = step-read _ c.next_field.ensures c.in-Value.is in
-    let byte : field_at 8 c.args.bytes.now c.in-Value.information ≡ parsed c.in-Value-next_field.field-0 c.in-Value-next_field.next = step-read _ c.next_field-in-Value.ensures c.in-Value-next_field.is in
-    let first = bit-ahead _ _ c.loop-refusal.invariant bit in
-    let second = byte-ahead _ _ c.loop-refusal.invariant bit byte in
+pub loop-more-smaller : goal.loop-more-smaller
+loop-more-smaller c =
+    let bit : field_at 1 c.args.bytes.now c.loop-more.at ≡ parsed c.in_ok-more.more c.in_ok-more.information = step-read _ c.next_field.ensures c.in_ok-more.was in
+    let first = bit-ahead _ _ c.loop-more.invariant bit in
+    let second = byte-ahead _ _ c.loop-more.invariant bit (step-read _ c.next_field-in-loop-more.ensures c.in_ok-next.was) in
     omega (arith, first.further, second.further, second.inside.not_past)
 
-pub loop-refusal-preserved : goal.loop-refusal-preserved
-loop-refusal-preserved c =
-    let bit : field_at 1 c.args.bytes.now c.loop-refusal.at ≡ parsed c.in-Value.more c.in-Value.information = step-read _ c.next_field.ensures c.in-Value.is in
-    let byte : field_at 8 c.args.bytes.now c.in-Value.information ≡ parsed c.in-Value-next_field.field-0 c.in-Value-next_field.next = step-read _ c.next_field-in-Value.ensures c.in-Value-next_field.is in
-    extra-again _ _ c.loop-refusal.invariant bit c.if-more-eq0.false byte
+pub loop-more-preserved : goal.loop-more-preserved
+loop-more-preserved c =
+    extra-again _ _ c.loop-more.invariant (step-read _ c.next_field.ensures c.in_ok-more.was) c.if-more-eq0.false (step-read _ c.next_field-in-loop-more.ensures c.in_ok-next.was)

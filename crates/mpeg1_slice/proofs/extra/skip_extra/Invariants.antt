@@ -6,8 +6,8 @@ use Rattle.mpeg1_slice.specs.Slice.{after_extra}
 use Rattle.mpeg1_slice.proofs.Laws.Extra.{Extra}
 use Rattle.mpeg1_slice.proofs.extra.skip_extra.Given as goal
 
-abbrev pub invariant-loop-refusal : goal.invariant-loop-refusal
-invariant-loop-refusal l = Extra l.bytes (after_extra (1 + length (bits_from l.bytes l.initial.at)) l.bytes l.initial.at) l.at
+abbrev pub invariant-loop-more : goal.invariant-loop-more
+invariant-loop-more l = Extra l.bytes (after_extra (1 + length (bits_from l.bytes l.initial.at)) l.bytes l.initial.at) l.at
 
-abbrev pub decreases-loop-refusal : goal.decreases-loop-refusal
-decreases-loop-refusal l = 8 * length l.bytes - bit_offset l.at
+abbrev pub decreases-loop-more : goal.decreases-loop-more
+decreases-loop-more l = 8 * length l.bytes - bit_offset l.at

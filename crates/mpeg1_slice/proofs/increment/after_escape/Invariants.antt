@@ -5,8 +5,8 @@ use Rattle.mpeg1_slice.specs.Increment.{after_escape}
 use Rattle.mpeg1_slice.proofs.Laws.Increment.{Escaped}
 use Rattle.mpeg1_slice.proofs.increment.after_escape.Given as goal
 
-abbrev pub invariant-loop-refusal : goal.invariant-loop-refusal
-invariant-loop-refusal l = Escaped l.bytes (after_escape 12 33 l.bytes l.initial.at) l.sum l.at
+abbrev pub invariant-loop-value : goal.invariant-loop-value
+invariant-loop-value l = Escaped l.bytes (after_escape 12 33 l.bytes l.initial.at) l.sum l.at
 
-abbrev pub decreases-loop-refusal : goal.decreases-loop-refusal
-decreases-loop-refusal l = max_macroblocks - l.sum
+abbrev pub decreases-loop-value : goal.decreases-loop-value
+decreases-loop-value l = max_macroblocks - l.sum

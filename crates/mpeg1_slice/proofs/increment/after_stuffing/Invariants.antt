@@ -6,8 +6,8 @@ use Rattle.mpeg1_slice.specs.Increment.{after_stuffing}
 use Rattle.mpeg1_slice.proofs.Laws.Increment.{Stuffed}
 use Rattle.mpeg1_slice.proofs.increment.after_stuffing.Given as goal
 
-abbrev pub invariant-loop-refusal : goal.invariant-loop-refusal
-invariant-loop-refusal l = Stuffed l.bytes (after_stuffing (1 + length (bits_from l.bytes l.initial.at)) l.bytes l.initial.at) l.at
+abbrev pub invariant-loop-value : goal.invariant-loop-value
+invariant-loop-value l = Stuffed l.bytes (after_stuffing (1 + length (bits_from l.bytes l.initial.at)) l.bytes l.initial.at) l.at
 
-abbrev pub decreases-loop-refusal : goal.decreases-loop-refusal
-decreases-loop-refusal l = 8 * length l.bytes - bit_offset l.at
+abbrev pub decreases-loop-value : goal.decreases-loop-value
+decreases-loop-value l = 8 * length l.bytes - bit_offset l.at

@@ -4,6 +4,4 @@ use Rattle.mpeg1_vlc.proofs.Laws.LookUp.{looked-up}
 use Rattle.mpeg1_vlc.proofs.lookup.look_up.Goals as goal
 
 pub returns : goal.returns
-returns c =
-    c.unpacked.ensures
-    ∙ rw c.requires.0 (looked-up c.args.row c.args.zeros c.args.next c.requires.1 c.if-next-zeros.false)
+returns c = c.code.ensures ∙ looked-up c.args.row c.args.zeros c.args.next c.requires c.if-next-zeros.false

@@ -10,7 +10,7 @@ pub returns-in_default-clause-newer_after : goal.returns-in_default-clause-newer
 returns-in_default-clause-newer_after c = rw c.in_default.is (nothing-kept _ _ _ c.requires).1.1
 
 pub returns-then-header-eq-B_PICTURE-clause-older_after : goal.returns-then-header-eq-B_PICTURE-clause-older_after
-returns-then-header-eq-B_PICTURE-clause-older_after c = rw (c.in-HeaderRead.is, eq-eqb _ _ c.if-header-eq-B_PICTURE.true) (nothing-kept _ _ _ c.requires).1.0
+returns-then-header-eq-B_PICTURE-clause-older_after c = rw (c.in-Ok.is, eq-eqb _ _ c.if-header-eq-B_PICTURE.true) (nothing-kept _ _ _ c.requires).1.0
 
 pub returns-then-header-eq-B_PICTURE-clause-newer_after : goal.returns-then-header-eq-B_PICTURE-clause-newer_after
-returns-then-header-eq-B_PICTURE-clause-newer_after c = rw (c.in-HeaderRead.is, eq-eqb _ _ c.if-header-eq-B_PICTURE.true) (nothing-kept _ _ _ c.requires).1.1
+returns-then-header-eq-B_PICTURE-clause-newer_after c = rw (c.in-Ok.is, eq-eqb _ _ c.if-header-eq-B_PICTURE.true) (nothing-kept _ _ _ c.requires).1.1

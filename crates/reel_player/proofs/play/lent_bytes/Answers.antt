@@ -2,4 +2,4 @@
 use Rattle.reel_player.proofs.play.lent_bytes.Goals as goal
 
 pub macroblocks-requires : goal.macroblocks-requires
-macroblocks-requires c = c.requires.size _ _ c.in-HeaderRead.is
+macroblocks-requires c = c.requires.size _ c.in-Ok.is

@@ -1,7 +1,0 @@
--- `pass::coefficient_row` meets its contract: before number u, the first u of the row are widened into the line. Assumes nothing.
-use native.Mathlib.Omega.{arith}
-use Rattle.math.proofs.Tab.{filled-all}
-use Rattle.decode_idct.proofs.pass.coefficient_row.Goals as goal
-
-pub returns : goal.returns
-returns c = filled-all c.loop-u.invariant.0 (omega arith)

@@ -1,9 +1,0 @@
--- `next_type` meets its contract: the code ends within the bytes. Assumes nothing.
-use native.Mathlib.Omega.{arith}
-use Rattle.mpeg1_vlc.proofs.Laws.Range.{type-read}
-use Rattle.mpeg1_slice.proofs.Laws.Read.{word_fits}
-use Rattle.mpeg1_slice.proofs.element.next_type.Goals as goal
-
-pub element_of-requires : goal.element_of-requires
-element_of-requires c =
-    (c.requires.1.bit_small, rw c.read_type.ensures (word_fits c.args.bytes.now c.args.at c.requires.1 _ (type-read c.args.coding_type) (omega arith) (omega arith)))
