@@ -89,7 +89,7 @@ source_version() {
 
 source_answers() {
     constants u32 crates/refusals/src/lib.rt
-    sed -nE 's/^ *Refusal::(\w+) => ([0-9]+),/REFUSED_\1 \2/p' crates/refusals/src/lib.rt |
+    sed -nE '/^pub enum Refusal /,/^}/s/^ *(\w+) = ([0-9]+),/REFUSED_\1 \2/p' crates/refusals/src/lib.rt |
         sed -E 's/([a-z])([A-Z])/\1_\2/g; s/^(\w+)/\U\1/'
 }
 
