@@ -17,7 +17,7 @@ use Rattle.decode_coefficients.specs.Matrices.{matrix_for}
 use Rattle.decode_coefficients.specs.declared.matrices.Matrices.{Matrices}
 use Rattle.decode_coefficients.specs.Requires.{BlocksInRange}
 use Rattle.decode_coefficients.specs.declared.dc.DcPasts.{DcPasts}
-use Rattle.decode_coefficients.specs.Dc.{starting_dc_pasts, reset_dc_pasts}
+use Rattle.decode_coefficients.specs.Dc.{starting_dc_pasts}
 use Rattle.decode_coefficients.specs.Macroblock.{scale_after, block_coding, symbols_with_dc_left}
 use Rattle.decode_macroblock.specs.Compensation.{References}
 use Rattle.decode_state.specs.Plan.{plan_of}
@@ -29,7 +29,7 @@ use Rattle.format3_macroblock.specs.Decoding.{DecodedBlocks, decoded_blocks, dec
 use Rattle.format3_macroblock.specs.Macroblock.{macroblock_symbols_of, blocks_to_end_of, macroblock_with_symbols, macroblock_of}
 use Rattle.format3_macroblock.proofs.Laws.Macroblock.{SymbolsLegal, symbols-legal, none_coded, none-then-end, none-then-more, none-through, whole-legal, coefficients-in-range}
 use Rattle.format3_picture.specs.declared.state.PictureState.{PictureState}
-use Rattle.format3_picture.specs.Requires.{SymbolsRead}
+use Rattle.format3_picture.specs.Requires.{SymbolsRead, starting_plan}
 use Rattle.format3_picture.specs.MacroblockRecord.{Applied, context_of, refused_record, plan_applied, symbols_applied_refusing, parsed_applied, macroblock_applied, outcome_of, with_applied}
 use Rattle.format3_picture.proofs.WriteLaws.{any-coefficients, same_outcome}
 
@@ -84,20 +84,16 @@ module _ (q : Matrices) (s : PictureState) (m : MacroblockSymbols) (rest : List 
         in-range = coefficients-in-range q scale starting (record { symbols = m; blocks = b.source }) legal;
       }))
 
-  -- ---- if no block is coded
-  -- the plan: the macroblock is not intra, so it leaves reset DC pasts
-  abbrev pub plan_without_blocks : Plan
-  plan_without_blocks = plan_of s.header s.next s.slice (record { symbols = m; dc = reset_dc_pasts })
-
+  -- ---- if no block is coded, the macroblock is not intra, so it leaves reset DC pasts
   module _ (none-given : m.pattern ≡ 0) where
     pub bytes-behind : 0 < length rest → from-blocks ≡ refused_record BodyLength s
     bytes-behind more = rw (none-then-more m starting none-given rest more)
 
-    predicted : is_intra m.macroblock_type ≡ false → length rest ≤ 0 → from-blocks ≡ plan_applied s plan_without_blocks (decoding none_coded).coefficients
+    pub predicted : is_intra m.macroblock_type ≡ false → length rest ≤ 0 → from-blocks ≡ plan_applied s (starting_plan s m) (decoding none_coded).coefficients
     unfolding symbols_applied_refusing
     predicted inter none = go rest none
       where
-        go : (bytes : List ℕ) → length bytes ≤ 0 → parsed_applied q s (macroblock_with_symbols s.slice.dc m bytes) ≡ plan_applied s plan_without_blocks (decoding none_coded).coefficients
+        go : (bytes : List ℕ) → length bytes ≤ 0 → parsed_applied q s (macroblock_with_symbols s.slice.dc m bytes) ≡ plan_applied s (starting_plan s m) (decoding none_coded).coefficients
         go [] h = rw (none-then-end m starting none-given, none-through (is_intra m.macroblock_type) starting, inter)
         go (b ∷ bytes) h = absurd (omega arith)
 
@@ -107,14 +103,14 @@ module _ (q : Matrices) (s : PictureState) (m : MacroblockSymbols) (rest : List 
       pub outcome : outcome_of from-blocks ≡ outcome_of (plan_applied s p [])
       pub output : (transform : List ℤ → ℕ → ℤ) (r : References) (picture : List ℕ) → with_applied transform r s from-blocks picture ≡ with_applied transform r s (plan_applied s p []) picture
 
-    pub uncoded : {p : Plan} → p ≡ plan_without_blocks → SymbolsRead s m → length rest ≤ 0 → Uncoded p
+    pub uncoded : {p : Plan} → p ≡ starting_plan s m → SymbolsRead s m → length rest ≤ 0 → Uncoded p
     unfolding plan_of
     uncoded planned read none =
         let inter = (given-legal read).inter-if-uncoded none-given in
         let coefficients = (decoding none_coded).coefficients in
         subst Uncoded (sym planned) (record {
           pattern = none-given;
-          outcome = ap outcome_of (predicted inter none) ∙ same_outcome s plan_without_blocks none-given coefficients;
+          outcome = ap outcome_of (predicted inter none) ∙ same_outcome s (starting_plan s m) none-given coefficients;
           output = λ transform r picture.
-              ap (λ (a : Applied). with_applied transform r s a picture) (predicted inter none) ∙ any-coefficients s plan_without_blocks transform r none-given coefficients picture;
+              ap (λ (a : Applied). with_applied transform r s a picture) (predicted inter none) ∙ any-coefficients s (starting_plan s m) transform r none-given coefficients picture;
         })

@@ -8,6 +8,11 @@ use Rattle.std.specs.Prelude.{Result, Ok, Err, ⊤}
 use Rattle.std.specs.Result.{result_and}
 use Rattle.refusals.specs.declared.Refusal.{Refusal}
 use Rattle.symbols.specs.declared.size.PictureSize.{PictureSize}
+use Rattle.symbols.specs.MacroblockType.{is_intra}
+use Rattle.symbols.specs.declared.macroblock.MacroblockSymbols.{MacroblockSymbols}
+use Rattle.decode_coefficients.specs.declared.dc.DcPasts.{DcPasts}
+use Rattle.decode_coefficients.specs.Dc.{dc_pasts_left}
+use Rattle.decode_coefficients.specs.Macroblock.{symbols_with_dc_left}
 use Rattle.decode_macroblock.specs.Compensation.{References}
 use Rattle.decode_macroblock.specs.Fit.{fit_of, first_misfit}
 use Rattle.decode_macroblock.specs.Macroblock.{predicted_only, predicted_only_from, with_blocks, with_macroblock, with_macroblocks}
@@ -17,9 +22,10 @@ use Rattle.decode_macroblock.specs.declared.fit.Direction.TheVariants.{Forward, 
 use Rattle.decode_macroblock.specs.Rows.{macroblock_rows, rows_of}
 use Rattle.decode_macroblock.proofs.BlocksLaws.{block-uncoded, macroblocks-last}
 use Rattle.decode_macroblock.proofs.RowLaws.{macroblock-rows-most, rows_append, none-coded-rows, predicted-rows}
-use Rattle.decode_state.specs.Plan.{own_macroblock, macroblocks_of_plan}
+use Rattle.decode_state.specs.Plan.{plan_of, with_dc, own_macroblock, macroblocks_of_plan}
 use Rattle.decode_state.specs.declared.plan.Plan.{Plan}
 use Rattle.format3_picture.specs.declared.state.PictureState.{PictureState}
+use Rattle.format3_picture.specs.Requires.{starting_plan}
 use Rattle.format3_picture.specs.MacroblockRecord.{outcome_of, refused_record, record_fit, fit_verdict, state_after, plan_applied, plan_applied_refusing, with_applied}
 
 -- ---- what the tests imply
@@ -98,3 +104,12 @@ module _ (s : PictureState) (p : Plan) where
         go : (v : Result ⊤ Refusal) → fit_verdict (record_fit s.header.size p) ≡ v → outcome_of (plan_applied s p c) ≡ outcome_of (plan_applied s p [])
         go (Ok fits) e = rw (e, no_rows c, no_rows [])
         go (Err refusal) e = rw e
+
+-- ---- the fit doesn't depend on the DC pasts, so those that the blocks leave can be added later
+pub same-fit : (size : PictureSize) (p : Plan) (dc : DcPasts) → record_fit size (with_dc p dc) ≡ record_fit size p
+unfolding record_fit
+same-fit size p dc = refl
+
+pub later-pasts : (s : PictureState) (m : MacroblockSymbols) (running : DcPasts) → with_dc (starting_plan s m) (dc_pasts_left (is_intra m.macroblock_type) running) ≡ plan_of s.header s.next s.slice (symbols_with_dc_left m running)
+unfolding plan_of
+later-pasts s m running = refl

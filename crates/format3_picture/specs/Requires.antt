@@ -7,9 +7,11 @@ use Rattle.symbols.specs.Size.{max_macroblocks, macroblock_count, picture_bytes}
 use Rattle.symbols.specs.declared.header.Header.{Header}
 use Rattle.symbols.specs.declared.size.PictureSize.{PictureSize}
 use Rattle.symbols.specs.declared.macroblock.MacroblockSymbols.{MacroblockSymbols}
+use Rattle.decode_coefficients.specs.Dc.{reset_dc_pasts}
 use Rattle.decode_vectors.specs.Vector.{max_vector}
 use Rattle.decode_macroblock.specs.Requires.{MotionWithin, Lent}
 use Rattle.decode_state.specs.Requires.{VectorPastsWithin}
+use Rattle.decode_state.specs.Plan.{plan_of}
 use Rattle.decode_state.specs.declared.plan.Plan.{Plan}
 use Rattle.format3_macroblock.specs.Requires.{LegalDcPasts}
 use Rattle.format3_macroblock.specs.Slice.{legal_scale}
@@ -75,3 +77,7 @@ pub record SymbolsRead (s : PictureState) (m : MacroblockSymbols) : Type 0 where
   pub body : List ℕ
   pub rest : List ℕ
   pub read : macroblock_symbols_of (context_of s) body ≡ parsed m rest
+
+-- the plan for such symbols, with reset DC pasts, as a non-intra macroblock leaves them
+abbrev pub starting_plan : PictureState → MacroblockSymbols → Plan
+starting_plan s m = plan_of s.header s.next s.slice (record { symbols = m; dc = reset_dc_pasts })

@@ -8,7 +8,7 @@ ghost use Rattle.decode_macroblock.specs.Compensation.{references};
 ghost use Rattle.decode_macroblock.specs.Macroblock.{predicted_only_from, with_macroblocks};
 ghost use Rattle.format3_macroblock.specs.Macroblock.{macroblock_with_symbols};
 ghost use Rattle.format3_picture.specs.MacroblockRecord.{context_of, record_fit, fit_verdict, state_after, plan_applied, parsed_applied, macroblock_applied, outcome_of, with_applied};
-ghost use Rattle.format3_picture.specs.Requires.{PlanFollows, PlanWithin, PlanLent, PlanWritable, Invariant, StateWithin, SymbolsRead};
+ghost use Rattle.format3_picture.specs.Requires.{PlanFollows, PlanWithin, PlanLent, PlanWritable, Invariant, StateWithin, SymbolsRead, starting_plan};
 
 use crate::state::PictureState;
 use decode_coefficients::dc::DcPasts;
@@ -103,22 +103,23 @@ fn write_skipped(size: PictureSize, plan: Plan, forward: &[u8], backward: &[u8],
     );
 }
 
-// Writes the macroblocks of a record whose own macroblock has coded blocks, if all fit.
+// Writes the macroblocks of a record whose own macroblock has coded blocks, if all fit; `fits` is the refusal if one doesn't.
 fn write_coded(
     picture: PictureState,
     plan: Plan,
+    fits: Result<(), Refusal>,
     coefficients: &[i16; 384],
     marks: &[u64; 6],
     forward: &[u8],
     backward: &[u8],
     output: &mut [u8],
 ) -> Result<PictureState, Refusal>
-    requires { PlanWritable picture plan forward.now backward.now output.old × Transformable coefficients.now marks.now }
+    requires { PlanWritable picture plan forward.now backward.now output.old × (fits ≡ fit_verdict (record_fit picture.header.size plan)) × Transformable coefficients.now marks.now }
     ensures value { result ≡ outcome_of (plan_applied picture plan (six_blocks coefficients.now)) }
     ensures output_after { output.new ≡ with_applied inverse_transform (references forward.now backward.now) picture (plan_applied picture plan (six_blocks coefficients.now)) output.old }
 {
+    fits?;
     let size = picture.header.size;
-    fit_verdict(record_fit(size, plan))?;
     write_skipped(size, plan, forward, backward, output);
     let rows = write::write_macroblock(
         output,
@@ -139,32 +140,36 @@ fn write_coded(
 fn write_predicted(
     picture: PictureState,
     plan: Plan,
+    fits: Result<(), Refusal>,
     forward: &[u8],
     backward: &[u8],
     output: &mut [u8],
 ) -> Result<PictureState, Refusal>
-    requires { PlanWritable picture plan forward.now backward.now output.old × (plan.pattern ≡ 0) }
+    requires { PlanWritable picture plan forward.now backward.now output.old × (fits ≡ fit_verdict (record_fit picture.header.size plan)) × (plan.pattern ≡ 0) }
     ensures value { result ≡ outcome_of (plan_applied picture plan []) }
     ensures output_after { output.new ≡ with_applied inverse_transform (references forward.now backward.now) picture (plan_applied picture plan []) output.old }
 {
+    fits?;
     let size = picture.header.size;
-    fit_verdict(record_fit(size, plan))?;
     write_skipped(size, plan, forward, backward, output);
     write::write_prediction(output, forward, backward, size, plan.address, plan.motion);
     Ok(state_after(picture, plan, 0))
 }
 
 // Applies a macroblock with coded blocks; `rest` starts with them. The coefficients wait in an array until the record is known to be whole.
+// `start` is the plan with reset DC pasts, and `fits` the refusal if a vector of it doesn't fit.
 fn apply_coded(
     picture: PictureState,
     symbols: MacroblockSymbols,
+    start: Plan,
+    fits: Result<(), Refusal>,
     rest: &[u8],
     matrices: &Matrices,
     forward: &[u8],
     backward: &[u8],
     output: &mut [u8],
 ) -> Result<PictureState, Refusal>
-    requires { Invariant picture forward.now backward.now output.old × SymbolsRead picture symbols }
+    requires { Invariant picture forward.now backward.now output.old × SymbolsRead picture symbols × (start ≡ starting_plan picture symbols) × (fits ≡ fit_verdict (record_fit picture.header.size start)) }
     ensures value { result ≡ outcome_of (parsed_applied matrices.now picture (macroblock_with_symbols picture.slice.dc symbols rest.now)) }
     ensures output_after { output.new ≡ with_applied inverse_transform (references forward.now backward.now) picture (parsed_applied matrices.now picture (macroblock_with_symbols picture.slice.dc symbols rest.now)) output.old }
 {
@@ -184,16 +189,11 @@ fn apply_coded(
         &mut marks,
     )?;
     let is_intra = macroblock_type::has_part(symbols.macroblock_type, INTRA);
-    let dc = running.left(is_intra);
-    let plan = plan::make_plan(
-        picture.header,
-        picture.next,
-        slice,
-        SymbolsWithDc { symbols, dc },
-    );
+    let plan = plan::with_dc(start, running.left(is_intra));
     write_coded(
         picture,
         plan,
+        fits,
         &coefficients,
         &marks,
         forward,
@@ -202,7 +202,9 @@ fn apply_coded(
     )
 }
 
-// Applies a macroblock record. A macroblock without coded blocks is not intra, so it resets the DC pasts.
+// Applies a macroblock record. The plan starts with reset DC pasts, as a non-intra macroblock leaves them. An intra one always has coded
+// blocks, and `apply_coded` fills in the pasts that they leave.
+#[tactic(auto, unfolding(decode_state::specs::Plan::plan_of))]
 pub(crate) fn apply_macroblock(
     picture: PictureState,
     body: &[u8],
@@ -219,13 +221,6 @@ pub(crate) fn apply_macroblock(
         body,
         context_of(picture),
     )?;
-    let rest = &body[end.at..];
-    if symbols.pattern != 0 {
-        return apply_coded(picture, symbols, rest, matrices, forward, backward, output);
-    }
-    if 0 < rest.len() {
-        return Err(Refusal::BodyLength);
-    }
     let dc = DcPasts::reset();
     let plan = plan::make_plan(
         picture.header,
@@ -233,5 +228,15 @@ pub(crate) fn apply_macroblock(
         picture.slice,
         SymbolsWithDc { symbols, dc },
     );
-    write_predicted(picture, plan, forward, backward, output)
+    let fits = fit_verdict(record_fit(picture.header.size, plan));
+    let rest = &body[end.at..];
+    if symbols.pattern != 0 {
+        return apply_coded(
+            picture, symbols, plan, fits, rest, matrices, forward, backward, output,
+        );
+    }
+    if 0 < rest.len() {
+        return Err(Refusal::BodyLength);
+    }
+    write_predicted(picture, plan, fits, forward, backward, output)
 }

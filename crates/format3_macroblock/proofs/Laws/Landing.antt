@@ -4,7 +4,7 @@ use mathlib.Core.List.{List, [], ◌∷◌, ◌++◌, append-nil, append_assoc}
 use Prim.Native.Nat.{ℕ, ◌+◌, ◌-◌, ◌<◌, ◌≤◌}
 use native.Mathlib.Omega.{arith}
 use lib.IntN.{ℤ}
-use lib.ListN.{length, drop, length-drop}
+use lib.ListN.{length, length-append, drop, length-drop}
 use lib.Seq.{drop-drop}
 use Rattle.std.specs.Prelude.{Ok, Err}
 use Rattle.tables.proofs.Zigzag.{raster-below}
@@ -34,6 +34,7 @@ module _ (c : BlockCoding) (matrix : List ℕ) (count : ℕ) (body : List ℕ) (
     pub inside : at ≤ length body
     pub begun : BeforePairs c start
     pub pairs : List Pair
+    pub counted : length pairs + (count - read) ≡ count
     pub next-is : next ≡ after_pairs (first_position c.intra) pairs
     pub holds : HoldsSoFar c matrix begun.dc pairs block
     pub marked : Marked block marks
@@ -47,6 +48,7 @@ module _ (c : BlockCoding) (matrix : List ℕ) (count : ℕ) (body : List ℕ) (
     inside = omega arith;
     begun = b;
     pairs = [];
+    counted = omega arith;
     next-is = refl;
     holds = rw b.is (none_read b.fits);
     marked = m;
@@ -88,6 +90,7 @@ module _ (c : BlockCoding) (matrix : List ℕ) (count : ℕ) (body : List ℕ) (
           inside = omega (arith, p.inside, r.1, length-drop at body);
           begun = p.begun;
           pairs = p.pairs ++ (pair ∷ []);
+          counted = simp length-append (omega (arith, p.counted));
           next-is = rw (after-append (first_position c.intra) p.pairs (pair ∷ []), ← p.next-is);
           holds = rw p.next-is (one-pair-more p.pairs pair p.holds (rw (← p.next-is) low));
           marked = marked-set p.marked p.holds.full (raster_index (pair_position next pair)) (raster-below (pair_position next pair) (omega arith)) (rw p.next-is (next-zero p.pairs pair p.holds (rw (← p.next-is) low))) _;

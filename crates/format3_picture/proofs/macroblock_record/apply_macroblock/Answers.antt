@@ -1,6 +1,6 @@
 -- `macroblock_record::apply_macroblock` meets its contract: it reads and plans the symbols, or passes on the refusal. Assumes nothing.
 -- The pattern then decides whether blocks are read.
-use mathlib.Core.Path.{◌≡◌, sym, subst}
+use mathlib.Core.Path.{◌≡◌, sym, ap, ◌∙◌, subst}
 use native.Mathlib.Omega.{arith}
 use lib.ListN.{drop, length-drop}
 use Rattle.std.proofs.Common.{rules}
@@ -10,7 +10,8 @@ use Rattle.decode_macroblock.specs.Compensation.{references}
 use Rattle.decode_macroblock.proofs.BlocksLaws.{macroblocks-none}
 use Rattle.decode_state.specs.declared.plan.Plan.{Plan}
 use Rattle.format3_records.proofs.Laws.Field.{rest_from}
-use Rattle.format3_picture.specs.Requires.{PlanWritable}
+use Rattle.format3_picture.specs.MacroblockRecord.{fit_verdict}
+use Rattle.format3_picture.specs.Requires.{PlanWithin, PlanWritable}
 use Rattle.format3_picture.proofs.ReadLaws.{given-legal, symbols-refused, given, symbols-read, bytes-behind, uncoded}
 use Rattle.format3_picture.proofs.InvariantLaws.{plannable, makeable}
 use Rattle.format3_picture.proofs.macroblock_record.apply_macroblock.Goals as goal
@@ -24,8 +25,21 @@ pub returns-in_err-symbols-clause-output_after : goal.returns-in_err-symbols-cla
 returns-in_err-symbols-clause-output_after c =
     rw (symbols-refused c.args.matrices.now c.args.picture c.args.body.now (rw c.context_of.ensures at c.in_err-symbols.ensures)) (macroblocks-none _ _ _ _)
 
+pub make_plan-plan-requires : goal.make_plan-plan-requires
+make_plan-plan-requires c =
+    let given = given c.args.matrices.now c.args.picture c.args.body.now (rw c.context_of.ensures at c.in_ok-symbols.ensures) in
+    plannable c.args.picture _ c.requires.state (given-legal given)
+
+pub record_fit-requires : goal.record_fit-requires
+record_fit-requires c =
+    let given = given c.args.matrices.now c.args.picture c.args.body.now (rw c.context_of.ensures at c.in_ok-symbols.ensures) in
+    let planned = rw c.reset-dc.ensures at c.make_plan-plan.ensures in
+    subst (PlanWithin c.args.picture.header.size) (sym planned) (makeable c.args.picture _ c.requires.state (given-legal given) c.requires.lent).planned
+
 pub apply_coded-requires : goal.apply_coded-requires
-apply_coded-requires c = (c.requires, given c.args.matrices.now c.args.picture c.args.body.now (rw c.context_of.ensures at c.in_ok-symbols.ensures))
+apply_coded-requires c =
+    let given = given c.args.matrices.now c.args.picture c.args.body.now (rw c.context_of.ensures at c.in_ok-symbols.ensures) in
+    (c.requires, given, rw c.reset-dc.ensures at c.make_plan-plan.ensures, c.fit_verdict-fits.ensures ∙ ap fit_verdict c.record_fit.ensures)
 
 pub returns-then-symbols-ne0-clause-value : goal.returns-then-symbols-ne0-clause-value
 returns-then-symbols-ne0-clause-value c = rw (symbols-read c.args.matrices.now c.args.picture c.args.body.now (rw c.context_of.ensures at c.in_ok-symbols.ensures)) (rw rest_from at c.apply_coded.ensures.value)
@@ -43,11 +57,6 @@ returns-then-rest-gt0-clause-output_after c =
     let behind = bytes-behind c.args.matrices.now c.args.picture c.in_ok-symbols.symbols (drop c.in_ok-symbols.end.at c.args.body.now) c.if-symbols-ne0.false (omega (arith, length-drop c.in_ok-symbols.end.at c.args.body.now, c.if-rest-gt0.true)) in
     rw (symbols-read c.args.matrices.now c.args.picture c.args.body.now (rw c.context_of.ensures at c.in_ok-symbols.ensures), behind) (macroblocks-none _ _ _ _)
 
-pub make_plan-plan-requires : goal.make_plan-plan-requires
-make_plan-plan-requires c =
-    let given = given c.args.matrices.now c.args.picture c.args.body.now (rw c.context_of.ensures at c.in_ok-symbols.ensures) in
-    plannable c.args.picture _ c.requires.state (given-legal given)
-
 pub write_predicted-requires : goal.write_predicted-requires
 write_predicted-requires c =
     let found = rw c.context_of.ensures at c.in_ok-symbols.ensures in
@@ -56,6 +65,7 @@ write_predicted-requires c =
     let uncoded = uncoded c.args.matrices.now c.args.picture c.in_ok-symbols.symbols (drop c.in_ok-symbols.end.at c.args.body.now) c.if-symbols-ne0.false planned given (omega (arith, length-drop c.in_ok-symbols.end.at c.args.body.now, c.if-rest-gt0.false)) in (
       subst (λ (p : Plan). PlanWritable c.args.picture p c.args.forward.now c.args.backward.now c.args.output.now) (sym planned)
           (makeable c.args.picture _ c.requires.state (given-legal given) c.requires.lent),
+      c.fit_verdict-fits.ensures ∙ ap fit_verdict c.record_fit.ensures,
       uncoded.pattern,
     )
 
