@@ -1,8 +1,9 @@
 #!/usr/bin/env bash
 # shellcheck disable=SC2016
 # tests/entries.sh: the public entries are the functions of crates/entries, and these alone.
-# - Each function there is `pub`, has an `ensures` and no `requires`.
+# - Each function there is `pub`, has an `ensures` and no `requires`. Those of other crates are not re-exported there.
 # - crates/format3_c calls functions of `entries` alone; so do the programs, crates/panel and crates/vectors, except to read input and write output.
+#   None calls a method of another crate of the project.
 # Then it shows that it can fail: it refuses copies of these crates, each with one change.
 set -euo pipefail
 cd "$(dirname "$0")/.."
@@ -30,6 +31,20 @@ look_at_entries() { # CRATES
         /^ *ensures / { ensured = 1 }
         # The body starts: a clause is shut on its own line.
         /\{$/ { ended() }
+        # What is re-exported: types and constants, which have a capital letter, and no function or module.
+        /^ *pub use / { used = "" }
+        { used = used " " $0 }
+        used ~ /^ *pub use .*;/ {
+            sub(/^ *pub use /, "", used)
+            sub(/;.*/, "", used)
+            parts = split(used, part, /[{},]/)
+            for (k = 1; k <= parts; k++) {
+                name = part[k]; sub(/ as .*/, "", name); gsub(/ /, "", name)
+                if (name == "" || name ~ /::$/) continue
+                sub(/.*::/, "", name)
+                if (name !~ /^[A-Z]/) wrong("is re-exported")
+            }
+        }
         END {
             ended()
             if (!count) { print "entries: no function"; failed = 1 }
@@ -38,11 +53,34 @@ look_at_entries() { # CRATES
         }'
 }
 
-# The crates and modules that a crate names in its paths, other than those allowed, one line each. A type, with a capital letter, is passed
-# over: the path that imports it starts with its crate.
+# The public methods of the project, `Type::name` each, but for those of the entries.
+methods_of_the_project() {
+    find crates/*/src -name '*.rt' ! -path 'crates/entries/*' | sort | xargs sed -E 's|//.*||' | awk '
+        /^impl/ { type = $0; sub(/^impl(<[^>]*>)? +(.* for +)?/, "", type); sub(/[^A-Za-z0-9_].*/, "", type) }
+        /^}/ { type = "" }
+        type != "" && match($0, /^ +pub (const )?fn [a-z0-9_]+/) {
+            name = substr($0, RSTART, RLENGTH); sub(/.* /, "", name)
+            printf "%s::%s ", type, name
+        }'
+}
+
+# The crates and modules that a crate names in its paths, other than those allowed, and the methods of the project that it names, one line each.
+# A type, with a capital letter, is passed over: the path that imports it starts with its crate.
 look_at_calls() { # CRATES CRATE ALLOWED..
-    source_of "$1" "$2" | awk -v crate="$2" -v allowed=" ${*:3} " '
+    source_of "$1" "$2" | awk -v crate="$2" -v allowed=" ${*:3} " -v methods="$methods" '
+        BEGIN {
+            count = split(methods, listed, " ")
+            for (k = 1; k <= count; k++) { qualified[listed[k]]; name = listed[k]; sub(/.*::/, "", name); method[name] }
+        }
         {
+            for (line = $0; match(line, /(^|[^.])\.[a-z_][A-Za-z0-9_]* *(::<[^(]*>)?\(/); line = substr(line, RSTART + RLENGTH)) {
+                name = substr(line, RSTART, RLENGTH); sub(/^[^.]*\./, "", name); sub(/[^A-Za-z0-9_].*/, "", name)
+                if (name in method) { print "entries: " crate " calls the method " name; failed = 1 }
+            }
+            for (line = $0; match(line, /[A-Z][A-Za-z0-9_]*::[a-z][A-Za-z0-9_]*/); line = substr(line, RSTART + RLENGTH)) {
+                name = substr(line, RSTART, RLENGTH)
+                if (name in qualified) { print "entries: " crate " names the method " name; failed = 1 }
+            }
             for (line = $0; match(line, /(^|[^A-Za-z0-9_:])[A-Za-z_][A-Za-z0-9_]*::/); line = substr(line, RSTART + RLENGTH)) {
                 name = substr(line, RSTART, RLENGTH - 2)
                 sub(/^[^A-Za-z_]/, "", name)
@@ -55,6 +93,8 @@ look_at_calls() { # CRATES CRATE ALLOWED..
             exit failed
         }'
 }
+
+methods=$(methods_of_the_project)
 
 look_at() { # CRATES
     local failed=0
@@ -113,18 +153,28 @@ require_refused $entries '$a pub fn twice(a: u8) -> u8 {\n    a\n}' 'twice has n
 require_refused $entries 's/^pub fn report/fn report/' 'report is not public'
 require_refused $entries 's/^pub fn report/pub(crate) fn report/' 'report is not public'
 require_refused $entries '/fn /d' 'no function'
+require_refused $entries 's/^pub use refusals::ACCEPTED;/pub use refusals::{ACCEPTED, number};/' 'number is re-exported'
+require_refused $entries '$a pub use format3_records::{\n    record::record_at as RecordAt,\n    record::Record,\n};' 'record_at is re-exported'
+require_refused $entries '$a pub use decode_idct::*;' '* is re-exported'
+require_refused $entries 's/^use mpeg1_reader::entry;/pub &/' 'entry is re-exported'
 require_refused $exports 's/entries::transform\(/decode_idct::transform(/' 'format3_c names decode_idct'
+require_refused $exports 's/Err\(refused\.refusal\), /Ok(refused.refusal.number() as usize), /' 'format3_c calls the method number'
+require_refused $exports 's/found\.size\.width as u32/found.size\n    .macroblocks() as u32/' 'format3_c calls the method macroblocks'
+require_refused $exports 's/entries::number\(&intra\)/intra.map_or(0, Refusal::number)/' 'format3_c names the method Refusal::number'
 require_refused $exports '1i use format3_picture::reader;' 'format3_c names format3_picture'
 require_refused $exports '$a use reel_input::read_all;' 'format3_c names reel_input'
 require_refused $exports '1i use std::io;' 'format3_c names std'
 require_refused $exports '1i use decode_idct::TransformAnswer;' 'format3_c names decode_idct'
 require_refused $panel 's/entries::report\(/reel_report::report(/' 'panel names reel_report'
 require_refused $panel 's/entries::MAX_REEL_BYTES/reel_parts::part::MAX_REEL_BYTES/' 'panel names reel_parts'
+require_refused $panel 's/&reel\[\.\.length\]/reel.bytes(..length)/' 'panel calls the method bytes'
 require_refused $panel '/entries::/d' 'panel calls no entry'
 require_refused $vectors 's/entries::list_vectors\(/vector_list::list_vectors(/' 'vectors names vector_list'
+require_refused $vectors 's/&text\[\.\.printed\]/text.row(printed)/' 'vectors calls the method row'
 require_refused $vectors '/entries::/d' 'vectors calls no entry'
 require_refused $vectors '1i use reel_input::read_all;' 'vectors names reel_input'
 require_passed $entries '1i // An entry never requires anything. fn'
+require_passed $entries 's/^use refusals::Refusal;/pub &/'
 require_passed $exports '1i // decode_idct::transform is called by the entry.'
 
 echo "entries: $count entries, each with an ensures and no requires; $changes wrong copies refused"

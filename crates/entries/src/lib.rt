@@ -1,7 +1,7 @@
 // Every public entry of the project, and nothing else. Each takes every input (none has a `requires`) and returns. Its contract has an
 // equation for the answer, and one for each thing that is lent by `&mut` (borrowed), as the call leaves it; what is lent by `&` stays
-// as it is. An answer is a value or a refusal, and its number is 0 or that of the refusal (`refusals::number`). Each entry calls the function
-// of another crate that does the work.
+// as it is. An answer is a value or a refusal, and its number (`number`) is 0 or that of the refusal. Each entry calls the function of
+// another crate that does the work.
 #![tactic(auto)]
 
 ghost use Rattle.std.specs.Prelude.{◌≡◌, true, false, ◌++◌, ◌+◌, length, drop, pos};
@@ -36,8 +36,8 @@ use mpeg1_reader::entry::ReadSlice;
 use mpeg1_slice::refused::RefusedAt;
 use reel_parts::part;
 use refusals::Refusal;
-// The number of an answer, 0 if it is no refusal.
-pub use refusals::{ACCEPTED, number};
+// The number of an answer that is no refusal.
+pub use refusals::ACCEPTED;
 use symbols::size::PictureSize;
 
 // The longest reel that `report` plays, in bytes.
@@ -48,6 +48,15 @@ pub const REPORT_BYTES: usize = reel_report::REPORT_BYTES;
 
 // The length of the buffer that `list_vectors` asks for.
 pub const VECTOR_LIST_BYTES: usize = vector_list::VECTOR_LIST_BYTES;
+
+// The number of an answer.
+// Takes any value or refusal.
+// Answers 0 for a value, and for a refusal its number.
+pub fn number<T>(answer: &Result<T, Refusal>) -> u32
+    ensures { result ≡ number_in answer.now }
+{
+    refusals::number(answer)
+}
 
 // The picture of a Format 3 file.
 // Takes the file, the forward and the backward reference (empty where the picture has none), and the output, 384 bytes a macroblock.

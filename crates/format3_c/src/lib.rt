@@ -75,20 +75,19 @@ pub extern "C" fn format3_read_header(file: &[u8], header: &mut Header) -> u32
     ensures records_start { header.new.records_start ≡ (file_header_of (first_header file.now)).records_start }
 {
     let answer = entries::read_header(file);
-    *header = match answer {
-        Ok(found) => Header {
-            coding_type: found.coding_type as u32,
-            width: found.size.width as u32,
-            height: found.size.height as u32,
-            records_start: found.records_start,
-        },
-        Err(_) => Header {
-            coding_type: 0,
-            width: 0,
-            height: 0,
-            records_start: 0,
-        },
+    let (coding_type, width, height, records_start) = match answer {
+        Ok(found) => (
+            found.coding_type as u32,
+            found.size.width as u32,
+            found.size.height as u32,
+            found.records_start,
+        ),
+        Err(_) => (0, 0, 0, 0),
     };
+    header.coding_type = coding_type;
+    header.width = width;
+    header.height = height;
+    header.records_start = records_start;
     entries::number(&answer)
 }
 
@@ -147,8 +146,8 @@ pub extern "C" fn format3_transform(
     ensures residues { residues.new ≡ transform_residues coefficients.now }
     ensures rows { rows.new ≡ transform_rows coefficients.now }
 {
-    let answer = entries::transform(*coefficients);
-    match answer {
+    let transformed = entries::transform(*coefficients);
+    match transformed {
         Ok(done) => {
             let values = done.values;
             *residues = values;
@@ -159,7 +158,7 @@ pub extern "C" fn format3_transform(
             *rows = 0;
         }
     }
-    entries::number(&answer)
+    entries::number(&transformed)
 }
 
 // The intra AC coefficient of a level.
@@ -173,9 +172,9 @@ pub extern "C" fn format3_intra_coefficient(
     ensures number { result ≡ coefficient_number level scale weight }
     ensures coefficient { coefficient.new ≡ coefficient_value true level scale weight }
 {
-    let answer = entries::intra_coefficient(level, scale, weight);
-    *coefficient = answer.unwrap_or(0);
-    entries::number(&answer)
+    let intra = entries::intra_coefficient(level, scale, weight);
+    *coefficient = intra.unwrap_or(0);
+    entries::number(&intra)
 }
 
 // The coefficient of a level where the macroblock is not intra.
@@ -189,9 +188,9 @@ pub extern "C" fn format3_non_intra_coefficient(
     ensures number { result ≡ coefficient_number level scale weight }
     ensures coefficient { coefficient.new ≡ coefficient_value false level scale weight }
 {
-    let answer = entries::non_intra_coefficient(level, scale, weight);
-    *coefficient = answer.unwrap_or(0);
-    entries::number(&answer)
+    let non_intra = entries::non_intra_coefficient(level, scale, weight);
+    *coefficient = non_intra.unwrap_or(0);
+    entries::number(&non_intra)
 }
 
 // A component of a vector from its code, its residual and the past (its predictor), not doubled.
@@ -247,18 +246,13 @@ pub extern "C" fn format3_show_record(file: &[u8], offset: usize, shown: &mut Re
     ensures length { shown.new.length ≡ body_length_of (record_of file.now offset) }
 {
     let answer = entries::show_record(file, offset);
-    *shown = match answer {
-        Ok(found) => Record {
-            kind: found.kind,
-            start: found.start,
-            length: found.length,
-        },
-        Err(_) => Record {
-            kind: 0,
-            start: 0,
-            length: 0,
-        },
+    let (kind, start, length) = match answer {
+        Ok(found) => (found.kind, found.start, found.length),
+        Err(_) => (0, 0, 0),
     };
+    shown.kind = kind;
+    shown.start = start;
+    shown.length = length;
     entries::number(&answer)
 }
 
@@ -278,14 +272,12 @@ pub extern "C" fn format3_read_slice(
     ensures bit { res.new.bit ≡ answer_bit (raw_slice_outcome (given_fields parameters.now) slice.now records.old).answer }
 {
     let answer = entries::read_slice(slice, *parameters, records);
-    let (number, written, at) = match answer {
-        Ok(read) => (entries::ACCEPTED, read.written, read.end),
-        Err(refused) => (refused.refusal.number(), 0, refused.at),
+    let (written, at) = match answer {
+        Ok(read) => (Ok(read.written), read.end),
+        Err(refused) => (Err(refused.refusal), refused.at),
     };
-    *res = SliceResult {
-        written,
-        byte: at.byte,
-        bit: at.bit,
-    };
-    number
+    res.written = written.unwrap_or(0);
+    res.byte = at.byte;
+    res.bit = at.bit;
+    entries::number(&written)
 }
