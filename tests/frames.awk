@@ -2,8 +2,9 @@
 # stack that any path through its code takes: all frames on the deepest chain of calls, return addresses included. It fails if
 # that cannot be told: an indirect call, recursion, or a call of another library than memcpy and memset, which count with their
 # return address alone. A jump to another function counts as a call. An indirect jump is taken for a jump table, whose places
-# are all in the function; it must follow the two instructions that load such a place. Between them and the jump, other registers
-# may be loaded from the stack or from a register, and registers stored on the stack.
+# are all in the function; it must follow the two instructions that load such a place. Between these three, a register that is not
+# used there any more may be loaded from the stack, and any register stored on the stack; between the last two, one may be loaded from
+# a register too.
 # It also fails if a function takes more than a page without touching the stack in between.
 
 # Notes what is wrong with the current function: the first thing found. It matters only if an exported function calls it.
@@ -122,11 +123,11 @@ instruction ~ /^(call|j.*)$/ && operand !~ /^\*/ {
     if (instruction == "call" || callee != name) calls[name] = calls[name] callee "\n"
 }
 
-# Whether a register other than that of the last instruction is loaded from the stack or from a register.
+# Whether a register is loaded that a jump by a table doesn't use any more: from the stack; or from a register, once the table's start is added.
 function loads_another(register) {
-    if (instruction != "mov") return 0
-    if (operand !~ /^((0x[0-9a-f]+)?\(%rsp\)|%r([abcd]x|[ds]i|bp|[89]|1[0-5])),%r([abcd]x|[ds]i|bp|[89]|1[0-5])$/) return 0
+    if (instruction != "mov" || operand !~ /^((0x[0-9a-f]+)?\(%rsp\)|%r([abcd]x|[ds]i|bp|[89]|1[0-5])),%r([abcd]x|[ds]i|bp|[89]|1[0-5])$/) return 0
     register = operand; sub(/.*,/, "", register)
+    if (last !~ /^add / && (operand ~ /^%/ || index(last, "(" register ","))) return 0
     return last !~ (register "$")
 }
 # Whether a register is stored on the stack, which changes no register.
