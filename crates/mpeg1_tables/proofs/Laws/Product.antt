@@ -9,7 +9,7 @@ use lib.Dec.{T, eqb, not_T}
 use lib.ListN.{length, take, drop}
 use lib.Seq.{take_all}
 use borrow.Author.Tests.{eqb-true, eq-eqb, lt-ltb, le-ltb}
-use Rattle.std.specs.Prelude.{Result, Err}
+use Rattle.std.specs.Prelude.{Result, Ok, Err}
 use Rattle.math.specs.Tab.{tab}
 use Rattle.math.proofs.Test.{and_left, and_right, clash, refuted}
 use Rattle.mpeg1_bits.specs.Bits.{bits_of, leading_number}
@@ -97,52 +97,58 @@ module _ {A : Type 0} (short : A) where
 pub data Some {A : Type 0} : List (Entry A) → Type 0 where
   some : {e : Entry A} {es : List (Entry A)} → Some (e ∷ es)
 
-module _ {A : Type 0} where
-  abbrev none : Result A CodeError
-  none = Err NoCode
+-- a code of several parts as after_code reads it, with any two answers: `none` where the first part is no code, and `short` where it is truncated
+abbrev pub after_with : {A : Type 0} → A → A → Result Code CodeError → List ℕ → (ℕ → ℕ → List ℕ → A) → A
+after_with none short (Ok part) b rest = rest part.value part.length (drop part.length b)
+after_with none short (Err NoCode) b rest = none
+after_with none short (Err Truncated) b rest = short
 
-  abbrev short : Result A CodeError
-  short = Err Truncated
+-- after_code has the part's own errors as these answers
+pub with-errors : {A : Type 0} (c : Result Code CodeError) (b : List ℕ) (rest : ℕ → ℕ → List ℕ → Result A CodeError) → after_with (Err NoCode) (Err Truncated) c b rest ≡ after_code c b rest
+with-errors (Ok part) b rest = refl
+with-errors (Err NoCode) b rest = refl
+with-errors (Err Truncated) b rest = refl
 
-  empty : (f : ℕ → ℕ → List (Entry (Result A CodeError))) (b : List ℕ) → listed short none (product [] f) b ≡ after_code (code_of [] b) b (λ v n rest. listed short none (f v n) rest)
+module _ {A : Type 0} (none short : A) where
+  empty : (f : ℕ → ℕ → List (Entry A)) (b : List ℕ) → listed short none (product [] f) b ≡ after_with none short (code_of [] b) b (λ v n rest. listed short none (f v n) rest)
   unfolding listed product code_of
   empty f b = refl
 
-  module _ (w : Word) (words : List Word) (f : ℕ → ℕ → List (Entry (Result A CodeError))) (b : List ℕ) where
-    firsts : List (Entry (Result A CodeError))
+  module _ (w : Word) (words : List Word) (f : ℕ → ℕ → List (Entry A)) (b : List ℕ) where
+    firsts : List (Entry A)
     firsts = f w.value (length w.bits)
 
     joint : listed short none (product (w ∷ words) f) b ≡ listed short (listed short none (product words f) b) (prepended w.bits firsts) b
     unfolding product firsts
     joint = listed-append short none (prepended w.bits firsts) (product words f) b
 
-    first_found : T (apart_from w.bits words) → is_prefix w.bits b ≡ true → listed short none (product (w ∷ words) f) b ≡ after_code (code_of (w ∷ words) b) b (λ v n rest. listed short none (f v n) rest)
+    first_found : T (apart_from w.bits words) → is_prefix w.bits b ≡ true → listed short none (product (w ∷ words) f) b ≡ after_with none short (code_of (w ∷ words) b) b (λ v n rest. listed short none (f v n) rest)
     unfolding firsts
     first_found t p =
         joint
-        ∙ ap (λ (d : Result A CodeError). listed short d (prepended w.bits firsts) b) (listed-other short none w.bits b words f t p)
+        ∙ ap (λ (d : A). listed short d (prepended w.bits firsts) b) (listed-other short none w.bits b words f t p)
         ∙ ap (listed short none (prepended w.bits firsts)) (prefix-parts w.bits b p)
         ∙ listed-inner short none w.bits (drop (length w.bits) b) firsts
-        ∙ sym (ap (λ (c : Result Code CodeError). after_code c b (λ v n rest. listed short none (f v n) rest)) (code-found w words b p))
+        ∙ sym (ap (λ (c : Result Code CodeError). after_with none short c b (λ v n rest. listed short none (f v n) rest)) (code-found w words b p))
 
-    first-begun : Some (f w.value (length w.bits)) → is_prefix w.bits b ≡ false → is_prefix b w.bits ≡ true → listed short none (product (w ∷ words) f) b ≡ after_code (code_of (w ∷ words) b) b (λ v n rest. listed short none (f v n) rest)
+    first-begun : Some (f w.value (length w.bits)) → is_prefix w.bits b ≡ false → is_prefix b w.bits ≡ true → listed short none (product (w ∷ words) f) b ≡ after_with none short (code_of (w ∷ words) b) b (λ v n rest. listed short none (f v n) rest)
     unfolding firsts
     first-begun s p q =
         joint ∙ begun firsts s
-        ∙ sym (ap (λ (c : Result Code CodeError). after_code c b (λ v n rest. listed short none (f v n) rest)) (code-truncated w words b p q))
+        ∙ sym (ap (λ (c : Result Code CodeError). after_with none short c b (λ v n rest. listed short none (f v n) rest)) (code-truncated w words b p q))
       where
-        begun : (es : List (Entry (Result A CodeError))) → Some es → listed short (listed short none (product words f) b) (prepended w.bits es) b ≡ short
+        begun : (es : List (Entry A)) → Some es → listed short (listed short none (product words f) b) (prepended w.bits es) b ≡ short
         begun [] x' = elim x' [ ]
         begun (e ∷ es) some = listed-begun short (listed short none (product words f) b) w.bits b e es p q
 
-    first-apart : is_prefix w.bits b ≡ false → is_prefix b w.bits ≡ false → listed short none (product words f) b ≡ after_code (code_of words b) b (λ v n rest. listed short none (f v n) rest) → listed short none (product (w ∷ words) f) b ≡ after_code (code_of (w ∷ words) b) b (λ v n rest. listed short none (f v n) rest)
+    first-apart : is_prefix w.bits b ≡ false → is_prefix b w.bits ≡ false → listed short none (product words f) b ≡ after_with none short (code_of words b) b (λ v n rest. listed short none (f v n) rest) → listed short none (product (w ∷ words) f) b ≡ after_with none short (code_of (w ∷ words) b) b (λ v n rest. listed short none (f v n) rest)
     first-apart p q e =
         joint
         ∙ listed-apart short (listed short none (product words f) b) w.bits b firsts p q
-        ∙ e ∙ sym (ap (λ (c : Result Code CodeError). after_code c b (λ v n rest. listed short none (f v n) rest)) (code-later w words b p q))
+        ∙ e ∙ sym (ap (λ (c : Result Code CodeError). after_with none short c b (λ v n rest. listed short none (f v n) rest)) (code-later w words b p q))
 
   -- reading a word and then what follows equals reading the product list
-  pub product-code : (words : List Word) (f : ℕ → ℕ → List (Entry (Result A CodeError))) (b : List ℕ) → T (prefix_free words) → ((v n : ℕ) → Some (f v n)) → listed short none (product words f) b ≡ after_code (code_of words b) b (λ v n rest. listed short none (f v n) rest)
+  pub product-code : (words : List Word) (f : ℕ → ℕ → List (Entry A)) (b : List ℕ) → T (prefix_free words) → ((v n : ℕ) → Some (f v n)) → listed short none (product words f) b ≡ after_with none short (code_of words b) b (λ v n rest. listed short none (f v n) rest)
   unfolding prefix_free
   product-code [] f b t s = empty f b
   product-code (w ∷ words) f b t s =

@@ -19,7 +19,7 @@ use Rattle.mpeg1_tables.specs.Code.{Word, is_prefix, code_of, field_of, after_co
 use Rattle.mpeg1_tables.specs.AnnexB.{end_of_block, coefficient_escape, first_coefficients, next_coefficients, byte_words, large_positive, large_negative}
 use Rattle.mpeg1_tables.specs.Rule.{prefix_free}
 use Rattle.mpeg1_tables.proofs.Laws.Rule.{prefix-free}
-use Rattle.mpeg1_tables.proofs.Laws.Product.{Entry, listed, prepended, product, Some, some, product-code, field_words, field-code, field-free}
+use Rattle.mpeg1_tables.proofs.Laws.Product.{Entry, listed, prepended, product, Some, some, product-code, with-errors, field_words, field-code, field-free}
 use Rattle.mpeg1_vlc.specs.declared.coefficient.Coefficient.TheVariants.{Pair, EndOfBlock}
 use Rattle.mpeg1_vlc.specs.Coefficient.{CoefficientRead, signed_of, large_of, level_of, escaped_of, finished_of, coefficient_code_of}
 
@@ -88,7 +88,8 @@ ended-code c b = refl
 
 by_parts : (words : List Word) (f : ℕ → ℕ → List (Entry CoefficientRead)) (g : ℕ → ℕ → List ℕ → CoefficientRead) (c : Result Code CodeError) (b : List ℕ) → T (prefix_free words) → ((v n : ℕ) → Some (f v n)) → code_of words b ≡ c → ((v n : ℕ) → listed (Err Truncated) (Err NoCode) (f v n) (drop n b) ≡ g v n (drop n b)) → listed (Err Truncated) (Err NoCode) (product words f) b ≡ after_code c b g
 by_parts words f g c b t s e h =
-    product-code words f b t s
+    product-code (Err NoCode) (Err Truncated) words f b t s
+    ∙ with-errors (code_of words b) b (λ v n rest. listed (Err Truncated) (Err NoCode) (f v n) rest)
     ∙ ap (λ (c : Result Code CodeError). after_code c b (λ v n rest. listed (Err Truncated) (Err NoCode) (f v n) rest)) e
     ∙ after-other c b (λ v n rest. listed (Err Truncated) (Err NoCode) (f v n) rest) g h
 
