@@ -76,13 +76,13 @@ zero_each (x ∷ l) h =
     zeros-append (bits_of 8 x) (bits l)
     ∙ rw (h 0 (omega arith), no_bits) (zero_each l (λ k p. h (suc k) (omega (arith, p))))
 
-zero-none : (l : List ℕ) (k : ℕ) → k < length l → ((i : ℕ) → get_or l i 0 < 256) → (get_or l k 0 ≡ 0 → ⊥) → all_zeros (bits l) ≡ false
+pub zero-none : (l : List ℕ) (k : ℕ) → k < length l → get_or l k 0 < 256 → (get_or l k 0 ≡ 0 → ⊥) → all_zeros (bits l) ≡ false
 unfolding bits
 zero-none [] k h small e = absurd (omega arith)
-zero-none (x ∷ l) zero h small e = zeros-append (bits_of 8 x) (bits l) ∙ rw (byte-zeros x (small 0), ne_eqb x 0 e) refl
+zero-none (x ∷ l) zero h small e = zeros-append (bits_of 8 x) (bits l) ∙ rw (byte-zeros x small, ne_eqb x 0 e) refl
 zero-none (x ∷ l) (suc k) h small e =
     zeros-append (bits_of 8 x) (bits l)
-    ∙ ap (λ (t : Bool). all_zeros (bits_of 8 x) && t) (zero-none l k (omega (arith, h)) (λ i. small (suc i)) e)
+    ∙ ap (λ (t : Bool). all_zeros (bits_of 8 x) && t) (zero-none l k (omega (arith, h)) small e)
     ∙ and-false (all_zeros (bits_of 8 x))
   where
     and-false : (p : Bool) → p && false ≡ false
@@ -92,7 +92,7 @@ zero-none (x ∷ l) (suc k) h small e =
 -- `decided` says whether they are
 pub zeros-decided : (l : List ℕ) (decided : Bool) → ((i : ℕ) → get_or l i 0 < 256) → MatchBool decided (AllWithin (λ x. x ≡ 0) l 0 (length l)) ((k : ℕ) × (k < length l) × HoldsAt (λ x. x ≡ 0 → ⊥) l k) → decided ≡ all_zeros (bits l)
 zeros-decided l true small h = sym (zero_each l (λ k p. h k 0 zero-le p))
-zeros-decided l false small h = sym (zero-none l h.0 h.1 small (h.2 0))
+zeros-decided l false small h = sym (zero-none l h.0 h.1 (small h.0) (h.2 0))
 
 -- ---- the same for the bits from a position on
 pub not_zeros : (l : List ℕ) (p : BitPosition) → (leading_number 32 (bits_from l p) ≡ 0 → ⊥) → all_zeros (bits_from l p) ≡ false

@@ -131,10 +131,14 @@ short-words BidirectionalTypes t = tt
 short-words LuminanceSizes t = tt
 short-words ChrominanceSizes t = tt
 
--- ---- look-ups in these rows are allowed, and give the code of all the window's bits; `long` says whether the list has long words
+-- ---- look-ups in these rows are allowed, and give the code of all the window's bits
+pub fits-first : (r : ℕ) (next : Window) → r < 16 → (table_row_at r).zeros ≡ 0 → next.bits < 4294967296 → next.count ≤ 32 → LookUpFits r 0 next
+fits-first r next h e b m = record { there = h; begins = e; few = omega arith; enough = omega arith; most = m; low = omega arith }
+
+-- `long` says whether the list has long words
 module _ (list : WordList) (long : Bool) (same : long ≡ has_long_words list) (next : Window) (fits : next.bits < 4294967296) (most : next.count ≤ 32) where
-  fits-first : LookUpFits (row_of list) 0 next
-  fits-first = let row = first_row list in record { there = omega (arith, row.there); begins = row.first; few = omega arith; enough = omega arith; most = most; low = omega (arith, fits) }
+  fits-list : LookUpFits (row_of list) 0 next
+  fits-list = let row = first_row list in fits-first (row_of list) next (omega (arith, row.there)) row.first fits most
 
   has-long : long ≡ true → T (has_long_words list)
   has-long e = subst T (sym e ∙ same) tt
@@ -148,8 +152,8 @@ module _ (list : WordList) (long : Bool) (same : long ≡ has_long_words list) (
 
   -- otherwise the first row decides
   pub first-code : (long ≡ true) × (8 ≤ next.count) × (134217728 ≤ next.bits) ⊎ (long ≡ true) × (next.count < 8) ⊎ (long ≡ false) → code_of (table_row_at (row_of list)).words (take 8 (bits_in next)) ≡ code_of (words_in list) (bits_in next)
-  first-code (inl (e, enough, above)) = row-settles (row_of list) 0 next fits-first 8 (long-row list (has-long e)).settling (omega (arith, above)) ∙ in-list
-  first-code (inr (inl (e, few))) = row-whole (row_of list) 0 next fits-first (omega (arith, few)) ∙ in-list
+  first-code (inl (e, enough, above)) = row-settles (row_of list) 0 next fits-list 8 (long-row list (has-long e)).settling (omega (arith, above)) ∙ in-list
+  first-code (inr (inl (e, few))) = row-whole (row_of list) 0 next fits-list (omega (arith, few)) ∙ in-list
   first-code (inr (inr e)) =
       ap (λ (w : List Word). code_of w (take 8 (bits_in next))) (first_row list).words
       ∙ code-take (words_in list) 8 (bits_in next) (short-words list (subst (λ (b : Bool). T (not b)) (sym e ∙ same) tt))

@@ -120,7 +120,7 @@ module _ (height : ℕ) (next : Window) where
     unfolding slice_start_of
     start-short e h = rw (prefix-code, eq-eqb _ _ e, field-short next most 24 8 enough h)
 
-    start-row : next.bits / 256 ≡ 1 → 32 ≤ next.count → slice_start_of height (bits_in next) ≡ cond (ltb (next.bits % 256) 1) (Err NoCode) (cond (ltb height (next.bits % 256)) (Err NoCode) (found (next.bits % 256) 32))
+    pub start-row : next.bits / 256 ≡ 1 → 32 ≤ next.count → slice_start_of height (bits_in next) ≡ cond (ltb (next.bits % 256) 1) (Err NoCode) (cond (ltb height (next.bits % 256)) (Err NoCode) (found (next.bits % 256) 32))
     unfolding slice_start_of
     start-row e h = rw (prefix-code, eq-eqb _ _ e, field-value next most 24 8 0 h refl, div-one next.bits)
 
