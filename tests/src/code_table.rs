@@ -13,7 +13,7 @@ const TRUNCATED: usize = 31;
 
 const HEAD: &str = "\
 // tests/src/bin/code_table.rs makes this file from the other decoder's word lists, and tests/tests/code_table.rs compares the two.
-// The proof of `code_table` checks every entry against the word lists of Annex B.
+// The proof of `CodeTable::new` checks every entry against the word lists of Annex B.
 use crate::table::TABLE_LENGTH;
 
 pub(crate) const CODES: [u16; TABLE_LENGTH] = [
